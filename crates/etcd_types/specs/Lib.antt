@@ -1,0 +1,4 @@
+pub mod formers
+pub mod Keys
+pub mod Ranges
+pub mod Records
