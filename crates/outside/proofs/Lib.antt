@@ -1,0 +1,3 @@
+pub mod MemoryReads
+pub mod Results
+pub mod Writes

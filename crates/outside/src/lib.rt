@@ -1,0 +1,21 @@
+//! What the program meets outside itself, as traits: streams of bytes, and later links, clocks and hosts.
+//!
+//! Each object counts its own failures, and a call answers a failure only where the count rose. So a clause above can
+//! say that the program blames its input only where the input did fail. The forms over memory keep their bytes and a
+//! list of the calls that are to fail; the adapters over the standard streams tell nothing of content.
+#![tactic(auto)]
+
+mod memory_sink;
+mod memory_source;
+mod sink;
+mod source;
+mod streams;
+
+pub use memory_sink::MemSink;
+pub use memory_source::MemSource;
+pub use sink::{Sink, write_whole};
+pub use source::{Failed, Source};
+pub use streams::{Reading, Writing};
+
+#[cfg(test)]
+mod tests;

@@ -1,0 +1,26 @@
+ghost use Rattle.std.specs.Prelude.{List, ℕ, Option};
+ghost use Rattle.std.specs.Io.{ReadsAtMost};
+ghost use Rattle.std.specs.Io.KnownBytes.{ReadConsumes};
+ghost use Rattle.outside.specs.Faults.{HasCause};
+
+use thiserror::Error;
+
+/// The outside failed, and the count of the object that was called rose.
+#[derive(Clone, Copy, Debug, PartialEq, Eq, Error)]
+#[error("the outside failed")]
+pub struct Failed;
+
+/// Bytes that come in pieces.
+pub trait Source {
+    /// The bytes that it still gives, where it tells them.
+    ghost left: { Self → Option (List ℕ) };
+
+    /// How often it has failed.
+    ghost faults: { Self → ℕ };
+
+    /// Reads the next bytes into the front of `room`, and says how many. None into a room that isn't empty is the end.
+    fn read(&mut self, room: &mut [u8]) -> Result<usize, Failed>
+        ensures bound { ReadsAtMost result room.new }
+        ensures bytes { ReadConsumes (left self.old) (left self.new) result room.new }
+        ensures cause { HasCause (faults self.old) (faults self.new) result };
+}
