@@ -1,16 +1,23 @@
-//! What the program meets outside itself, as traits: streams of bytes, and later links, clocks and hosts.
+//! What the program meets outside itself, as traits: streams of bytes, a clock, a source of random words, the machine
+//! that many threads step, and later links and hosts.
 //!
 //! Each object counts its own failures, and a call answers a failure only where the count rose. So a clause above can
 //! say that the program blames its input only where the input did fail. The forms over memory keep their bytes and a
 //! list of the calls that are to fail; the adapters over the standard streams tell nothing of content.
 #![tactic(auto)]
 
+mod clock;
+mod draw;
+mod machine;
 mod memory_sink;
 mod memory_source;
 mod sink;
 mod source;
 mod streams;
 
+pub use clock::{Clock, MemClock, SystemClock};
+pub use draw::{Draw, MemDraw, SystemDraw};
+pub use machine::{CREWS, LOT_WORDS, LOTS, Machine, Roused};
 pub use memory_sink::MemSink;
 pub use memory_source::MemSource;
 pub use sink::{Sink, write_whole};
