@@ -1,0 +1,9 @@
+pub mod Lists
+pub mod Turns
+pub mod Takes
+pub mod Looks
+pub mod Adds
+pub mod Gives
+pub mod Seats
+pub mod Sitting
+pub mod Made

@@ -1,0 +1,9 @@
+pub mod History
+pub mod Known
+pub mod Steps
+pub mod Views
+pub mod Rule
+pub mod Kinds
+pub mod Seats
+pub mod Passes
+pub mod Hubs

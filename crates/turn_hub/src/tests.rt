@@ -1,0 +1,402 @@
+ghost use Rattle.std.specs.Prelude.{◌≡◌};
+ghost use Rattle.std.specs.Arc.{arc_value};
+
+use crate::{Hub, HubFault, Pass};
+use outside::{Clock, Machine, MemClock, Roused};
+use std::alloc::Global;
+use std::rt::Clock as Times;
+use std::sync::atomic::AtomicBool;
+use std::sync::atomic::Ordering::SeqCst;
+use std::sync::{Arc, Wait};
+use std::test::Fail;
+use std::thread;
+use std::time::Duration;
+
+// Answers how many steps it has made, and refuses each event that is true, which counts as a step too.
+#[derive(Drop)]
+struct Counter {
+    made: u64,
+}
+
+impl Machine for Counter {
+    type Event = bool;
+
+    type Outcome = u64;
+
+    type Fault = ();
+
+    ghost may = { λ e. Unit {0} };
+
+    ghost steps = { λ before event now answer after. Unit {0} };
+
+    fn step(&mut self, event: bool, now: u64) -> Result<u64, ()> {
+        let _ = now;
+        let number = self.made;
+        self.made = number.wrapping_add(1);
+        if event { Err(()) } else { Ok(number) }
+    }
+
+    fn rouses(&self) -> Roused {
+        Roused::Nobody
+    }
+}
+
+fn fresh() -> Counter {
+    Counter { made: 0 }
+}
+
+#[test]
+fn each_call_does_its_work(rt: HostRuntime) -> Result<(), Fail> {
+    let (hub, mut one) = Hub::new(rt.alloc(), fresh())?;
+    let mut clock = MemClock::new(7);
+    assert!(rt; hub.step(&rt, &mut one, false, &mut clock) == Ok(0));
+    let mut two = hub.split(&mut one);
+    two.rest_in(1030);
+    assert!(rt; one.lot() == 0 && two.lot() == 6);
+    assert!(rt; hub.step(&rt, &mut two, true, &mut clock) == Err(HubFault::Machine(())));
+    hub.meet(&mut one, &mut two);
+    assert!(rt; hub.step(&rt, &mut one, false, &mut clock) == Ok(2));
+    hub.join(&mut one, two);
+    assert!(rt; hub.step(&rt, &mut one, false, &mut clock) == Ok(3));
+    assert!(rt; clock.readings == 4 && hub.close(&rt, one).made == 4);
+    Ok(())
+}
+
+#[test]
+fn closing_gives_what_other_passes_made(rt: HostRuntime) -> Result<(), Fail> {
+    let (hub, mut one) = Hub::new(rt.alloc(), fresh())?;
+    let mut two = hub.split(&mut one);
+    assert!(rt; hub.step(&rt, &mut two, false, &mut MemClock::new(0)) == Ok(0));
+    assert!(rt; hub.close(&rt, one).made == 1);
+    Ok(())
+}
+
+#[test]
+fn a_worn_hub_makes_no_step(rt: HostRuntime) -> Result<(), Fail> {
+    let mut clock = MemClock::new(0);
+    let (hub, mut pass) = Hub::new_at(rt.alloc(), fresh(), 1 << 62)?;
+    assert!(rt; hub.step(&rt, &mut pass, false, &mut clock) == Err(HubFault::Worn));
+    assert!(rt; clock.readings == 0 && hub.close(&rt, pass).made == 0);
+    let (hub, mut pass) = Hub::new_at(rt.alloc(), fresh(), (1 << 62) - 1)?;
+    assert!(rt; hub.step(&rt, &mut pass, false, &mut clock) == Ok(0));
+    assert!(rt; hub.step(&rt, &mut pass, false, &mut clock) == Err(HubFault::Worn));
+    let (machine, count) = hub.close_at(&rt, pass);
+    assert!(rt; clock.readings == 1 && machine.made == 1 && count == 1 << 62);
+    Ok(())
+}
+
+// The numbers that one thread draws.
+fn numbers<R: Wait>(
+    rt: &R,
+    alloc: Global,
+    hub: &Hub<Counter>,
+    mut pass: Pass<Counter>,
+    count: usize,
+) -> Vec<u64>
+    requires { pass.hub ≡ hub.now }
+{
+    let mut drawn = Vec::new(alloc);
+    let mut clock = MemClock::new(0);
+    for _ in 0..count {
+        if let Ok(number) = hub.step(rt, &mut pass, false, &mut clock) {
+            let _ = drawn.push(number);
+        }
+    }
+    drawn
+}
+
+#[test]
+fn eight_threads_draw_each_number_once(rt: HostRuntime) -> Result<(), Fail> {
+    let alloc: Global = rt.alloc();
+    let (hub, mut first) = Hub::new(alloc, fresh())?;
+    let hub = Arc::new(alloc, hub)?;
+    let mut handles = Vec::new(alloc);
+    for _ in 0..8 {
+        let shared = Arc::try_clone(&hub)?;
+        let pass = hub.split(&mut first);
+        let handle = thread::spawn(
+            &rt,
+            move || -> Vec<u64>
+                requires { pass.hub ≡ arc_value shared }
+            { numbers(&rt, alloc, &shared, pass, 10_000) },
+        )?;
+        handles.push(handle)?;
+    }
+    let mut drawn = Vec::from_elem(alloc, false, 80_000)?;
+    for handle in handles {
+        for number in handle.join(&rt) {
+            match drawn.get_mut(number as usize) {
+                Some(mark) if !*mark => *mark = true,
+                _ => panic!(rt; "{number} was drawn twice, or is too large"),
+            }
+        }
+    }
+    assert!(rt; drawn.iter().all(|mark| *mark));
+    Ok(())
+}
+
+// A step holds the turn until the other thread is about to step, and for a while more, and then says that it ends.
+#[derive(Drop)]
+struct Gate {
+    held: AtomicBool,
+    arrived: AtomicBool,
+    ending: AtomicBool,
+}
+
+#[derive(Drop)]
+struct Holder<R> {
+    rt: R,
+    gate: Arc<Gate, Global>,
+}
+
+impl<R: Times + Drop> Machine for Holder<R> {
+    type Event = bool;
+
+    type Outcome = ();
+
+    type Fault = ();
+
+    ghost may = { λ e. Unit {0} };
+
+    ghost steps = { λ before event now answer after. Unit {0} };
+
+    fn step(&mut self, event: bool, now: u64) -> Result<(), ()> {
+        let _ = now;
+        if event {
+            self.gate.held.store(true, SeqCst);
+            for _ in 0..2000 {
+                if self.gate.arrived.load(SeqCst) {
+                    break;
+                }
+                thread::sleep(&self.rt, Duration::from_millis(1));
+            }
+            thread::sleep(&self.rt, Duration::from_millis(50));
+            self.gate.ending.store(true, SeqCst);
+        }
+        Ok(())
+    }
+}
+
+// Notes at each reading whether the holder's step was at its end.
+#[derive(Drop)]
+struct Noting {
+    gate: Arc<Gate, Global>,
+    early: bool,
+}
+
+impl Clock for Noting {
+    ghost last = { λ c. 0 };
+
+    fn now(&mut self) -> u64 {
+        if !self.gate.ending.load(SeqCst) {
+            self.early = true;
+        }
+        0
+    }
+
+    fn pause(&mut self, millis: u64) {
+        let _ = millis;
+    }
+}
+
+fn hold<R: Wait>(
+    rt: &R,
+    hub: &Hub<Holder<HostRuntime>>,
+    mut pass: Pass<Holder<HostRuntime>>,
+) -> bool
+    requires { pass.hub ≡ hub.now }
+{
+    hub.step(rt, &mut pass, true, &mut MemClock::new(0)).is_ok()
+}
+
+#[test]
+fn the_clock_is_read_while_the_turn_is_held(rt: HostRuntime) -> Result<(), Fail> {
+    let alloc: Global = rt.alloc();
+    let gate = Arc::new(
+        alloc,
+        Gate {
+            held: AtomicBool::new(false),
+            arrived: AtomicBool::new(false),
+            ending: AtomicBool::new(false),
+        },
+    )?;
+    let machine = Holder {
+        rt,
+        gate: Arc::try_clone(&gate)?,
+    };
+    let (hub, mut first) = Hub::new(alloc, machine)?;
+    let hub = Arc::new(alloc, hub)?;
+    let shared = Arc::try_clone(&hub)?;
+    let pass = hub.split(&mut first);
+    let holder = thread::spawn(
+        &rt,
+        move || -> bool
+            requires { pass.hub ≡ arc_value shared }
+        { hold(&rt, &shared, pass) },
+    )?;
+    for _ in 0..5000 {
+        if gate.held.load(SeqCst) {
+            break;
+        }
+        thread::sleep(&rt, Duration::from_millis(1));
+    }
+    let mut clock = Noting { gate, early: false };
+    clock.gate.arrived.store(true, SeqCst);
+    assert!(rt; hub.step(&rt, &mut first, false, &mut clock).is_ok());
+    assert!(rt; holder.join(&rt) && !clock.early);
+    Ok(())
+}
+
+#[derive(Clone, Copy)]
+enum Post {
+    Put(u32),
+    Take(u32),
+}
+
+// Keeps letters for 16 names, each of which two of them share a lot, and a count of jobs that any of a crew can do.
+#[derive(Drop)]
+struct Mailbox {
+    letters: u32,
+    laid: Option<u32>,
+    jobs: u32,
+}
+
+// The name of each of the crew.
+const CREW: u32 = 16;
+
+fn lot_of(name: u32) -> u32 {
+    if name < CREW { name / 2 } else { 1000 }
+}
+
+impl Machine for Mailbox {
+    type Event = Post;
+
+    type Outcome = bool;
+
+    type Fault = ();
+
+    ghost may = { λ e. Unit {0} };
+
+    ghost steps = { λ before event now answer after. Unit {0} };
+
+    fn step(&mut self, event: Post, now: u64) -> Result<bool, ()> {
+        let _ = now;
+        self.laid = None;
+        match event {
+            Post::Put(name) if name < CREW => {
+                self.letters |= 1u32.wrapping_shl(name);
+                self.laid = Some(name);
+                Ok(true)
+            }
+            Post::Put(_) => {
+                self.jobs = self.jobs.saturating_add(1);
+                Ok(true)
+            }
+            Post::Take(name) if name < CREW => {
+                let letter = 1u32.wrapping_shl(name);
+                let there = self.letters & letter != 0;
+                self.letters &= !letter;
+                Ok(there)
+            }
+            Post::Take(_) => {
+                let there = self.jobs > 0;
+                self.jobs = self.jobs.saturating_sub(1);
+                Ok(there)
+            }
+        }
+    }
+
+    fn rouses(&self) -> Roused {
+        if self.laid.is_some() || self.jobs > 0 {
+            Roused::Lots
+        } else {
+            Roused::Nobody
+        }
+    }
+
+    fn roused(&self, word: u32) -> u64 {
+        let mut bits = 0;
+        if let Some(name) = self.laid
+            && lot_of(name) / 64 == word
+        {
+            bits |= 1u64.wrapping_shl(lot_of(name));
+        }
+        if self.jobs > 0 && lot_of(CREW) / 64 == word {
+            bits |= 1u64.wrapping_shl(lot_of(CREW));
+        }
+        bits
+    }
+}
+
+// Which passes are of a hub.
+trait Admits<P> {
+    ghost fits: { Self → P → Type 0 };
+
+    ghost only: { (h : Self) (p : P) → IsProp (fits h p) };
+}
+
+impl Admits<Pass<Mailbox>> for Hub<Mailbox> {
+    ghost use Rattle.std.proofs.Props.{props};
+
+    ghost fits = { λ h p. p.hub ≡ h };
+
+    ghost only = { λ h p. Prim.hlevel props };
+}
+
+// A hub and a pass of it, as a thread carries them.
+#[derive(Drop)]
+struct Place<H: Admits<P>, P> {
+    hub: Arc<H, Global>,
+    pass: P,
+    ghost mine: { H.fits (arc_value hub) pass } by { H.only (arc_value hub) pass },
+}
+
+impl Place<Hub<Mailbox>, Pass<Mailbox>> {
+    // Takes the letter of this name, resting while it isn't there, and answers how often it tried.
+    fn take<R: Wait>(&mut self, rt: &R, name: u32) -> u64 {
+        let mut tries = 0u64;
+        for _ in rt.forever() {
+            tries = tries.wrapping_add(1);
+            let clock = &mut MemClock::new(0);
+            if self.hub.step(rt, &mut self.pass, Post::Take(name), clock) == Ok(true) {
+                return tries;
+            }
+            self.hub.wait(rt, &mut self.pass);
+        }
+        unreachable!()
+    }
+}
+
+#[test]
+fn passes_rest_until_their_lot_is_roused(rt: HostRuntime) -> Result<(), Fail> {
+    let alloc: Global = rt.alloc();
+    let (hub, mut first) = Hub::new(
+        alloc,
+        Mailbox {
+            letters: 0,
+            laid: None,
+            jobs: 0,
+        },
+    )?;
+    let hub = Arc::new(alloc, hub)?;
+    let mut handles = Vec::new(alloc);
+    for name in 0..20u32 {
+        let mut pass = hub.split(&mut first);
+        pass.rest_in(lot_of(name));
+        let mut place = Place {
+            hub: Arc::try_clone(&hub)?,
+            pass,
+        };
+        let handle = thread::spawn(&rt, move || place.take(&rt, name))?;
+        handles.push(handle)?;
+    }
+    thread::sleep(&rt, Duration::from_millis(100));
+    for name in 0..20u32 {
+        let clock = &mut MemClock::new(0);
+        assert!(rt; hub.step(&rt, &mut first, Post::Put(name), clock) == Ok(true));
+    }
+    for handle in handles {
+        assert!(rt; handle.join(&rt) < 1000, "a pass that waits does not rest");
+    }
+    Ok(())
+}

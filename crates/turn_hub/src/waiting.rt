@@ -1,0 +1,183 @@
+// Where threads rest. No clause speaks of it: a thread may rest for any time, and a wake too many costs time alone.
+ghost use Rattle.std.specs.Prelude.{◌≡◌};
+
+use crate::turn::{Board, TURN};
+use etcd_types::NoMemory;
+use outside::{CREWS, LOT_WORDS, LOTS, Machine, Roused};
+use std::alloc::Global;
+use std::sync::Wait;
+use std::sync::atomic::AtomicU64;
+use std::sync::atomic::Ordering::SeqCst;
+
+// How often a lot was roused, and how many passes rest in it.
+#[derive(Drop)]
+struct Lot {
+    changes: AtomicU64,
+    sleepers: AtomicU64,
+}
+
+// The threads that wait for the turn, and the passes that wait for something to take. `everybody` counts how often all
+// were roused, and `resting` how many rest in all.
+#[derive(Drop)]
+pub(crate) struct Waiting {
+    sleepers: AtomicU64,
+    everybody: AtomicU64,
+    resting: AtomicU64,
+    lots: Vec<Lot>,
+}
+
+// The lot of a pass, and what its two counts were when the pass last stepped.
+#[derive(Clone, Copy)]
+pub(crate) struct Rest {
+    pub(crate) lot: u32,
+    changes: u64,
+    everybody: u64,
+}
+
+// Whom to rouse once the turn is given back.
+#[derive(Clone, Copy)]
+pub(crate) enum Call {
+    Nobody,
+    Lots([u64; LOT_WORDS as usize]),
+    Everybody,
+}
+
+impl Rest {
+    pub(crate) fn new(lot: u32) -> Rest {
+        Rest {
+            lot,
+            changes: 0,
+            everybody: 0,
+        }
+    }
+}
+
+impl Call {
+    // What the machine says after its step.
+    pub(crate) fn of<M: Machine>(machine: &M) -> Call {
+        match machine.rouses() {
+            Roused::Nobody => Call::Nobody,
+            Roused::Everybody => Call::Everybody,
+            Roused::Lots => {
+                let mut words = [0; LOT_WORDS as usize];
+                for (number, word) in words.iter_mut().enumerate() {
+                    *word = machine.roused(number as u32);
+                }
+                Call::Lots(words)
+            }
+        }
+    }
+}
+
+impl Waiting {
+    pub(crate) fn new(alloc: Global) -> Result<Waiting, NoMemory> {
+        let mut lots = Vec::new(alloc);
+        for _ in 0..LOTS {
+            lots.push(Lot {
+                changes: AtomicU64::new(0),
+                sleepers: AtomicU64::new(0),
+            })?;
+        }
+        Ok(Waiting {
+            sleepers: AtomicU64::new(0),
+            everybody: AtomicU64::new(0),
+            resting: AtomicU64::new(0),
+            lots,
+        })
+    }
+
+    // Parks until the turn is given back, or not at all where it is free. A thread counts itself among the sleepers
+    // before the kernel looks at the turn, and the turn is free before its giver reads the count: so one sees the other.
+    pub(crate) fn await_turn<R: Wait, M: Machine>(&self, rt: &R, board: &Board<M>)
+        requires { board.now.table_id.words ≡ 2 }
+    {
+        self.sleepers.fetch_add(1, SeqCst);
+        board.park(rt, TURN, 1);
+        self.sleepers.fetch_sub(1, SeqCst);
+    }
+
+    // Wakes one thread that parks for the turn. Where none does, it costs no system call.
+    pub(crate) fn turn_is_free<M: Machine>(&self, board: &Board<M>)
+        requires { board.now.table_id.words ≡ 2 }
+    {
+        if self.sleepers.load(SeqCst) != 0 {
+            board.wake_one(TURN);
+        }
+    }
+
+    // Notes how often the pass was roused so far.
+    pub(crate) fn glance(&self, rest: &mut Rest) {
+        if let Some(lot) = self.lots.get(rest.lot as usize) {
+            rest.changes = lot.changes.load(SeqCst);
+        }
+        rest.everybody = self.everybody.load(SeqCst);
+    }
+
+    // Rests until the pass is roused, or not at all where it was since it last stepped. It counts itself before it
+    // looks once more, and who rouses everybody counts up before it looks who rests: so one sees the other.
+    pub(crate) fn rest<R: Wait>(&self, rt: &R, rest: &Rest) {
+        let Some(lot) = self.lots.get(rest.lot as usize) else {
+            return;
+        };
+        lot.sleepers.fetch_add(1, SeqCst);
+        self.resting.fetch_add(1, SeqCst);
+        if self.everybody.load(SeqCst) == rest.everybody {
+            lot.changes.park(rt, (rest.changes % (1 << 32)) as u32);
+        }
+        self.resting.fetch_sub(1, SeqCst);
+        lot.sleepers.fetch_sub(1, SeqCst);
+    }
+
+    // Rouses those that the machine named.
+    pub(crate) fn rouse(&self, call: &Call) {
+        match call {
+            Call::Nobody => {}
+            Call::Lots(words) => {
+                for (number, word) in words.iter().enumerate() {
+                    self.rouse_word(number, *word);
+                }
+            }
+            Call::Everybody => {
+                self.everybody.fetch_add(1, SeqCst);
+                if self.resting.load(SeqCst) != 0 {
+                    self.rouse_everybody();
+                }
+            }
+        }
+    }
+
+    fn rouse_word(&self, number: usize, word: u64) {
+        if word == 0 {
+            return;
+        }
+        for bit in 0..64 {
+            if word >> bit & 1 == 1 {
+                self.rouse_lot(number % LOT_WORDS as usize * 64 + bit);
+            }
+        }
+    }
+
+    fn rouse_everybody(&self) {
+        for number in 0..LOTS as usize {
+            match self.lots.get(number) {
+                Some(lot) if lot.sleepers.load(SeqCst) != 0 => self.rouse_lot(number),
+                _ => {}
+            }
+        }
+    }
+
+    // Wakes the passes of the lot, or one of them where any can take what is there.
+    fn rouse_lot(&self, number: usize) {
+        if let Some(lot) = self.lots.get(number) {
+            lot.changes.fetch_add(1, SeqCst);
+            if lot.sleepers.load(SeqCst) == 0 {
+                return;
+            }
+            if number < CREWS as usize {
+                lot.changes.wake_all();
+            } else {
+                lot.changes.wake_one();
+            }
+        }
+    }
+}
