@@ -1,5 +1,5 @@
 -- Raising the count keeps the rule.
-use Rattle.std.proofs.Common.{◌≡◌, ℕ, ◌+◌, ◌%◌, ◌<◌, ◌≤◌, ◌≢◌, ◌⊎◌, ◌^◌, Bool, true, false, cond, eqb, List, [], ◌∷◌, ◌++◌, length, set, get_or, Option, Some, Result, refl, sym, ap, ◌∙◌, subst, ⊎_elim, length-append, arith}
+use Rattle.std.proofs.Common.{◌≡◌, ℕ, ◌+◌, ◌%◌, ◌<◌, ◌≤◌, ◌≢◌, ◌^◌, Bool, cond, List, [], ◌∷◌, ◌++◌, length, set, get_or, Some, Result, refl, sym, ap, ◌∙◌, subst, ⊎_elim, length-append, arith}
 use Rattle.std.proofs.lemmas.Bool.Decides.{eqb_tells}
 use mathlib.Core.Option.{some, none}
 use lib.ListN.{get_elem?}
@@ -11,7 +11,7 @@ use Rattle.turn_hub.specs.declared.view.Stowed.{Stowed}
 use Rattle.turn_hub.specs.declared.view.Stowed.TheVariants.{Noted}
 use Rattle.turn_hub.specs.declared.view.Turn.{Turn}
 use Rattle.turn_hub.specs.declared.view.Turn.TheVariants.{Known}
-use Rattle.turn_hub.specs.History.{Begins, Runs, Stands, times}
+use Rattle.turn_hub.specs.History.{Begins, Runs, times}
 use Rattle.turn_hub.specs.Views.{added, noted_entry}
 use Rattle.turn_hub.specs.Rule.{Kept, Agrees, Turning, total}
 use Rattle.turn_hub.specs.Kinds.{adds}

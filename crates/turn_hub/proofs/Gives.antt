@@ -1,8 +1,7 @@
 -- Giving the turn back keeps the rule.
-use Rattle.std.proofs.Common.{◌≡◌, ℕ, zero, suc, ◌+◌, ◌<◌, ◌≤◌, ◌≢◌, ◌^◌, List, [], ◌∷◌, length, set, Result, refl, sym, ap, ◌∙◌, subst, arith}
+use Rattle.std.proofs.Common.{◌≡◌, ℕ, ◌≢◌, List, [], ◌∷◌, length, set, Result, refl, sym, ap, ◌∙◌, subst, arith}
 use mathlib.Core.Option.{Option, some, none}
-use lib.ListN.{get_elem?}
-use Rattle.atomic_table.specs.Table.{State, Me, Allows, gives, step}
+use Rattle.atomic_table.specs.Table.{Me, Allows, gives, step}
 use Rattle.turn_hub.specs.declared.view.View.{View}
 use Rattle.turn_hub.specs.declared.view.Stowed.{Stowed}
 use Rattle.turn_hub.specs.declared.view.Stowed.TheVariants.{Machine}

@@ -1,17 +1,16 @@
 -- Loading the count keeps the rule.
-use Rattle.std.proofs.Common.{◌≡◌, ℕ, ◌+◌, ◌<◌, ◌≤◌, ◌^◌, List, [], ◌∷◌, length, set, get_or, Option, Some, Result, refl, sym, ap, ◌∙◌, subst, arith}
+use Rattle.std.proofs.Common.{◌≡◌, ℕ, ◌+◌, ◌≤◌, List, [], ◌∷◌, length, set, get_or, Result, refl, sym, ap, subst, arith}
 use mathlib.Core.Option.{some, none}
 use lib.ListN.{get_elem?}
 use Rattle.atomic_table.specs.Table.{State, Me, Allows, keeps, step}
-use Rattle.turn_hub.specs.declared.history.Entry.{Entry}
 use Rattle.turn_hub.specs.declared.view.View.{View}
 use Rattle.turn_hub.specs.declared.view.Stowed.{Stowed}
-use Rattle.turn_hub.specs.History.{Begins, Runs, Stands, times}
+use Rattle.turn_hub.specs.History.{Begins, Runs, times}
 use Rattle.turn_hub.specs.Views.{looked, recalled, NoneLonger}
-use Rattle.turn_hub.specs.Rule.{Kept, Agrees, AllBegin, total}
-use Rattle.turn_hub.specs.Kinds.{looks, recalls, Recalled}
+use Rattle.turn_hub.specs.Rule.{Kept, Agrees, AllBegin}
+use Rattle.turn_hub.specs.Kinds.{looks, recalls}
 use Rattle.turn_hub.proofs.Lists.{begins-refl, begins-length, shorter_begins, each_set, total_set, total_at}
-use Rattle.turn_hub.proofs.Turns.{turn-known, turn-names, same_opening}
+use Rattle.turn_hub.proofs.Turns.{turn-known, turn-names}
 
 all_shorter : {A : Type 0} (hs : List (List A)) (seen log : List A) → AllBegin hs log → Begins seen log → NoneLonger hs seen → AllBegin hs seen
 all_shorter [] seen log a p n = tt

@@ -1,18 +1,15 @@
 -- What a seat's steps come to is what the contract of `Hub::step` says.
-use Rattle.std.proofs.Common.{◌≡◌, ℕ, zero, suc, ◌+◌, ◌<◌, ◌≤◌, ◌≢◌, ◌^◌, Bool, true, false, cond, eqb, ltb, List, [], ◌∷◌, ◌++◌, length, Option, Some, None, Result, refl, sym, ap, ◌∙◌, subst, ⊎_elim, lt_of_not-le, length-append, arith}
-use Rattle.std.proofs.lemmas.List.{append-nil}
+use Rattle.std.proofs.Common.{◌≡◌, ℕ, zero, suc, ◌+◌, ◌<◌, ◌≤◌, ◌≢◌, ◌^◌, Bool, true, false, cond, eqb, ltb, List, [], ◌∷◌, ◌++◌, length, Some, Result, refl, sym, ap, ◌∙◌, subst, ⊎_elim, lt_of_not-le, length-append, arith}
 use Rattle.std.proofs.lemmas.List.Elements.{filter_map-append}
 use Rattle.std.proofs.lemmas.Bool.Decides.{eqb_tells}
-use Rattle.std.specs.List.{filter_map, slice_get, cons_option}
-use native.Mathlib.Decide.{dec_le}
+use Rattle.std.specs.List.{slice_get, cons_option}
 use Rattle.atomic_table.specs.Seated.{TableId}
 use Rattle.turn_hub.specs.declared.history.Entry.{Entry}
 use Rattle.turn_hub.specs.declared.view.View.{View}
 use Rattle.turn_hub.specs.declared.view.Note.{Note}
 use Rattle.turn_hub.specs.declared.view.Opening.{Opening}
 use Rattle.turn_hub.specs.History.{Begins, Runs, Stands, times, entries_at, entry_of}
-use Rattle.turn_hub.specs.Known.{Known}
-use Rattle.turn_hub.specs.Views.{taken, looked, added, given, noted_entry, longer}
+use Rattle.turn_hub.specs.Views.{taken, added, given, noted_entry, longer}
 use Rattle.turn_hub.specs.Kinds.{Looked, Added}
 use Rattle.turn_hub.specs.Passes.{known_of}
 use Rattle.turn_hub.specs.Steps.{Makes, Stops}

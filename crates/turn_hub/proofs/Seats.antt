@@ -1,12 +1,10 @@
 -- Making the first seat, splitting a seat and joining two keep the rule.
-use Rattle.std.proofs.Common.{◌≡◌, ℕ, zero, suc, ◌+◌, ◌<◌, ◌≤◌, ◌≢◌, ◌⊎◌, ◌^◌, Bool, true, false, cond, ltb, List, [], ◌∷◌, ◌++◌, length, set, Option, Some, Result, refl, sym, ap, ◌∙◌, subst, ⊎_elim, arith}
-use Rattle.std.proofs.lemmas.Bool.Decides.{nat_tests}
-use mathlib.Core.Option.{some, none, some-injective, some-ne-none}
+use Rattle.std.proofs.Common.{◌≡◌, ℕ, zero, suc, ◌≤◌, ◌≢◌, ◌^◌, List, [], ◌∷◌, set, Result, refl, sym, ap, ◌∙◌, subst, ⊎_elim, arith}
+use mathlib.Core.Option.{some, some-injective, some-ne-none}
 use lib.ListN.{get_elem?}
-use Rattle.atomic_table.specs.Table.{State, Splits, Joins, opening}
+use Rattle.atomic_table.specs.Table.{Splits, Joins}
 use Rattle.atomic_table.proofs.Lists.{at_snoc, set_again}
 use Rattle.turn_hub.specs.declared.view.View.{View}
-use Rattle.turn_hub.specs.declared.view.Stowed.{Stowed}
 use Rattle.turn_hub.specs.declared.view.Stowed.TheVariants.{Machine}
 use Rattle.turn_hub.specs.declared.view.Turn.{Turn}
 use Rattle.turn_hub.specs.declared.view.Turn.TheVariants.{Away}

@@ -1,16 +1,14 @@
 -- Taking the turn keeps the rule.
-use Rattle.std.proofs.Common.{◌≡◌, ℕ, ◌+◌, ◌<◌, ◌≤◌, ◌≢◌, ◌^◌, Bool, true, false, eqb, List, [], ◌∷◌, length, set, get_or, Option, Some, Result, MatchBool, refl, sym, ap, ◌∙◌, subst, arith}
+use Rattle.std.proofs.Common.{◌≡◌, ℕ, ◌≤◌, Bool, true, false, eqb, List, ◌∷◌, set, get_or, Result, MatchBool, refl, sym, ap, ◌∙◌, subst, arith}
 use Rattle.std.proofs.lemmas.Bool.{eqb-true}
 use mathlib.Core.Option.{some, none}
 use prog.Atomic.{either}
 use lib.ListN.{get_elem?}
 use Rattle.atomic_table.specs.Table.{State, Me, Act, Valid, Allows, stepped, keeps, takes, step}
 use Rattle.atomic_table.proofs.Lists.{set_again}
-use Rattle.turn_hub.specs.declared.history.Entry.{Entry}
 use Rattle.turn_hub.specs.declared.view.View.{View}
 use Rattle.turn_hub.specs.declared.view.Stowed.{Stowed}
 use Rattle.turn_hub.specs.declared.view.Stowed.TheVariants.{Machine}
-use Rattle.turn_hub.specs.declared.view.Turn.TheVariants.{Taken}
 use Rattle.turn_hub.specs.History.{times}
 use Rattle.turn_hub.specs.Views.{taken}
 use Rattle.turn_hub.specs.Rule.{Kept, Agrees, total}

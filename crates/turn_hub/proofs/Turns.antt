@@ -1,10 +1,10 @@
 -- How what the rule says of a seat's turn goes on.
-use Rattle.std.proofs.Common.{◌≡◌, ℕ, ◌+◌, ◌≢◌, ◌≤◌, ◌^◌, List, [], ◌∷◌, ◌++◌, length, Option, Some, Result, refl, sym, ◌∙◌, subst, arith}
+use Rattle.std.proofs.Common.{◌≡◌, ℕ, ◌≢◌, List, [], ◌∷◌, ◌++◌, Some, Result, refl, sym, subst, arith}
 use Rattle.turn_hub.specs.declared.history.Entry.{Entry}
 use Rattle.turn_hub.specs.declared.view.View.{View}
 use Rattle.turn_hub.specs.declared.view.Turn.{Turn}
 use Rattle.turn_hub.specs.declared.view.Turn.TheVariants.{Away, Taken, Known}
-use Rattle.turn_hub.specs.History.{Begins, Runs, times, entry_of}
+use Rattle.turn_hub.specs.History.{Runs}
 use Rattle.turn_hub.specs.Views.{known, Names}
 use Rattle.turn_hub.specs.Rule.{Turning, Agrees}
 use Rattle.turn_hub.proofs.Lists.{begins-more, all_begin-more}

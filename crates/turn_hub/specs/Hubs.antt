@@ -1,5 +1,5 @@
 -- What holds of a hub's table.
-use Rattle.std.specs.Prelude.{◌≡◌, ℕ}
+use Rattle.std.specs.Prelude.{◌≡◌}
 use Rattle.atomic_table.specs.Seated.{TableId}
 
 -- it has the count, the turn and the slot

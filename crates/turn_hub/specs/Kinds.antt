@@ -1,5 +1,5 @@
 -- What each kind of atomic step tells the seat that makes it: of the seat before, the number found, and the seat after.
-use Rattle.std.specs.Prelude.{◌≡◌, ℕ, ◌+◌, ◌≤◌, ◌^◌, eqb, List, [], ◌∷◌, length, Option, Some, Result, MatchBool}
+use Rattle.std.specs.Prelude.{◌≡◌, ℕ, ◌+◌, ◌≤◌, eqb, List, [], ◌∷◌, length, Some, Result, MatchBool}
 use Rattle.atomic_table.specs.Table.{Step, Me, rest}
 use Rattle.turn_hub.specs.declared.history.Entry.{Entry}
 use Rattle.turn_hub.specs.declared.view.View.{View}
@@ -7,7 +7,7 @@ use Rattle.turn_hub.specs.declared.view.Note.{Note}
 use Rattle.turn_hub.specs.declared.view.Stowed.{Stowed}
 use Rattle.turn_hub.specs.declared.view.Stowed.TheVariants.{Machine, Out, Noted}
 use Rattle.turn_hub.specs.History.{Begins, Runs, Stands, times}
-use Rattle.turn_hub.specs.Views.{taken, looked, added, given, recalled, known, Names}
+use Rattle.turn_hub.specs.Views.{taken, looked, added, given, recalled, Names}
 use Rattle.turn_hub.specs.Rule.{AllBegin}
 
 module _ {M E O F : Type 0} where

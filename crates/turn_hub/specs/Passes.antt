@@ -1,11 +1,10 @@
 -- What clauses see of a pass, and what holds of its seat between calls.
-use Rattle.std.specs.Prelude.{◌≡◌, ℕ, List, [], Option, Some}
+use Rattle.std.specs.Prelude.{◌≡◌, [], Some}
 use Rattle.atomic_table.specs.Table.{Me}
 use Rattle.atomic_table.specs.Seated.{TableId}
 use Rattle.turn_hub.specs.declared.view.View.{View}
 use Rattle.turn_hub.specs.declared.view.Opening.{Opening}
 use Rattle.turn_hub.specs.declared.view.Stowed.{Stowed}
-use Rattle.turn_hub.specs.declared.view.Turn.{Turn}
 use Rattle.turn_hub.specs.declared.view.Turn.TheVariants.{Away}
 use Rattle.turn_hub.specs.declared.history.Entry.{Entry}
 use Rattle.turn_hub.specs.History.{Stands}

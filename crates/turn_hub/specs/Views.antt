@@ -1,5 +1,5 @@
 -- What a seat at the table knows, and how its view changes.
-use Rattle.std.specs.Prelude.{◌≡◌, ℕ, ◌+◌, ◌<◌, ◌≤◌, ltb, cond, List, [], ◌∷◌, ◌++◌, length, Option, Some, None, Result}
+use Rattle.std.specs.Prelude.{◌≡◌, ℕ, ◌≤◌, ltb, cond, List, [], ◌∷◌, ◌++◌, length, Some, None}
 use Rattle.turn_hub.specs.declared.history.Entry.{Entry}
 use Rattle.turn_hub.specs.declared.view.View.{View}
 use Rattle.turn_hub.specs.declared.view.Note.{Note}

@@ -1,7 +1,7 @@
 use Rattle.std.proofs.Common.{◌≡◌, ℕ, ◌≤◌, ◌++◌, List, [], ◌∷◌, sym, refl, ◌∙◌, ap, subst, arith}
 use Rattle.turn_hub.specs.declared.history.Entry.{Entry}
 use Rattle.turn_hub.specs.declared.view.View.{View}
-use Rattle.turn_hub.specs.History.{Begins, times, entries_at}
+use Rattle.turn_hub.specs.History.{Begins, times}
 use Rattle.turn_hub.specs.Views.{longer}
 use Rattle.turn_hub.specs.Rule.{AllBegin}
 use Rattle.turn_hub.proofs.Made.{joins-made, joins-stand, stands-at}

@@ -1,8 +1,7 @@
-use Rattle.std.proofs.Common.{◌≡◌, ℕ, ◌++◌, List, [], ◌∷◌, sym, ◌∙◌, subst}
+use Rattle.std.proofs.Common.{◌≡◌, ◌++◌, [], ◌∷◌, ◌∙◌, subst}
 use Rattle.std.proofs.lemmas.List.{append-nil}
-use Rattle.turn_hub.specs.declared.history.Entry.{Entry}
 use Rattle.turn_hub.specs.declared.view.View.{View}
-use Rattle.turn_hub.specs.History.{Begins, entries_at}
+use Rattle.turn_hub.specs.History.{entries_at}
 use Rattle.turn_hub.specs.Rule.{AllBegin}
 use Rattle.turn_hub.proofs.Made.{entries-front}
 use Rattle.turn_hub.proofs.meet.meet_as.Goals as goal

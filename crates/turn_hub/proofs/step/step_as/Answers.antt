@@ -1,4 +1,4 @@
-use Rattle.std.proofs.Common.{◌≡◌, sym, ◌∙◌, Ok, Err}
+use Rattle.std.proofs.Common.{◌∙◌, Ok, Err}
 use Rattle.turn_hub.specs.declared.view.Note.{Note}
 use Rattle.turn_hub.specs.declared.view.Stowed.TheVariants.{Noted}
 use Rattle.turn_hub.specs.History.{entry_of}

@@ -1,4 +1,4 @@
-use Rattle.std.proofs.Common.{◌≡◌, sym, ◌∙◌, ap, subst, arith, List, [], ◌∷◌, ℕ}
+use Rattle.std.proofs.Common.{◌∙◌, ap, arith, ◌∷◌}
 use Rattle.atomic_table.specs.Table.{rest}
 use Rattle.turn_hub.specs.declared.view.Stowed.TheVariants.{Machine}
 use Rattle.turn_hub.proofs.Gives.{gives_allows}

@@ -1,5 +1,4 @@
-use Rattle.std.proofs.Common.{arith, ap}
-use Rattle.turn_hub.specs.declared.view.View.{View}
+use Rattle.std.proofs.Common.{arith}
 use Rattle.turn_hub.proofs.Looks.{looks_allows}
 use Rattle.turn_hub.proofs.Sitting.{sits_on}
 use Rattle.turn_hub.proofs.turn.look.Goals as goal

@@ -1,10 +1,10 @@
-use Rattle.std.proofs.Common.{◌≡◌, sym, ◌∙◌, ap, subst, arith, List, [], ◌∷◌, ℕ}
+use Rattle.std.proofs.Common.{◌∙◌, ap, subst, arith, ◌∷◌}
 use Rattle.atomic_table.specs.Table.{rest}
 use Rattle.turn_hub.specs.declared.view.Stowed.TheVariants.{Noted}
 use Rattle.atomic_table.specs.Table.{Me}
 use Rattle.turn_hub.specs.declared.view.View.{View}
 use Rattle.turn_hub.specs.declared.view.Stowed.{Stowed}
-use Rattle.turn_hub.specs.Kinds.{adds_noted, Added}
+use Rattle.turn_hub.specs.Kinds.{adds_noted}
 use Rattle.turn_hub.proofs.Adds.{adds_allows}
 use Rattle.turn_hub.proofs.turn.raise.Goals as goal
 

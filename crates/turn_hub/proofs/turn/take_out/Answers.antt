@@ -1,4 +1,4 @@
-use Rattle.std.proofs.Common.{sym, ◌∙◌, ap, List, [], ◌∷◌, ℕ}
+use Rattle.std.proofs.Common.{sym, ◌∙◌, ◌∷◌}
 use Rattle.atomic_table.specs.Table.{rest}
 use Rattle.turn_hub.specs.declared.view.Stowed.TheVariants.{Machine}
 use Rattle.turn_hub.proofs.turn.take_out.Goals as goal

@@ -1,4 +1,4 @@
-use Rattle.std.proofs.Common.{◌≡◌, ℕ, sym, ◌∙◌, subst, map, List, [], ◌∷◌, ◌++◌}
+use Rattle.std.proofs.Common.{sym, ◌∙◌, subst, map, List, [], ◌∷◌, ◌++◌}
 use mathlib.Core.Option.{some}
 use Rattle.turn_hub.specs.declared.view.Stowed.{Stowed}
 use Rattle.turn_hub.specs.declared.view.Stowed.TheVariants.{Machine}
