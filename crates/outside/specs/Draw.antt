@@ -1,5 +1,5 @@
 -- What a draw tells of the words that it gave.
-use Rattle.std.specs.Prelude.{◌≡◌, ℕ, Bool, true, false, List, [], ◌++◌, take, Option, Some, None}
+use Rattle.std.specs.Prelude.{◌≡◌, ℕ, Bool, true, false, List, ◌++◌, take, Option, Some, None}
 
 -- A draw that tells its words afterwards told them before, and gave these since. It may stop telling
 abbrev pub Gives : Option (List ℕ) → Option (List ℕ) → List ℕ → Type 0

@@ -123,6 +123,7 @@ impl<M: Machine> Hub<M> {
         requires { pass.old.hub ≡ self.now }
         ensures pass { pass.new ≡ pass.old }
         ensures new { result ≡ record pass.old { own = [] } }
+        ensures stands { StandsAt result }
     {
         let seat = split_seat(&self.table.shared, &mut pass.seat);
         PassOf {

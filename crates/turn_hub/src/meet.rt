@@ -2,7 +2,7 @@
 ghost use Rattle.std.specs.Prelude.{◌≡◌, ◌++◌};
 ghost use Rattle.turn_hub.specs.History.{Begins, entries_at};
 ghost use Rattle.turn_hub.specs.Views.{longer};
-ghost use Rattle.turn_hub.specs.Seats.{Sits};
+ghost use Rattle.turn_hub.specs.Seats.{IsSeatOf};
 ghost use Rattle.turn_hub.specs.Passes.{AtRest, known_of};
 ghost use Rattle.turn_hub.specs.Steps.{IsAllowed};
 
@@ -11,9 +11,9 @@ use outside::Machine;
 
 // Makes two seats one, which has seen the longer history.
 pub(crate) fn join_as<M: Machine>(board: &Board<M>, seat: &mut Place<M>, other: Place<M>)
-    requires sits { Sits board.now.table_id board.now.key.machine.value board.now.key.base seat.old.table_id seat.old.me.0 }
+    requires sits { IsSeatOf board.now seat.old }
     requires rests { AtRest board.now.key seat.old.me }
-    requires other { Sits board.now.table_id board.now.key.machine.value board.now.key.base other.table_id other.me.0 }
+    requires other { IsSeatOf board.now other }
     requires other_rests { AtRest board.now.key other.me }
     ensures place { seat.new.table_id ≡ seat.old.table_id }
     ensures rests { AtRest board.now.key seat.new.me }
@@ -28,9 +28,9 @@ pub(crate) fn join_as<M: Machine>(board: &Board<M>, seat: &mut Place<M>, other: 
 
 // Tells the seat the whole history, which begins with what the other one has seen.
 pub(crate) fn meet_as<M: Machine>(board: &Board<M>, seat: &mut Place<M>, other: &mut Place<M>)
-    requires sits { Sits board.now.table_id board.now.key.machine.value board.now.key.base seat.old.table_id seat.old.me.0 }
+    requires sits { IsSeatOf board.now seat.old }
     requires rests { AtRest board.now.key seat.old.me }
-    requires other { Sits board.now.table_id board.now.key.machine.value board.now.key.base other.old.table_id other.old.me.0 }
+    requires other { IsSeatOf board.now other.old }
     requires other_rests { AtRest board.now.key other.old.me }
     ensures place { seat.new.table_id ≡ seat.old.table_id }
     ensures rests { AtRest board.now.key seat.new.me }

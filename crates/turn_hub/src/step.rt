@@ -1,7 +1,7 @@
 // A step of the machine, and the end of a hub, as a seat makes them.
 ghost use Rattle.std.specs.Prelude.{◌≡◌, ◌+◌, ◌≤◌, ◌^◌, Ok, IfOk, IfErr, length};
 ghost use Rattle.turn_hub.specs.History.{Begins, Runs};
-ghost use Rattle.turn_hub.specs.Seats.{Sits};
+ghost use Rattle.turn_hub.specs.Seats.{IsSeatOf};
 ghost use Rattle.turn_hub.specs.Passes.{AtRest, known_of};
 ghost use Rattle.turn_hub.specs.Steps.{Makes, Fails, IsWorn};
 
@@ -26,7 +26,7 @@ pub(crate) fn step_as<R: Wait, M: Machine, C: Clock>(
     event: M::Event,
     clock: &mut C,
 ) -> Result<M::Outcome, HubFault<M::Fault>>
-    requires sits { Sits board.now.table_id board.now.key.machine.value board.now.key.base seat.old.table_id seat.old.me.0 }
+    requires sits { IsSeatOf board.now seat.old }
     requires rests { AtRest board.now.key seat.old.me }
     requires event { M.may event }
     ensures place { seat.new.table_id ≡ seat.old.table_id }
@@ -68,7 +68,7 @@ pub(crate) fn last_as<R: Wait, M: Machine>(
     waiting: &Waiting,
     seat: &mut Place<M>,
 ) -> (M, u64)
-    requires sits { Sits board.now.table_id board.now.key.machine.value board.now.key.base seat.old.table_id seat.old.me.0 }
+    requires sits { IsSeatOf board.now seat.old }
     requires rests { AtRest board.now.key seat.old.me }
     ensures begins { Begins seat.old.me.0.seen seat.new.me.0.seen }
     ensures runs { Runs M.steps board.now.key.machine.value seat.new.me.0.seen result.0 }

@@ -1,7 +1,7 @@
 // The atomic steps of a hub, one function for each kind. Where a function takes a `Board` and a `Place`, the place is
 // a seat at that board.
 ghost use Rattle.std.specs.Prelude.{◌≡◌, ℕ, ◌+◌, ◌<◌, ◌^◌, List, [], ◌∷◌, length, MatchBool};
-ghost use Rattle.turn_hub.specs.Seats.{Sits, IsStepOf, CarriesOne};
+ghost use Rattle.turn_hub.specs.Seats.{IsSeatOf, IsStepOf, CarriesOne};
 ghost use Rattle.turn_hub.specs.Kinds.{Looked, Added, Recalled};
 ghost use Rattle.turn_hub.specs.Views.{taken, added, given, recalled, newcomer, joined, NoneLonger};
 ghost use Rattle.turn_hub.specs.declared.view.Stowed.TheVariants.{Machine as machine_there, Out, Noted};
@@ -34,8 +34,8 @@ const YIELDS: u32 = 10;
 
 // Takes the turn if it is free.
 fn try_turn<M: Machine>(board: &Board<M>, seat: &mut Place<M>) -> bool
-    requires sits { Sits board.now.table_id board.now.key.machine.value board.now.key.base seat.old.table_id seat.old.me.0 }
-    ensures sits { Sits board.now.table_id board.now.key.machine.value board.now.key.base seat.new.table_id seat.new.me.0 }
+    requires sits { IsSeatOf board.now seat.old }
+    ensures sits { IsSeatOf board.now seat.new }
     ensures id { seat.new.id ≡ seat.old.id }
     ensures me { MatchBool result ((m : M) × (seat.new.me ≡ (taken seat.old.me.0 m, (0, machine_there m) ∷ seat.old.me.1))) (seat.new.me ≡ seat.old.me) }
 {
@@ -44,8 +44,8 @@ fn try_turn<M: Machine>(board: &Board<M>, seat: &mut Place<M>) -> bool
 
 // Looks for the turn for a while, and takes it where it is free.
 fn try_often<M: Machine>(board: &Board<M>, seat: &mut Place<M>) -> bool
-    requires sits { Sits board.now.table_id board.now.key.machine.value board.now.key.base seat.old.table_id seat.old.me.0 }
-    ensures sits { Sits board.now.table_id board.now.key.machine.value board.now.key.base seat.new.table_id seat.new.me.0 }
+    requires sits { IsSeatOf board.now seat.old }
+    ensures sits { IsSeatOf board.now seat.new }
     ensures id { seat.new.id ≡ seat.old.id }
     ensures me { MatchBool result ((m : M) × (seat.new.me ≡ (taken seat.old.me.0 m, (0, machine_there m) ∷ seat.old.me.1))) (seat.new.me ≡ seat.old.me) }
 {
@@ -66,9 +66,9 @@ fn try_often<M: Machine>(board: &Board<M>, seat: &mut Place<M>) -> bool
 
 // Takes the machine out of the slot, with the turn.
 fn take_out<M: Machine>(board: &Board<M>, seat: &mut Place<M>) -> M
-    requires sits { Sits board.now.table_id board.now.key.machine.value board.now.key.base seat.old.table_id seat.old.me.0 }
+    requires sits { IsSeatOf board.now seat.old }
     requires there { (m : M) × (seat.old.me.1 ≡ (0, machine_there m) ∷ []) }
-    ensures sits { Sits board.now.table_id board.now.key.machine.value board.now.key.base seat.new.table_id seat.new.me.0 }
+    ensures sits { IsSeatOf board.now seat.new }
     ensures id { seat.new.id ≡ seat.old.id }
     ensures was { seat.old.me.1 ≡ (0, machine_there result) ∷ [] }
     ensures me { seat.new.me ≡ (seat.old.me.0, (0, Out) ∷ []) }
@@ -86,9 +86,9 @@ pub(crate) fn take_turn<R: Wait, M: Machine>(
     waiting: &Waiting,
     seat: &mut Place<M>,
 ) -> M
-    requires sits { Sits board.now.table_id board.now.key.machine.value board.now.key.base seat.old.table_id seat.old.me.0 }
+    requires sits { IsSeatOf board.now seat.old }
     requires empty { seat.old.me.1 ≡ [] }
-    ensures sits { Sits board.now.table_id board.now.key.machine.value board.now.key.base seat.new.table_id seat.new.me.0 }
+    ensures sits { IsSeatOf board.now seat.new }
     ensures me { seat.new.me ≡ (taken seat.old.me.0 result, (0, Out) ∷ []) }
 {
     if try_turn(board, seat) {
@@ -105,8 +105,8 @@ pub(crate) fn take_turn<R: Wait, M: Machine>(
 
 // Reads the count, and so sees the whole history.
 pub(crate) fn look<M: Machine>(board: &Board<M>, seat: &mut Place<M>) -> u64
-    requires sits { Sits board.now.table_id board.now.key.machine.value board.now.key.base seat.old.table_id seat.old.me.0 }
-    ensures sits { Sits board.now.table_id board.now.key.machine.value board.now.key.base seat.new.table_id seat.new.me.0 }
+    requires sits { IsSeatOf board.now seat.old }
+    ensures sits { IsSeatOf board.now seat.new }
     ensures carried { seat.new.me.1 ≡ seat.old.me.1 }
     ensures looked { Looked M.steps board.now.key.machine.value seat.old.me.0 result seat.new.me.0 }
 {
@@ -119,11 +119,11 @@ pub(crate) fn raise<M: Machine>(
     seat: &mut Place<M>,
     note: Note<M, M::Event, M::Outcome, M::Fault>,
 )
-    requires sits { Sits board.now.table_id board.now.key.machine.value board.now.key.base seat.old.table_id seat.old.me.0 }
+    requires sits { IsSeatOf board.now seat.old }
     requires carried { seat.old.me.1 ≡ (0, Out) ∷ [] }
     requires step { (m : M) × (seat.old.me.0.turn ≡ Known m) × IsStepOf M.steps m note }
     requires room { length seat.old.me.0.seen + seat.old.me.0.base < 2 ^ 62 }
-    ensures sits { Sits board.now.table_id board.now.key.machine.value board.now.key.base seat.new.table_id seat.new.me.0 }
+    ensures sits { IsSeatOf board.now seat.new }
     ensures me { seat.new.me ≡ (added seat.old.me.0 note, (0, Noted note) ∷ []) }
     ensures added { Added M.steps board.now.key.machine.value seat.old.me.0 note }
 {
@@ -138,10 +138,10 @@ pub(crate) fn give_back<M: Machine>(
     seat: &mut Place<M>,
     machine: M,
 )
-    requires sits { Sits board.now.table_id board.now.key.machine.value board.now.key.base seat.old.table_id seat.old.me.0 }
+    requires sits { IsSeatOf board.now seat.old }
     requires carried { CarriesOne seat.old.me.1 }
     requires known { seat.old.me.0.turn ≡ Known machine }
-    ensures sits { Sits board.now.table_id board.now.key.machine.value board.now.key.base seat.new.table_id seat.new.me.0 }
+    ensures sits { IsSeatOf board.now seat.new }
     ensures me { seat.new.me ≡ (given seat.old.me.0, []) }
 {
     let _ = board.exchange(seat, MACHINE, Stowed::Machine(machine));
@@ -151,9 +151,9 @@ pub(crate) fn give_back<M: Machine>(
 
 // Reads the count, and sees no more than before. It tells that the histories named before begin what was seen.
 pub(crate) fn recall<M: Machine>(board: &Board<M>, seat: &mut Place<M>)
-    requires sits { Sits board.now.table_id board.now.key.machine.value board.now.key.base seat.old.table_id seat.old.me.0 }
+    requires sits { IsSeatOf board.now seat.old }
     requires told { NoneLonger seat.old.me.0.told seat.old.me.0.seen }
-    ensures sits { Sits board.now.table_id board.now.key.machine.value board.now.key.base seat.new.table_id seat.new.me.0 }
+    ensures sits { IsSeatOf board.now seat.new }
     ensures me { seat.new.me ≡ (recalled seat.old.me.0, seat.old.me.1) }
     ensures told { Recalled seat.old.me.0 }
 {
@@ -162,10 +162,10 @@ pub(crate) fn recall<M: Machine>(board: &Board<M>, seat: &mut Place<M>)
 
 // Splits a seat. The new one has seen as much, and has no entries.
 pub(crate) fn split_seat<M: Machine>(board: &Board<M>, seat: &mut Place<M>) -> Place<M>
-    requires sits { Sits board.now.table_id board.now.key.machine.value board.now.key.base seat.old.table_id seat.old.me.0 }
-    ensures sits { Sits board.now.table_id board.now.key.machine.value board.now.key.base seat.new.table_id seat.new.me.0 }
+    requires sits { IsSeatOf board.now seat.old }
+    ensures sits { IsSeatOf board.now seat.new }
     ensures same { seat.new.me ≡ seat.old.me }
-    ensures new { Sits board.now.table_id board.now.key.machine.value board.now.key.base result.table_id result.me.0 }
+    ensures new { IsSeatOf board.now result }
     ensures newcomer { result.me ≡ (newcomer seat.old.me.0, []) }
 {
     board.split_seat::<Forks>(seat)
@@ -173,11 +173,11 @@ pub(crate) fn split_seat<M: Machine>(board: &Board<M>, seat: &mut Place<M>) -> P
 
 // Makes two seats one.
 pub(crate) fn join_seat<M: Machine>(board: &Board<M>, seat: &mut Place<M>, other: Place<M>)
-    requires sits { Sits board.now.table_id board.now.key.machine.value board.now.key.base seat.old.table_id seat.old.me.0 }
+    requires sits { IsSeatOf board.now seat.old }
     requires away { seat.old.me.0.turn ≡ Away }
-    requires other { Sits board.now.table_id board.now.key.machine.value board.now.key.base other.table_id other.me.0 }
+    requires other { IsSeatOf board.now other }
     requires carried { other.me.1 ≡ [] }
-    ensures sits { Sits board.now.table_id board.now.key.machine.value board.now.key.base seat.new.table_id seat.new.me.0 }
+    ensures sits { IsSeatOf board.now seat.new }
     ensures joined { seat.new.me ≡ (joined seat.old.me.0 other.me.0, seat.old.me.1) }
 {
     board.join_seat::<Meets>(seat, other);
