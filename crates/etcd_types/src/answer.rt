@@ -16,9 +16,11 @@ pub enum Body {
         more: bool,
         kvs: List<Kv>,
     },
+    /// `prev` is the record before the put, where it was asked for and is there.
     Put {
         prev: Option<Kv>,
     },
+    /// `deleted` is the number of keys that were deleted, and `prevs` has their records where they were asked for.
     Delete {
         deleted: u64,
         prevs: List<Kv>,
@@ -28,12 +30,14 @@ pub enum Body {
         succeeded: bool,
         bodies: List<Body>,
     },
+    /// The compaction is done.
     Compact,
     /// `ttl` in seconds.
     Grant {
         lease: u64,
         ttl: u64,
     },
+    /// The lease is revoked, and its keys are deleted.
     Revoke,
     /// A `ttl` of 0 says that there is no such lease.
     KeepAlive {
@@ -47,6 +51,7 @@ pub enum Body {
         granted: u64,
         keys: List<Bytes>,
     },
+    /// The numbers of all leases.
     Leases {
         leases: List<u64>,
     },
@@ -55,6 +60,7 @@ pub enum Body {
 /// An answer of the store to a request that it took.
 #[derive(Debug, PartialEq, Eq, Drop)]
 pub struct Reply {
+    /// Who answered, and at which revision.
     pub header: Header,
     pub body: Body,
 }
@@ -66,6 +72,7 @@ pub struct Refusal {
     pub text: Bytes,
 }
 
+/// What comes of a request: a reply of the store, or its refusal.
 #[derive(Debug, PartialEq, Eq, Drop)]
 pub enum Answer {
     Done(Reply),
@@ -73,6 +80,7 @@ pub enum Answer {
 }
 
 impl Body {
+    /// A copy, or `NoMemory` where memory was wanting.
     #[cycle(body_copy)]
     pub fn copy(&self, alloc: Global) -> Result<Body, NoMemory>
         ensures { IfOk result (λ body. body ≡ self.now) }
@@ -123,6 +131,7 @@ impl Body {
 }
 
 impl Reply {
+    /// A copy, or `NoMemory` where memory was wanting.
     pub fn copy(&self, alloc: Global) -> Result<Reply, NoMemory>
         ensures { IfOk result (λ reply. reply ≡ self.now) }
     {
@@ -134,6 +143,7 @@ impl Reply {
 }
 
 impl Refusal {
+    /// A copy, or `NoMemory` where memory was wanting.
     pub fn copy(&self, alloc: Global) -> Result<Refusal, NoMemory>
         ensures { IfOk result (λ refusal. refusal ≡ self.now) }
     {
@@ -145,6 +155,7 @@ impl Refusal {
 }
 
 impl Answer {
+    /// A copy, or `NoMemory` where memory was wanting.
     pub fn copy(&self, alloc: Global) -> Result<Answer, NoMemory>
         ensures { IfOk result (λ answer. answer ≡ self.now) }
     {

@@ -35,6 +35,7 @@ impl Bytes {
         }
     }
 
+    /// A copy of these bytes, or `NoMemory` where memory was wanting.
     pub fn from_slice(alloc: Global, slice: &[u8]) -> Result<Bytes, NoMemory>
         ensures { IfOk result (λ b. b ≡ slice.now) }
     {
@@ -49,18 +50,21 @@ impl Bytes {
         Bytes { bytes }
     }
 
+    /// All its bytes, in order.
     pub fn as_slice(&self) -> &[u8]
         ensures { result.now ≡ self.now }
     {
         self.bytes.as_slice()
     }
 
+    /// Whether it has no bytes.
     pub fn is_empty(&self) -> bool
         ensures { result ≡ is_empty self.now }
     {
         self.bytes.is_empty()
     }
 
+    /// A copy, or `NoMemory` where memory was wanting.
     pub fn copy(&self, alloc: Global) -> Result<Bytes, NoMemory>
         ensures { IfOk result (λ b. b ≡ self.now) }
     {

@@ -24,6 +24,7 @@ impl KeyRange {
         self.end.is_empty()
     }
 
+    /// Whether this key is in the range.
     pub fn contains(&self, key: &Bytes) -> bool
         ensures { result ≡ contains self.now key.now }
     {
@@ -39,6 +40,7 @@ impl KeyRange {
         self.holds(others) && other.holds(others) || self.holds(own) && other.holds(own)
     }
 
+    /// A copy, or `NoMemory` where memory was wanting.
     pub fn copy(&self, alloc: Global) -> Result<KeyRange, NoMemory>
         ensures { IfOk result (λ range. range ≡ self.now) }
     {

@@ -32,12 +32,14 @@ impl<T> List<T> {
         }
     }
 
+    /// All its members, in order.
     pub fn as_slice(&self) -> &[T]
         ensures { result.now ≡ self.now }
     {
         self.items.as_slice()
     }
 
+    /// How many members it has.
     pub fn len(&self) -> usize
         ensures { result ≡ length self.now }
     {

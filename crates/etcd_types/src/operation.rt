@@ -13,6 +13,7 @@ pub struct Sort {
     pub order: u8,
     /// 0 key, 1 version, 2 create revision, 3 mod revision, 4 value.
     pub target: u8,
+    /// The bounds of the mod revision and of the create revision, both included.
     pub min_mod: u64,
     pub max_mod: u64,
     pub min_create: u64,
@@ -29,7 +30,9 @@ pub struct RangeAsk {
     pub limit: u64,
     /// Whether the member may answer from what it has applied.
     pub serializable: bool,
+    /// Whether the values are left empty.
     pub keys_only: bool,
+    /// Whether only the number of keys is wanted.
     pub count_only: bool,
     pub sort: Sort,
 }
@@ -55,11 +58,13 @@ pub struct DeleteAsk {
     pub prev_kv: bool,
 }
 
-/// What a compare looks at.
+/// What a compare looks at in a record.
 #[derive(Clone, Copy, Debug, PartialEq, Eq)]
 pub enum Target {
     Version,
+    /// The create revision.
     Create,
+    /// The mod revision.
     Modified,
     Value,
     Lease,
@@ -77,6 +82,7 @@ pub enum Relation {
 /// `etcdserverpb.Compare`. The operand is `value` for the target `Value`, and else `number`.
 #[derive(Debug, PartialEq, Eq, Drop)]
 pub struct Compare {
+    /// The keys that it speaks of: each record there has to pass.
     pub range: KeyRange,
     pub target: Target,
     pub relation: Relation,
@@ -104,6 +110,7 @@ pub enum Op {
 }
 
 impl RangeAsk {
+    /// A copy, or `NoMemory` where memory was wanting.
     pub fn copy(&self, alloc: Global) -> Result<RangeAsk, NoMemory>
         ensures { IfOk result (λ ask. ask ≡ self.now) }
     {
@@ -120,6 +127,7 @@ impl RangeAsk {
 }
 
 impl PutAsk {
+    /// A copy, or `NoMemory` where memory was wanting.
     pub fn copy(&self, alloc: Global) -> Result<PutAsk, NoMemory>
         ensures { IfOk result (λ ask. ask ≡ self.now) }
     {
@@ -134,6 +142,7 @@ impl PutAsk {
 }
 
 impl DeleteAsk {
+    /// A copy, or `NoMemory` where memory was wanting.
     pub fn copy(&self, alloc: Global) -> Result<DeleteAsk, NoMemory>
         ensures { IfOk result (λ ask. ask ≡ self.now) }
     {
@@ -145,6 +154,7 @@ impl DeleteAsk {
 }
 
 impl Compare {
+    /// A copy, or `NoMemory` where memory was wanting.
     pub fn copy(&self, alloc: Global) -> Result<Compare, NoMemory>
         ensures { IfOk result (λ compare. compare ≡ self.now) }
     {
@@ -159,6 +169,7 @@ impl Compare {
 }
 
 impl TxnAsk {
+    /// A copy, or `NoMemory` where memory was wanting.
     #[cycle(operation_copy)]
     pub fn copy(&self, alloc: Global) -> Result<TxnAsk, NoMemory>
         ensures { IfOk result (λ ask. ask ≡ self.now) }
@@ -172,6 +183,7 @@ impl TxnAsk {
 }
 
 impl Op {
+    /// A copy, or `NoMemory` where memory was wanting.
     #[cycle(operation_copy)]
     pub fn copy(&self, alloc: Global) -> Result<Op, NoMemory>
         ensures { IfOk result (λ operation. operation ≡ self.now) }

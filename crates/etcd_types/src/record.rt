@@ -22,7 +22,8 @@ pub struct Kv {
 }
 
 impl Kv {
-    /// The record after a put at `revision`, where `old` is the record before it.
+    /// The record after a put at `revision`, where `old` is the record before it and `lease` the lease to attach it to, or
+    /// 0. `NoMemory` where memory was wanting.
     pub fn after_put(
         alloc: Global,
         old: Option<&Kv>,
@@ -47,6 +48,7 @@ impl Kv {
         })
     }
 
+    /// A copy, or `NoMemory` where memory was wanting.
     pub fn copy(&self, alloc: Global) -> Result<Kv, NoMemory>
         ensures { IfOk result (λ kv. kv ≡ self.now) }
     {

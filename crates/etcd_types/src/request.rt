@@ -22,6 +22,7 @@ pub struct WatchAsk {
 }
 
 impl WatchAsk {
+    /// A copy, or `NoMemory` where memory was wanting.
     pub fn copy(&self, alloc: Global) -> Result<WatchAsk, NoMemory>
         ensures { IfOk result (λ ask. ask ≡ self.now) }
     {
@@ -39,11 +40,12 @@ impl WatchAsk {
 /// A request to a cluster. Lease numbers, revisions and times to live (in seconds) are those of the API.
 #[derive(Debug, PartialEq, Eq, Drop)]
 pub enum Request {
+    /// A read of a range; the next three are a put, a deletion and a transaction.
     Range(RangeAsk),
     Put(PutAsk),
     Delete(DeleteAsk),
     Txn(TxnAsk),
-    /// `etcdserverpb.CompactionRequest`.
+    /// `etcdserverpb.CompactionRequest`; `physical` waits until the old records are gone from the disk.
     Compact { revision: u64, physical: bool },
     /// `etcdserverpb.LeaseGrantRequest`: number 0 lets the store choose.
     Grant { ttl: u64, lease: u64 },
@@ -54,11 +56,14 @@ pub enum Request {
     /// `etcdserverpb.LeaseTimeToLiveRequest`; `keys` asks for the attached keys.
     TimeToLive { lease: u64, keys: bool },
     /// `etcdserverpb.LeaseLeasesRequest`.
+    /// `etcdserverpb.LeaseLeasesRequest`.
     Leases,
+    /// The opening of a watch.
     Watch(WatchAsk),
 }
 
 impl Request {
+    /// A copy, or `NoMemory` where memory was wanting.
     pub fn copy(&self, alloc: Global) -> Result<Request, NoMemory>
         ensures { IfOk result (λ request. request ≡ self.now) }
     {

@@ -18,12 +18,14 @@ pub enum Change {
 #[derive(Debug, PartialEq, Eq, Drop)]
 pub struct Event {
     pub change: Change,
+    /// The record before the change.
     pub prev: Option<Kv>,
 }
 
 /// A message of a watch (`etcdserverpb.WatchResponse`).
 #[derive(Debug, PartialEq, Eq, Drop)]
 pub enum WatchItem {
+    /// The first message of a watch.
     Created(Header),
     /// Events in order of revision. One without events tells how far the watch has come.
     Events { header: Header, events: List<Event> },
@@ -32,6 +34,7 @@ pub enum WatchItem {
 }
 
 impl Change {
+    /// A copy, or `NoMemory` where memory was wanting.
     pub fn copy(&self, alloc: Global) -> Result<Change, NoMemory>
         ensures { IfOk result (λ change. change ≡ self.now) }
     {
@@ -46,6 +49,7 @@ impl Change {
 }
 
 impl Event {
+    /// A copy, or `NoMemory` where memory was wanting.
     pub fn copy(&self, alloc: Global) -> Result<Event, NoMemory>
         ensures { IfOk result (λ event. event ≡ self.now) }
     {
@@ -57,6 +61,7 @@ impl Event {
 }
 
 impl WatchItem {
+    /// A copy, or `NoMemory` where memory was wanting.
     pub fn copy(&self, alloc: Global) -> Result<WatchItem, NoMemory>
         ensures { IfOk result (λ item. item ≡ self.now) }
     {

@@ -14,7 +14,8 @@ pub trait Sink {
     /// How often it has failed.
     ghost faults: { Self → ℕ };
 
-    /// Takes bytes from the front of `piece`, and says how many: one at the least of a piece that isn't empty.
+    /// Takes bytes from the front of `piece`, and says how many: one at the least of a piece that isn't empty. Where it
+    /// answers `Failed` it took none.
     fn write(&mut self, piece: &[u8]) -> Result<usize, Failed>
         ensures bound { WritesAtMost result piece.now }
         ensures some { IfOk result (λ count. 0 < length piece.now → 0 < count) }
@@ -22,7 +23,8 @@ pub trait Sink {
         ensures cause { HasCause (faults self.old) (faults self.new) result };
 }
 
-/// Writes all the bytes. Where a write fails, a front of them is written.
+/// Writes all the bytes, by as many writes as it takes. The first write that fails ends it with `Failed`, and a front of
+/// the bytes is written then.
 pub fn write_whole<K: Sink>(sink: &mut K, bytes: &[u8]) -> Result<(), Failed>
     ensures all { OnOk result (Appends (K.written sink.old) (K.written sink.new) bytes.now) }
     ensures front { OnErr result (WritesFront (K.written sink.old) (K.written sink.new) bytes.now) }

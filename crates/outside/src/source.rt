@@ -19,6 +19,7 @@ pub trait Source {
     ghost faults: { Self → ℕ };
 
     /// Reads the next bytes into the front of `room`, and says how many. None into a room that isn't empty is the end.
+    /// Where it answers `Failed` the bytes are still to come.
     fn read(&mut self, room: &mut [u8]) -> Result<usize, Failed>
         ensures bound { ReadsAtMost result room.new }
         ensures bytes { ReadConsumes (left self.old) (left self.new) result room.new }

@@ -2,7 +2,7 @@ use crate::sink::Sink;
 use crate::source::{Failed, Source};
 use std::io::{Read, Write};
 
-/// A reader as a source.
+/// A reader as a source. Each of its errors is a failure.
 #[derive(Drop)]
 pub struct Reading<R: Read + Drop> {
     reader: R,
@@ -10,6 +10,7 @@ pub struct Reading<R: Read + Drop> {
 }
 
 impl<R: Read + Drop> Reading<R> {
+    /// A source that reads from `reader`, with no failure yet.
     pub fn new(reader: R) -> Reading<R> {
         Reading { reader, faults: 0 }
     }
@@ -39,6 +40,7 @@ pub struct Writing<W: Write + Drop> {
 }
 
 impl<W: Write + Drop> Writing<W> {
+    /// A sink that writes to `writer`, with no failure yet.
     pub fn new(writer: W) -> Writing<W> {
         Writing { writer, faults: 0 }
     }
