@@ -55,8 +55,7 @@ pub enum Request {
     KeepAlive { lease: u64 },
     /// `etcdserverpb.LeaseTimeToLiveRequest`; `keys` asks for the attached keys.
     TimeToLive { lease: u64, keys: bool },
-    /// `etcdserverpb.LeaseLeasesRequest`.
-    /// `etcdserverpb.LeaseLeasesRequest`.
+    /// `etcdserverpb.LeaseLeasesRequest`: all leases.
     Leases,
     /// The opening of a watch.
     Watch(WatchAsk),
