@@ -17,12 +17,13 @@ pub struct MemSink {
 
 impl MemSink {
     ghost use Rattle.std.specs.Prelude.{◌≡◌, []};
-    ghost use Rattle.outside.specs.Memory.{stored};
+    ghost use Rattle.outside.specs.Memory.{stored, calls_of, IsUncalledSink};
 
     /// A sink that takes at most `piece` bytes in one call (0 counts as 1), and whose calls with a number in `failing`
     /// fail. Calls are numbered from 1.
     pub fn new(alloc: Global, piece: usize, failing: Vec<u64>) -> MemSink
-        ensures { stored result ≡ [] }
+        ensures empty { stored result ≡ [] }
+        ensures uncalled { IsUncalledSink result piece failing.items }
     {
         MemSink {
             bytes: Vec::new(alloc),
@@ -42,7 +43,7 @@ impl MemSink {
 
     /// How often it was called.
     pub fn calls(&self) -> u64
-        ensures { result ≡ self.now.calls }
+        ensures { result ≡ calls_of self.now }
     {
         self.calls
     }

@@ -18,12 +18,13 @@ pub struct MemSource {
 
 impl MemSource {
     ghost use Rattle.std.specs.Prelude.{◌≡◌};
-    ghost use Rattle.outside.specs.Memory.{unread};
+    ghost use Rattle.outside.specs.Memory.{unread, IsUncalledSource};
 
     /// A source of these bytes in pieces of at most `piece` bytes (0 counts as 1), whose calls with a number in `failing`
     /// fail. Calls are numbered from 1.
     pub fn new(bytes: Vec<u8>, piece: usize, failing: Vec<u64>) -> MemSource
-        ensures { unread result ≡ bytes.items }
+        ensures bytes { unread result ≡ bytes.items }
+        ensures uncalled { IsUncalledSource result piece failing.items }
     {
         MemSource {
             bytes,

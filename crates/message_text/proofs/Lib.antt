@@ -1,0 +1,5 @@
+pub mod AnswerLaws
+pub mod Lists
+pub mod RequestLaws
+pub mod Rolled
+pub mod WatchLaws

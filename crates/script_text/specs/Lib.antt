@@ -1,0 +1,4 @@
+pub mod Lines
+pub mod Items
+pub mod Faults
+pub mod Laws

@@ -1,0 +1,3 @@
+pub mod BytesWords
+pub mod Cuts
+pub mod Numbers
