@@ -1,0 +1,5 @@
+pub mod Feeding
+pub mod Replays
+pub mod Scripts
+pub mod Turns
+pub mod Worlds

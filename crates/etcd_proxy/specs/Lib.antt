@@ -1,0 +1,6 @@
+pub mod Replay
+pub mod Replays
+pub mod Run
+pub mod Script
+pub mod Words
+pub mod World

@@ -1,0 +1,101 @@
+-- How the program's replay stands for the bytes of a script that it took, and what stands written.
+use Rattle.std.specs.Prelude.{◌≡◌, false, ℕ, ◌+◌, length, List, [], ◌∷◌, ◌++◌, take, Option}
+use Rattle.std.specs.Io.KnownBytes.{Appends}
+use Rattle.etcd_types.specs.Keys.{is_empty}
+use Rattle.replay_model.specs.Progress.{Progress, progress, finished, passes_limit}
+use Rattle.replay_model.specs.Script.{begun_line}
+use Rattle.replay_model.specs.Transcript.{transcript_text}
+use Rattle.replay_model.specs.declared.ending.Ending.{Ending}
+use Rattle.replay_model.specs.declared.ending.Ending.TheVariants.{Open}
+use Rattle.outside.specs.Streams.{WritesFront}
+use Rattle.etcd_proxy.specs.Script as script
+use Rattle.etcd_proxy.specs.declared.replay.Replay.{Replay}
+
+-- the text of what the whole lines of these bytes gained
+abbrev pub text_so_far : List ℕ → List ℕ
+text_so_far bytes = transcript_text (progress bytes).items
+
+-- the text of what all lines of these bytes gained
+abbrev pub text_of : List ℕ → List ℕ
+text_of bytes = transcript_text (finished bytes).items
+
+-- where a line has begun behind these bytes' line feeds, it passes no limit so far
+abbrev pub BeginsWithin : List ℕ → Type 0
+BeginsWithin bytes =
+    is_empty (begun_line bytes) ≡ false → passes_limit (progress bytes) (length (begun_line bytes)) (length (begun_line bytes)) ≡ false
+
+-- the replay took these bytes, and none of their lines is refused
+pub record Follows (replay : Replay) (bytes : List ℕ) : Type 0 where
+  pub stands : script.Stands replay.script (progress bytes)
+  pub within : BeginsWithin bytes
+  pub ready : script.IsReady replay.script
+  pub begun : replay.line.items ≡ begun_line bytes
+
+-- there are bytes that it took
+abbrev pub IsUnderWay : Replay → Type 0
+IsUnderWay replay = (bytes : List ℕ) × Follows replay bytes
+
+-- of this text a front was written, and the rest is pending
+pub record Writes (old new : Option (List ℕ)) (pending text : List ℕ) : Type 0 where
+  pub front : List ℕ
+  pub parts : text ≡ front ++ pending
+  pub written : Appends old new front
+
+-- how far these bytes took the replay: where a line was refused, a line that had begun counts
+abbrev pub reached : Ending → List ℕ → Progress
+reached Open bytes = progress bytes
+reached _ bytes = finished bytes
+
+-- what one more byte adds to the text, and where it leaves the replay
+pub record TakesByte (old new : Replay) (bytes : List ℕ) (byte : ℕ) (ending : Ending) : Type 0 where
+  pub ended : (reached ending (bytes ++ byte ∷ [])).ending ≡ ending
+  pub follows : ending ≡ Open → Follows new (bytes ++ byte ∷ [])
+  pub added : List ℕ
+  pub text : transcript_text (reached ending (bytes ++ byte ∷ [])).items ≡ text_so_far bytes ++ added
+  pub so_far : text_so_far (bytes ++ byte ∷ []) ≡ text_so_far bytes ++ added
+  pub pending : new.pending.items ≡ old.pending.items ++ added
+
+-- what the end of the input adds: a last line without line feed is taken
+pub record TakesEnd (old new : Replay) (bytes : List ℕ) (ending : Ending) : Type 0 where
+  pub ended : (finished bytes).ending ≡ ending
+  pub added : List ℕ
+  pub text : text_of bytes ≡ text_so_far bytes ++ added
+  pub pending : new.pending.items ≡ old.pending.items ++ added
+
+-- these bytes were taken, and of their lines' text the rest is pending
+pub record Fed (start written : Option (List ℕ)) (new : Replay) (bytes : List ℕ) : Type 0 where
+  pub follows : Follows new bytes
+  pub writes : Writes start written new.pending.items (text_so_far bytes)
+
+-- a front of a piece was taken, up to the byte with which a line was refused
+pub record Refused (start written : Option (List ℕ)) (new : Replay) (bytes piece : List ℕ) (ending : Ending) : Type 0 where
+  pub count : ℕ
+  pub ended : (finished (bytes ++ take count piece)).ending ≡ ending
+  pub writes : Writes start written new.pending.items (text_of (bytes ++ take count piece))
+
+abbrev pub Feeds : Option (List ℕ) → Option (List ℕ) → Replay → List ℕ → List ℕ → Ending → Type 0
+Feeds start written new bytes piece Open = Fed start written new (bytes ++ piece)
+Feeds start written new bytes piece ending = Refused start written new bytes piece ending
+
+-- Of the text of some front of these bytes a front was written.
+pub record WritesSome (start written : Option (List ℕ)) (bytes : List ℕ) : Type 0 where
+  pub count : ℕ
+  pub front : WritesFront start written (text_so_far (take count bytes))
+
+-- what was pending, with what is pending now, is written as far as it isn't pending
+abbrev pub Moves : Option (List ℕ) → Option (List ℕ) → List ℕ → List ℕ → Type 0
+Moves old new before after =
+    (start : Option (List ℕ)) (text : List ℕ) → Writes start old before text → Writes start new after text
+
+-- a front of what was pending is written
+abbrev pub Breaks : Option (List ℕ) → Option (List ℕ) → List ℕ → Type 0
+Breaks old new before = (start : Option (List ℕ)) (text : List ℕ) → Writes start old before text → WritesFront start new text
+
+-- how many bytes were taken
+abbrev pub taken_of : Replay → ℕ
+taken_of replay = replay.script.bytes + length replay.line.items
+
+-- all lines of these bytes were taken, or the last one was refused, and the text of what they gained is written
+pub record Finishes (start written : Option (List ℕ)) (bytes : List ℕ) (ending : Ending) : Type 0 where
+  pub ended : (finished bytes).ending ≡ ending
+  pub writes : Appends start written (text_of bytes)

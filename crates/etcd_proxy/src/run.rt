@@ -1,0 +1,141 @@
+ghost use Rattle.std.specs.Prelude.{◌≡◌, ◌≢◌, ◌↔◌, Some, None, IfOk, codes};
+ghost use Rattle.std.specs.Io.KnownBytes.{Appends};
+ghost use Rattle.outside.specs.Faults.{Rose};
+ghost use Rattle.outside.specs.Streams.{WritesFront};
+ghost use Rattle.etcd_proxy.specs.Run.{Runs, Tells, Prints, status_of, text_of_status, refused_text};
+ghost use Rattle.etcd_proxy.specs.Words.{command_of};
+
+use crate::replay::replay_script;
+use crate::stop::Stop;
+use crate::words::{Command, command_of};
+use etcd_types::NoMemory;
+use outside::{Failed, Sink, Source, write_whole};
+use replay_model::{Ending, Refusal};
+use std::alloc::Global;
+
+const USAGE: &[u8] = b"usage: etcd_proxy replay\n";
+
+const HELP: &[u8] = b"\
+etcd_proxy replays scripted schedules of etcd proxies over a small store.
+
+usage: etcd_proxy replay < SCRIPT
+
+  replay      reads a script from the input and writes its transcript to the output
+  --help      shows this
+  --version   shows the version
+";
+
+const VERSION: &[u8] = b"etcd_proxy 0.1.0\n";
+
+/// Does what the words ask for, and answers the exit status.
+///
+/// 0: the script was read to its end and its transcript is written. 1: a line is refused. 2: the words are none of the
+/// forms. 3: the input failed. 4: the output failed. 5: memory was wanting. 6: a line passes a limit. The words are
+/// those of the command line after the program's name.
+pub fn run<S: Source, K: Sink, E: Sink>(
+    alloc: Global,
+    words: &[String],
+    input: &mut S,
+    output: &mut K,
+    errors: &mut E,
+) -> u8
+    // Status 2 comes exactly where the words are none of the forms.
+    ensures usage { (result ≡ 2) ↔ (command_of words.now ≡ None) }
+
+    // A script's transcript is written, and each of its answers is the store's.
+    ensures replays { command_of words.now ≡ Some Command.Replay
+        → Runs (S.left input.old) (S.left input.new) (K.written output.old) (K.written output.new)
+        (E.written errors.old) (E.written errors.new) (E.faults errors.old) (E.faults errors.new) result }
+
+    ensures read_fault { result ≡ 3 → Rose (S.faults input.old) (S.faults input.new) }
+    ensures write_fault { result ≡ 4 → Rose (K.faults output.old) (K.faults output.new) }
+{
+    match command_of(words) {
+        None => {
+            tell(errors, USAGE);
+            2
+        }
+        Some(Command::Help) => print(output, errors, HELP),
+        Some(Command::Version) => print(output, errors, VERSION),
+        Some(Command::Replay) => replay(alloc, input, output, errors),
+    }
+}
+
+fn replay<S: Source, K: Sink, E: Sink>(
+    alloc: Global,
+    input: &mut S,
+    output: &mut K,
+    errors: &mut E,
+) -> u8
+    ensures runs { Runs (S.left input.old) (S.left input.new) (K.written output.old) (K.written output.new)
+        (E.written errors.old) (E.written errors.new) (E.faults errors.old) (E.faults errors.new) result }
+    ensures no_usage { result ≢ 2 }
+    ensures read_fault { result ≡ 3 → Rose (S.faults input.old) (S.faults input.new) }
+    ensures write_fault { result ≡ 4 → Rose (K.faults output.old) (K.faults output.new) }
+{
+    let outcome = replay_script(alloc, input, output);
+    match text_of(alloc, &outcome) {
+        Ok(text) => {
+            tell(errors, text.as_slice());
+            status_of(&outcome)
+        }
+        Err(NoMemory) => {
+            tell(errors, b"no memory\n");
+            5
+        }
+    }
+}
+
+/// Writes a text to the output.
+fn print<K: Sink, E: Sink>(output: &mut K, errors: &mut E, text: &[u8]) -> u8
+    ensures { Prints (K.written output.old) (K.written output.new) (K.faults output.old) (K.faults output.new) text.now result }
+{
+    match write_whole(output, text) {
+        Ok(()) => 0,
+        Err(Failed) => {
+            tell(errors, b"write fault\n");
+            4
+        }
+    }
+}
+
+/// Writes a text to the errors. Where that fails, nothing else is done about it.
+fn tell<E: Sink>(errors: &mut E, text: &[u8])
+    ensures { Tells (E.written errors.old) (E.written errors.new) (E.faults errors.old) (E.faults errors.new) text.now }
+{
+    let _ = write_whole(errors, text);
+}
+
+fn status_of(outcome: &Result<Ending, Stop>) -> u8
+    ensures { result ≡ status_of outcome.now }
+{
+    match outcome {
+        Ok(Ending::Open) => 0,
+        Ok(Ending::Refused { .. }) => 1,
+        Ok(Ending::PastLimit) => 6,
+        Err(Stop::ReadFault) => 3,
+        Err(Stop::WriteFault) => 4,
+        Err(Stop::NoMemory) => 5,
+    }
+}
+
+/// The text of a status.
+fn text_of(alloc: Global, outcome: &Result<Ending, Stop>) -> Result<Vec<u8>, NoMemory>
+    ensures { IfOk result (λ text. text.items ≡ text_of_status outcome.now) }
+{
+    match outcome {
+        Ok(Ending::Open) => Ok(Vec::new(alloc)),
+        Ok(Ending::Refused { number, refusal }) => Ok(refused_text(alloc, *number, refusal)?),
+        Ok(Ending::PastLimit) => Ok(Vec::from_slice(alloc, b"limit\n")?),
+        Err(Stop::ReadFault) => Ok(Vec::from_slice(alloc, b"read fault\n")?),
+        Err(Stop::WriteFault) => Ok(Vec::from_slice(alloc, b"write fault\n")?),
+        Err(Stop::NoMemory) => Ok(Vec::from_slice(alloc, b"no memory\n")?),
+    }
+}
+
+fn refused_text(alloc: Global, number: u64, refusal: &Refusal) -> Result<Vec<u8>, NoMemory>
+    ensures { IfOk result (λ text. text.items ≡ refused_text number refusal.now) }
+{
+    let text = format!(in alloc; "line {number}: {refusal}\n")?;
+    Ok(text.into_bytes())
+}

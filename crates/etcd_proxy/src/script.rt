@@ -1,0 +1,155 @@
+ghost use Rattle.std.specs.Prelude.{◌≡◌, ◌+◌, ◌≤◌, true, ◌++◌, ◌∷◌, [], OnOk, IfOk, Option, length};
+ghost use Rattle.replay_model.specs.declared.limits.TheConstants.{MOST_LINES, MOST_BYTES};
+ghost use Rattle.replay_model.specs.Transcript.{begun, transcript_text};
+ghost use Rattle.replay_model.specs.Endings.{is_open};
+ghost use Rattle.replay_model.specs.Progress.{size_of};
+ghost use Rattle.etcd_proxy.specs.World.{Begins};
+
+use crate::built::is_built_world;
+use crate::world::{World, one};
+use etcd_types::{List, NoMemory};
+use replay_model::{Ending, MOST_BYTES, MOST_LINE_BYTES, MOST_LINES, Refusal};
+use script_text::{Item, Line, LineFault, read_line, write_item};
+use std::alloc::Global;
+
+/// A script as far as its lines were taken: the world that they left, how many they are, and their bytes.
+#[derive(Drop)]
+pub(crate) struct Script {
+    alloc: Global,
+    world: Option<World>,
+    lines: u64,
+    bytes: u64,
+    ghost few_lines: { lines ≤ MOST_LINES },
+    ghost few_bytes: { bytes ≤ MOST_BYTES },
+}
+
+impl Script {
+    ghost use Rattle.std.specs.Prelude.{ℕ, Result};
+    ghost use Rattle.script_text.specs.Lines.{line_at};
+    ghost use Rattle.replay_model.specs.World.{World as Model};
+    ghost use Rattle.replay_model.specs.Transcript.{transcript_text};
+    ghost use Rattle.replay_model.specs.Progress.{Progress, beginning, is_past, passes_limit, after_line};
+    ghost use Rattle.etcd_proxy.specs.Script.{Stands, StandsIfThere, Gives, Adds, IsReady};
+
+    pub(crate) fn new(alloc: Global) -> Script
+        ensures stands { Stands result beginning }
+        ensures ready { IsReady result }
+    {
+        Script {
+            alloc,
+            world: None,
+            lines: 0,
+            bytes: 0,
+        }
+    }
+
+    /// Whether the next line passes a limit: it has `length` bytes, and `size` with its line feed where it has one.
+    fn is_past(&self, length: u64, size: u64) -> bool
+        ensures { result ≡ is_past self.now.lines self.now.bytes length size }
+    {
+        length > MOST_LINE_BYTES || self.lines + 1 > MOST_LINES || size > MOST_BYTES - self.bytes
+    }
+
+    /// Whether a line that has begun with these bytes passes a limit already.
+    pub(crate) fn is_past_limit(&self, begun: &[u8]) -> bool
+        ensures passes { (p : Progress) → Stands self.now p → result ≡ passes_limit p (length begun.now) (length begun.now) }
+        ensures past { result ≡ is_past self.now.lines self.now.bytes (length begun.now) (length begun.now) }
+    {
+        self.is_past(begun.len() as u64, begun.len() as u64)
+    }
+
+    /// Takes a line, which a line feed ended or not, and adds the text of what it gained to `out`.
+    pub(crate) fn take_line(
+        &mut self,
+        line: &[u8],
+        feed: bool,
+        out: &mut Vec<u8>,
+    ) -> Result<Ending, NoMemory>
+        requires { IsReady self.old }
+        ensures line { (p : Progress) → Stands self.old p
+            → IfOk result (λ ending. Adds self.new out.old.items out.new.items ending p (after_line p line.now feed)) }
+        ensures bytes { IfOk result (λ ending. is_open ending ≡ true → self.new.bytes ≡ self.old.bytes + size_of line.now feed) }
+    {
+        let number = self.lines + 1;
+        let size = size_of(line, feed);
+        if self.is_past(line.len() as u64, size) {
+            return Ok(Ending::PastLimit);
+        }
+        match self.gain(number, line) {
+            Ok(items) => {
+                write_items(self.alloc, &items, out)?;
+                self.lines = number;
+                self.bytes += size;
+                Ok(Ending::Open)
+            }
+            Err(refusal) => {
+                if refusal.is_memory() {
+                    return Err(NoMemory);
+                }
+                Ok(Ending::Refused { number, refusal })
+            }
+        }
+    }
+
+    /// Reads a line and takes it.
+    fn gain(&mut self, number: u64, line: &[u8]) -> Result<List<Item>, Refusal>
+        requires { IsReady self.old }
+        ensures gained { (w : Option Model) → StandsIfThere self.old.world w → Gives self.new.world result w (line_at number line.now) }
+        ensures same { self.new ≡ record self.old { world = self.new.world } }
+    {
+        let line = match read_line(self.alloc, number, line) {
+            Ok(line) => line,
+            Err(LineFault::BadLine { place, .. }) => return Err(Refusal::BadLine { place }),
+            Err(LineFault::NoMemory) => return Err(Refusal::from(NoMemory)),
+        };
+        match &mut self.world {
+            Some(world) => world.take(line),
+            None => {
+                let (world, items) = begin(self.alloc, line)?;
+                self.world = Some(world);
+                Ok(items)
+            }
+        }
+    }
+}
+
+/// Makes the world of the first line, and says what it gained.
+fn begin(alloc: Global, line: Line) -> Result<(World, List<Item>), Refusal>
+    ensures { Begins result (begun line) }
+{
+    let Line::World {
+        members,
+        namespace,
+        leasing,
+    } = line
+    else {
+        return Err(Refusal::BadLine { place: 1 });
+    };
+    if !is_built_world(members, &leasing) {
+        return Err(Refusal::NotBuilt);
+    }
+    let world = World::new(alloc, namespace.copy(alloc)?)?;
+    let item = Item::World {
+        members,
+        namespace,
+        leasing,
+    };
+    Ok((world, one(alloc, item)?))
+}
+
+/// The bytes of a line, with its line feed where it has one.
+fn size_of(line: &[u8], feed: bool) -> u64
+    ensures { result ≡ size_of line.now feed }
+{
+    line.len() as u64 + u64::from(feed)
+}
+
+fn write_items(alloc: Global, items: &List<Item>, out: &mut Vec<u8>) -> Result<(), NoMemory>
+    ensures { OnOk result (out.new.items ≡ out.old.items ++ transcript_text items.now) }
+{
+    for item in items.as_slice() {
+        out.extend_from_slice(write_item(alloc, item)?.as_slice())?;
+        out.push(b'\n')?;
+    }
+    Ok(())
+}

@@ -1,0 +1,7 @@
+pub mod Order
+pub mod Ends
+pub mod Ranges
+pub mod Nested
+pub mod Keys
+pub mod Turns
+pub mod Refused

@@ -1,0 +1,4 @@
+pub mod StoreSteps
+pub mod Transcripts
+pub mod TrueAnswers
+pub mod WorldFits

@@ -1,0 +1,9 @@
+pub mod Answers
+pub mod Built
+pub mod Endings
+pub mod Fits
+pub mod Progress
+pub mod Refusals
+pub mod Script
+pub mod Transcript
+pub mod World

@@ -1,0 +1,2 @@
+pub mod PassingOn
+pub mod RequestRefusals

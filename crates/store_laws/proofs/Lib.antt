@@ -1,0 +1,6 @@
+pub mod RequestProofs
+pub mod RangeProofs
+pub mod NamedProofs
+pub mod EventProofs
+pub mod WatchProofs
+pub mod LeavingProofs

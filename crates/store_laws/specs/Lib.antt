@@ -1,0 +1,4 @@
+pub mod Requests
+pub mod Ranges
+pub mod NamedKeys
+pub mod WatchRuns

@@ -1,0 +1,5 @@
+pub mod TransactionLemmas
+pub mod RefusalLemmas
+pub mod WatchLemmas
+pub mod StepLemmas
+pub mod HistoryLemmas

@@ -1,0 +1,15 @@
+pub mod History
+pub mod Records
+pub mod Ranges
+pub mod Refusals
+pub mod State
+pub mod Reads
+pub mod Compares
+pub mod Transactions
+pub mod FirstRefusals
+pub mod Leases
+pub mod Members
+pub mod Events
+pub mod Watches
+pub mod Step
+pub mod Worked

@@ -1,0 +1,35 @@
+//! A table of requests and answers, tried on the store.
+//!
+//! The standard input has steps, one a line, each with a line `= ANSWER` behind it that says what is to come of it. A step
+//! is `store MEMBERS`, which begins anew, `exec MEMBER REQUEST`, `compact REVISION`, `expire LEASE`, `apply MEMBER
+//! REVISION`, `open MEMBER WATCH`, `push WATCH` or `progress WATCH`. Each answer that differs is printed, and at the end
+//! the number of answers and of those that differ.
+#![tactic(auto)]
+
+mod trial;
+mod wrong;
+
+use crate::trial::Trial;
+use crate::wrong::Wrong;
+
+fn main(rt: HostRuntime) -> Result<(), Wrong> {
+    let alloc = rt.alloc();
+    let mut trial = Trial::new(alloc)?;
+    let mut answers = 0u64;
+    let mut differing = 0u64;
+    for line in rt.lines(alloc) {
+        let line = line?;
+        let line = line.as_str();
+        if let Some(wanted) = line.strip_prefix("= ") {
+            answers = answers.saturating_add(1);
+            if trial.told() != wanted {
+                differing = differing.saturating_add(1);
+                println!(rt; "wanted {wanted}\ncame   {}", trial.told())?;
+            }
+        } else if !line.is_empty() && !line.starts_with("#") {
+            trial.step(line)?;
+        }
+    }
+    println!(rt; "{answers} answers, {differing} differ")?;
+    Ok(())
+}
