@@ -1,5 +1,6 @@
 #!/bin/sh
 # The limits of a script, to the byte and to the line: what reaches a limit is replayed, and what passes it ends with status 6.
+# Then the memory of a run, which doesn't grow with what it reads and writes.
 # Usage: tests/limits.sh PROGRAM
 set -eu
 program=$1
@@ -52,4 +53,12 @@ bytes 67108864 > "$work/script"
 ends_with '67,108,864 bytes' 0 ''
 bytes 67108865 > "$work/script"
 ends_with '67,108,865 bytes' 6 limit
+# A run holds its world and a line, and not what it read or wrote: 60 refused requests of 1,000,000 bytes, in 32 MiB.
+script 'BEGIN { for (n = 1; n <= 60; n++) { printf "ask 1 %d put a ", n; for (i = 1; i <= 1000000; i++) printf "v"; print " 0 i" } }' > "$work/script"
+(ulimit -v 32768 && "$program" replay < "$work/script" > "$work/transcript") || {
+    echo 'limits: 60 MB of refused requests take more than 32 MiB' >&2
+    exit 1
+}
+[ "$(grep -c ^reply "$work/transcript")" -eq 60 ]
+
 echo 'limits: each is kept to the byte and to the line'
