@@ -1,0 +1,7 @@
+pub mod Fit
+pub mod OneKey
+pub mod Prefixed
+pub mod Ran
+pub mod SnapshotProofs
+pub mod Split
+pub mod Told

@@ -1,0 +1,4 @@
+pub mod FitsLaws
+pub mod KeyedLaws
+pub mod PrefixLaws
+pub mod WrittenLaws

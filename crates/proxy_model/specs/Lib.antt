@@ -1,0 +1,17 @@
+pub mod Acquire
+pub mod Asks
+pub mod Fits
+pub mod Foreign
+pub mod Guarded
+pub mod Keyed
+pub mod LeaseTable
+pub mod Leaving
+pub mod Limits
+pub mod Members
+pub mod Prefixes
+pub mod Readings
+pub mod Session
+pub mod SeveralKeys
+pub mod Snapshot
+pub mod Upstream
+pub mod Worked

@@ -1,0 +1,15 @@
+//! What a proxy does, as definitions: its state is a record of parts, and each part's rules stand in a file of
+//! `specs/` of their own. The crates that keep a part cite them in their contracts, and nothing here does work.
+//!
+//! The types that the definitions speak of are declared here, and given on by the crates that work with them.
+#![tactic(auto)]
+
+mod lease;
+mod ownership;
+mod session;
+mod worked;
+
+pub use lease::{Entry, Phase};
+pub use ownership::{Claim, Owned, Owner, Written};
+pub use session::Standing;
+pub use worked::worked_transactions;
