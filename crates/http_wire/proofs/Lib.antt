@@ -1,0 +1,13 @@
+pub mod Ahead
+pub mod BodyTurns
+pub mod Data
+pub mod Feeds
+pub mod Fields
+pub mod LineLoop
+pub mod LineScans
+pub mod LineTurns
+pub mod Ranges
+pub mod Reading
+pub mod SizeLines
+pub mod Sizes
+pub mod Tokens

@@ -1,0 +1,10 @@
+pub mod Connections
+pub mod Ends
+pub mod Held
+pub mod Places
+pub mod Reads
+pub mod Sizes
+pub mod Heads
+pub mod Bodies
+pub mod Steps
+pub mod Written

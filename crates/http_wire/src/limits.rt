@@ -1,0 +1,13 @@
+//! How much is read of what comes from outside.
+
+/// A head, a trailer or a size line has at most so many bytes.
+pub const HEAD_LIMIT: usize = 65_536;
+
+/// A head or a trailer has at most so many fields.
+pub const FIELD_LIMIT: usize = 64;
+
+/// A request's body has at most so many bytes.
+pub const BODY_LIMIT: usize = 4_194_304;
+
+/// A line of an answer has at most so many bytes, its line feed counted.
+pub const LINE_LIMIT: usize = 8_388_608;

@@ -1,0 +1,154 @@
+ghost use Rattle.std.specs.Prelude.{◌≡◌, ◌≤◌, [], None, IfOk, IfSome, IsErrOf};
+ghost use Rattle.outside.specs.Faults.{Rose};
+
+use crate::buffer::Buffer;
+use crate::fault::WireFault;
+use crate::heads::{next_answer, next_head};
+use crate::lines::whole_line;
+use crate::message::{Framing, Head};
+use crate::turns::whole_body;
+use etcd_types::{Bytes, NoMemory};
+use outside::Source;
+use std::alloc::Global;
+use std::marker::Model;
+
+/// The reading end of a connection: the bytes that were read from its source and not used yet. Each call takes the
+/// source, and reads from it no more than it needs. What a call gives depends on the bytes alone, in whatever pieces
+/// they come. After a fault, want of memory too, each reading call answers that fault again.
+///
+/// It begins with 4 KB and grows with what it has to hold at once, up to twice the limit of a head.
+#[derive(Debug, Drop)]
+pub struct Wire {
+    buffer: Buffer,
+    fault: Option<WireFault>,
+    alloc: Global,
+}
+
+impl Model for Wire {
+    ghost use Rattle.http_wire.specs.Connections.{WireState};
+
+    ghost Value = { WireState };
+
+    ghost use Rattle.http_wire.specs.Held.{held};
+
+    ghost view = { λ w. record { held = held w.buffer; fault = w.fault } };
+}
+
+impl Wire {
+    ghost use Rattle.http_wire.specs.Bodies.{BodyRead};
+    ghost use Rattle.http_wire.specs.Connections.{bytes_ahead, fault_after, Repeats};
+    ghost use Rattle.http_wire.specs.Heads.{HeadRead, AnswerRead};
+    ghost use Rattle.http_wire.specs.Held.{ReadsAhead};
+    ghost use Rattle.http_wire.specs.Steps.{NextLine};
+
+    /// A wire that holds nothing yet.
+    pub fn new(alloc: Global) -> Result<Wire, NoMemory>
+        ensures held { IfOk result (λ wire. wire.held ≡ []) }
+        ensures fault { IfOk result (λ wire. wire.fault ≡ None) }
+    {
+        let buffer = Buffer::new(alloc)?;
+        Ok(Wire {
+            buffer,
+            fault: None,
+            alloc,
+        })
+    }
+
+    /// The head of the next request, or none where the bytes end before it.
+    ///
+    /// BadHead, HeadTooLong and EndedEarly say what the bytes are; ReadFault that the source failed.
+    pub fn read_head<S: Source>(&mut self, source: &mut S) -> Result<Option<Head>, WireFault>
+        ensures read { self.old.fault ≡ None → ReadsAhead HeadRead (bytes_ahead (S.left source.old) self.old)
+            (bytes_ahead (S.left source.new) self.new) result }
+        ensures fault { self.old.fault ≡ None → self.new.fault ≡ fault_after result }
+        ensures again { IfSome self.old.fault (λ fault. Repeats fault self.old self.new source.old source.new result) }
+        ensures cause { self.old.fault ≡ None → IsErrOf result WireFault.ReadFault → Rose (S.faults source.old) (S.faults source.new) }
+        ensures kept { S.faults source.old ≤ S.faults source.new }
+    {
+        if let Some(fault) = self.fault {
+            return Err(fault);
+        }
+        match next_head(self.alloc, &mut self.buffer, source) {
+            Ok(head) => Ok(head),
+            Err(fault) => {
+                self.fault = Some(fault);
+                Err(fault)
+            }
+        }
+    }
+
+    /// The body that follows a request's head.
+    ///
+    /// BodyTooLong comes as soon as its length, or the size of a chunk, says more than the limit; BadChunk, EndedEarly and,
+    /// for a trailer, BadHead and HeadTooLong say what the bytes are; ReadFault that the source failed.
+    pub fn read_body<S: Source>(&mut self, source: &mut S, head: &Head) -> Result<Bytes, WireFault>
+        ensures read { self.old.fault ≡ None → ReadsAhead (BodyRead head.now.framing) (bytes_ahead (S.left source.old) self.old)
+            (bytes_ahead (S.left source.new) self.new) result }
+        ensures fault { self.old.fault ≡ None → self.new.fault ≡ fault_after result }
+        ensures again { IfSome self.old.fault (λ fault. Repeats fault self.old self.new source.old source.new result) }
+        ensures cause { self.old.fault ≡ None → IsErrOf result WireFault.ReadFault → Rose (S.faults source.old) (S.faults source.new) }
+        ensures kept { S.faults source.old ≤ S.faults source.new }
+    {
+        if let Some(fault) = self.fault {
+            return Err(fault);
+        }
+        match whole_body(self.alloc, &mut self.buffer, source, head.framing) {
+            Ok(body) => Ok(body),
+            Err(fault) => {
+                self.fault = Some(fault);
+                Err(fault)
+            }
+        }
+    }
+
+    /// The head of the next answer: its status, and its body's framing. A status of 1xx is given like any other.
+    ///
+    /// BadHead, HeadTooLong and EndedEarly say what the bytes are; ReadFault that the source failed.
+    pub fn read_answer<S: Source>(&mut self, source: &mut S) -> Result<(u16, Framing), WireFault>
+        ensures read { self.old.fault ≡ None → ReadsAhead AnswerRead (bytes_ahead (S.left source.old) self.old)
+            (bytes_ahead (S.left source.new) self.new) result }
+        ensures fault { self.old.fault ≡ None → self.new.fault ≡ fault_after result }
+        ensures again { IfSome self.old.fault (λ fault. Repeats fault self.old self.new source.old source.new result) }
+        ensures cause { self.old.fault ≡ None → IsErrOf result WireFault.ReadFault → Rose (S.faults source.old) (S.faults source.new) }
+        ensures kept { S.faults source.old ≤ S.faults source.new }
+    {
+        if let Some(fault) = self.fault {
+            return Err(fault);
+        }
+        match next_answer(&mut self.buffer, source) {
+            Ok(answer) => Ok(answer),
+            Err(fault) => {
+                self.fault = Some(fault);
+                Err(fault)
+            }
+        }
+    }
+
+    /// The next line of a body, with its line feed where it has one, or none at the body's end. The framing says how the
+    /// rest of the body goes on.
+    ///
+    /// BodyTooLong comes where more of the line came than the limit; the other faults are those of a body.
+    pub fn next_line<S: Source>(
+        &mut self,
+        source: &mut S,
+        framing: &mut Framing,
+    ) -> Result<Option<Bytes>, WireFault>
+        ensures read { self.old.fault ≡ None → ReadsAhead (NextLine framing.old framing.new) (bytes_ahead (S.left source.old) self.old)
+            (bytes_ahead (S.left source.new) self.new) result }
+        ensures fault { self.old.fault ≡ None → self.new.fault ≡ fault_after result }
+        ensures again { IfSome self.old.fault (λ fault. Repeats fault self.old self.new source.old source.new result) }
+        ensures cause { self.old.fault ≡ None → IsErrOf result WireFault.ReadFault → Rose (S.faults source.old) (S.faults source.new) }
+        ensures kept { S.faults source.old ≤ S.faults source.new }
+    {
+        if let Some(fault) = self.fault {
+            return Err(fault);
+        }
+        match whole_line(self.alloc, &mut self.buffer, source, framing) {
+            Ok(line) => Ok(line),
+            Err(fault) => {
+                self.fault = Some(fault);
+                Err(fault)
+            }
+        }
+    }
+}
