@@ -1,0 +1,10 @@
+//! Requests as JSON, both ways: what a client asks by a path and a body, and the same written for a call to a cluster.
+//!
+//! The mapping is that of etcd's JSON gateway, in the strict form that `json_model` defines.
+#![tactic(auto)]
+
+mod decode;
+mod paths;
+
+pub use decode::{decode_call, decode_request};
+pub use json_model::ApiFault;

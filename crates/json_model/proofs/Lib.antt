@@ -1,0 +1,10 @@
+pub mod OnLiterals
+pub mod Decimals
+pub mod Chains
+pub mod TransactionLemmas
+pub mod TextLemmas
+pub mod WrittenObjects
+pub mod WrittenValues
+pub mod Base64Forms
+pub mod RequestsBack
+pub mod WrittenTexts

@@ -1,0 +1,5 @@
+pub mod ComparesBack
+pub mod TransactionsBack
+pub mod PlainRequests
+pub mod ServedLemmas
+pub mod RequestBack

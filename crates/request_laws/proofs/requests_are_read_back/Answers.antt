@@ -1,0 +1,10 @@
+use Rattle.json_model.specs.declared.extra.Reading.TheVariants.{Client, Call}
+use Rattle.request_laws.proofs.RequestBack.{request_back}
+use Rattle.request_laws.proofs.ServedLemmas.{store_serves}
+use Rattle.request_laws.proofs.requests_are_read_back.Goals as goal
+
+pub returns-clause-by_a_store : goal.returns-clause-by_a_store
+returns-clause-by_a_store c = λ request fits. request_back Call request fits (store_serves request)
+
+pub returns-clause-by_a_client : goal.returns-clause-by_a_client
+returns-clause-by_a_client c = request_back Client
