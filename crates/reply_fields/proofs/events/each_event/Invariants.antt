@@ -1,0 +1,10 @@
+-- The events so far, and those that are left, are all.
+use Rattle.std.proofs.Common.{◌≡◌, drop}
+use Rattle.serde_json.specs.View.{items_view}
+use Rattle.json_model.specs.Fields.{each}
+use Rattle.json_model.specs.WatchItems.{event_of}
+use Rattle.json_model.proofs.Chains.{with_front}
+use Rattle.reply_fields.proofs.events.each_event.Given as goal
+
+abbrev pub invariant-loop-item : goal.invariant-loop-item
+invariant-loop-item l = with_front l.events (each event_of (items_view (drop l.item-index l.items))) ≡ each event_of (items_view l.items)
