@@ -50,17 +50,17 @@ echo 'building, which proves the crates first where no check has kept them ..'
 (cd "$work/crates/text_bench" && rt run < /dev/null > "$work/build.log" 2>&1) || { tail -20 "$work/build.log"; exit 1; }
 
 # so many times a text
-times() { yes "$2" | head -n "$1" | tr -d '\n'; }
+repeated() { yes "$2" | head -n "$1" | tr -d '\n'; }
 size=1048576
 { printf '> '; head -c $size /dev/zero | tr '\0' ' '; } > "$work/spaces"
 head -c $size /dev/zero > "$work/zero_bytes"
 { printf '> exec '; head -c $size /dev/zero | tr '\0' 9; } > "$work/digits"
 { printf 'asked 1 1 put '; head -c 1048500 /dev/zero | tr '\0' a; printf ' x 0 -'; } > "$work/long_key"
-{ printf 'asked 1 1 put '; times 349500 %00; printf ' x 0 -'; } > "$work/escaped_key"
-{ printf '> ask 1 1 '; times 131072 'txn 0 1 '; } > "$work/deep_transactions"
-{ printf 'asked 1 1 txn 0 87000'; times 87000 ' put a b 0 -'; printf ' 0'; } > "$work/many_operations"
-{ printf 'executed 1 ok 1.1.1.1 range 1 - 58000'; times 58000 ' aaaa bbbb 1 2 3 4'; } > "$work/many_records"
-{ printf 'executed 1 ok 1.1.1.1 leases 520000'; times 520000 ' 1'; } > "$work/many_leases"
+{ printf 'asked 1 1 put '; repeated 349500 %00; printf ' x 0 -'; } > "$work/escaped_key"
+{ printf '> ask 1 1 '; repeated 131072 'txn 0 1 '; } > "$work/deep_transactions"
+{ printf 'asked 1 1 txn 0 87000'; repeated 87000 ' put a b 0 -'; printf ' 0'; } > "$work/many_operations"
+{ printf 'executed 1 ok 1.1.1.1 range 1 - 58000'; repeated 58000 ' aaaa bbbb 1 2 3 4'; } > "$work/many_records"
+{ printf 'executed 1 ok 1.1.1.1 leases 520000'; repeated 520000 ' 1'; } > "$work/many_leases"
 {
     yes '> ask 1 1 range a ~ 0 0 -
 asked 1 1 put a x 0 -
