@@ -1,7 +1,7 @@
 -- The first field that isn't served, operation by operation.
 use Rattle.std.proofs.Common.{◌≡◌, ◌<◌, ℕ, zero, suc, ◌+◌, true, false, List, [], ◌∷◌, length, drop, slice_index_or, Option, None, Some, is_some, refl, sym, ◌∙◌, ap, arith}
 use Rattle.etcd_types.specs.declared.operation.Op.{Op}
-use Rattle.request_model.specs.RequestRefusals.{first_of, unserved_op, unserved_ops}
+use Rattle.proxy_model.specs.RequestRefusals.{first_of, unserved_op, unserved_ops}
 
 only_one : {A : Type 0} (o : Option A) → first_of (o ∷ []) ≡ o
 only_one None = refl

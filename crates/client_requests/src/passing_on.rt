@@ -1,5 +1,5 @@
 ghost use Rattle.std.specs.Prelude.{◌≡◌, IfOk};
-ghost use Rattle.request_model.specs.PassingOn.{chosen_lease, passed_on, replied, call_lost};
+ghost use Rattle.proxy_model.specs.PassingOn.{chosen_lease, passed_on, replied, call_lost};
 
 use etcd_types::{Answer, Bytes, NoMemory, Refusal, Request};
 use namespace_keys::{KeyFault, Namespace};

@@ -291,7 +291,7 @@ fn help_tells_of_the_commands(rt: HostRuntime) -> Result<(), Fail> {
     Ok(())
 }
 
-/// The script comes in pieces of 64 bytes, so that there are three reads of it and one of its end.
+/// The script comes in pieces of 64 bytes, so that there are two reads of it and one of its end.
 #[test]
 fn each_read_that_fails_ends_the_run(rt: HostRuntime) -> Result<(), Fail> {
     for failing in 1..=3 {

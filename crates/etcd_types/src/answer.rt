@@ -166,10 +166,10 @@ impl Answer {
     }
 }
 
-pub(crate) fn copy_record(alloc: Global, record: &Option<Kv>) -> Result<Option<Kv>, NoMemory>
-    ensures { IfOk result (λ copied. copied ≡ record.now) }
+pub(crate) fn copy_record(alloc: Global, kv: &Option<Kv>) -> Result<Option<Kv>, NoMemory>
+    ensures { IfOk result (λ copied. copied ≡ kv.now) }
 {
-    match record {
+    match kv {
         None => Ok(None),
         Some(kv) => Ok(Some(kv.copy(alloc)?)),
     }

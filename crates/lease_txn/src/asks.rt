@@ -1,40 +1,10 @@
-ghost use Rattle.std.specs.Prelude.{◌≡◌, ◌++◌, ◌∷◌, [], IfOk};
+ghost use Rattle.std.specs.Prelude.{◌≡◌, ◌∷◌, [], IfOk};
 ghost use Rattle.proxy_model.specs.Asks.{range_ask, read_op, created_at};
 ghost use Rattle.etcd_types.specs.Keys.{is_zero};
-ghost use Rattle.proxy_model.specs.Prefixes.{only, prefix_end, end_under, under};
+ghost use Rattle.proxy_model.specs.Prefixes.{only};
 
 use etcd_types::{Bytes, Compare, KeyRange, List, NoMemory, Op, RangeAsk, Relation, Sort, Target};
 use std::alloc::Global;
-
-/// One piece of bytes behind another.
-fn join(alloc: Global, front: &[u8], back: &[u8]) -> Result<Bytes, NoMemory>
-    ensures { IfOk result (λ bytes. bytes ≡ front.now ++ back.now) }
-{
-    let mut bytes = Vec::from_slice(alloc, front)?;
-    bytes.extend_from_slice(back)?;
-    Ok(Bytes::from_vec(bytes))
-}
-
-/// The key under the prefix.
-pub(crate) fn key_under(alloc: Global, prefix: &Bytes, key: &Bytes) -> Result<Bytes, NoMemory>
-    ensures { IfOk result (λ bytes. bytes ≡ prefix.now ++ key.now) }
-{
-    Ok(join(alloc, prefix.as_slice(), key.as_slice())?)
-}
-
-/// The end of the range of all keys with the prefix.
-pub(crate) fn prefix_end(alloc: Global, prefix: &Bytes) -> Result<Bytes, NoMemory>
-    ensures { IfOk result (λ end. end ≡ prefix_end prefix.now) }
-{
-    let mut rest = prefix.as_slice();
-    while let Some((last, front)) = rest.split_last() {
-        if *last < 255 {
-            return Ok(join(alloc, front, &[*last + 1])?);
-        }
-        rest = front;
-    }
-    Ok(Bytes::from_slice(alloc, &[0])?)
-}
 
 /// The range of the one key.
 pub(crate) fn only(alloc: Global, key: Bytes) -> KeyRange
@@ -44,31 +14,6 @@ pub(crate) fn only(alloc: Global, key: Bytes) -> KeyRange
         key,
         end: Bytes::new(alloc),
     }
-}
-
-/// The keys of the range, each under the prefix.
-pub(crate) fn range_under(
-    alloc: Global,
-    prefix: &Bytes,
-    range: &KeyRange,
-) -> Result<KeyRange, NoMemory>
-    ensures { IfOk result (λ wrapped. wrapped ≡ under prefix.now range.now) }
-{
-    let key = key_under(alloc, prefix, &range.key)?;
-    let end = end_under(alloc, prefix, &range.end)?;
-    Ok(KeyRange { key, end })
-}
-
-fn end_under(alloc: Global, prefix: &Bytes, end: &Bytes) -> Result<Bytes, NoMemory>
-    ensures { IfOk result (λ wrapped. wrapped ≡ end_under prefix.now end.now) }
-{
-    if end.is_empty() {
-        return Ok(Bytes::new(alloc));
-    }
-    if is_zero(end) {
-        return Ok(prefix_end(alloc, prefix)?);
-    }
-    Ok(key_under(alloc, prefix, end)?)
 }
 
 /// Whether these bytes are one zero byte, which as an end stands above every key.

@@ -4,13 +4,14 @@ ghost use Rattle.lease_txn.specs.Results.{Reads};
 ghost use Rattle.proxy_model.specs.Acquire.{acquire, claimed, claim_of};
 ghost use Rattle.std.specs.Option.{option_copied};
 
-use crate::asks::{created_at, key_under, only, read_op, two};
+use crate::asks::{created_at, only, read_op, two};
 use crate::fits::{branch_of, fits_txn, record_of};
 use crate::not_shape::NotShape;
 use crate::owner::owner_in;
 use etcd_types::{
     Body, Bytes, Compare, Kv, NoMemory, Op, PutAsk, Relation, Reply, Request, Target, TxnAsk,
 };
+use namespace_keys::key_under;
 use proxy_model::Claim;
 use std::alloc::Global;
 

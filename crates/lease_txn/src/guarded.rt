@@ -4,10 +4,11 @@ ghost use Rattle.proxy_model.specs.Guarded.{guarded, guard, read_owners, write_o
 ghost use Rattle.proxy_model.specs.SeveralKeys.{written_ranges};
 ghost use Rattle.lease_txn.specs.Writes.{IsSeveralKeys, IsTxn};
 
-use crate::asks::{created_at, one, only, range_under, read_op};
+use crate::asks::{created_at, one, only, read_op};
 use crate::parts::parts;
 use crate::ranges::add_all_written;
 use etcd_types::{Bytes, DeleteAsk, KeyRange, List, NoMemory, Op, Request, TxnAsk};
+use namespace_keys::range_under;
 use proxy_model::Owned;
 use std::alloc::Global;
 

@@ -3,8 +3,9 @@ ghost use Rattle.std.specs.Option.{option_to_list};
 ghost use Rattle.etcd_types.specs.Keys.{up_to};
 ghost use Rattle.proxy_model.specs.SeveralKeys.{parts, part_before, part_behind};
 
-use crate::asks::{is_zero, prefix_end};
+use crate::asks::is_zero;
 use etcd_types::{Bytes, KeyRange, NoMemory};
+use namespace_keys::prefix_end;
 use std::alloc::Global;
 
 /// What a range delete has to delete round the leasing range.

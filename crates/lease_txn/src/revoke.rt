@@ -6,11 +6,12 @@ ghost use Rattle.proxy_model.specs.Asks.{created_at};
 ghost use Rattle.proxy_model.specs.Prefixes.{only};
 ghost use Rattle.proxy_model.specs.Leaving.{rescind, guard_held};
 
-use crate::asks::{created_at, key_under, one, only};
+use crate::asks::{created_at, one, only};
 use crate::fits::{branch_of, is_delete, is_put};
 use crate::not_shape::NotShape;
 use crate::owner::REVOKE;
 use etcd_types::{Bytes, DeleteAsk, List, NoMemory, Op, PutAsk, Reply, Request, TxnAsk};
+use namespace_keys::key_under;
 use std::alloc::Global;
 
 /// Asks the owner of the key to give it up, as long as its ownership key is the one created at this revision.

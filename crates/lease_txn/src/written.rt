@@ -8,13 +8,13 @@ ghost use Rattle.proxy_model.specs.SeveralKeys.{joined};
 ghost use Rattle.lease_txn.specs.Results.{Reads};
 ghost use Rattle.lease_txn.specs.Writes.{are_deletes};
 
-use crate::asks::range_under;
 use crate::fits::{branch_of, fits_range, fits_txn, is_delete, is_put};
 use crate::guarded::written_ranges;
 use crate::not_shape::NotShape;
 use crate::owner::add_owners;
 use crate::parts::parts;
 use etcd_types::{Body, Bytes, KeyRange, Kv, List, NoMemory, Reply, Request};
+use namespace_keys::range_under;
 use proxy_model::{Owner, Written};
 use std::alloc::Global;
 

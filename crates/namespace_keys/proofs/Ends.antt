@@ -4,7 +4,7 @@ use Rattle.std.specs.List.{list_all}
 use Rattle.std.proofs.lemmas.Bool.Decides.{nat_tests}
 use Rattle.etcd_types.specs.Keys.{up_to, before, is_empty, is_zero}
 use Rattle.etcd_types.proofs.KeyOrder.{up_to-nothing}
-use Rattle.namespace_keys.specs.Prefix.{raised, raised_last, prefix_end, end_under}
+use Rattle.proxy_model.specs.Prefixes.{raised, raised_last, prefix_end, end_under}
 use Rattle.namespace_keys.specs.Laws.{are_bytes}
 use Rattle.namespace_keys.proofs.Order.{not_false, head_below, head_same, head_above, compared, head_between, nothing_above, with_head, up_to_under, has_prefix}
 

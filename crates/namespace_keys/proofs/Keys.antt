@@ -5,8 +5,8 @@ use Rattle.std.proofs.lemmas.Bool.Decides.{nat_tests}
 use Rattle.std.specs.List.{cons_option}
 use Rattle.std.proofs.lemmas.List.{append-nil, take_more}
 use Rattle.std.proofs.lemmas.List.Elements.{filter_map-append}
-use Rattle.namespace_keys.specs.Prefix.{without}
-use Rattle.namespace_keys.specs.Unwrapped.{own_keys}
+use Rattle.proxy_model.specs.Prefixes.{without}
+use Rattle.proxy_model.specs.Unwrapped.{own_keys}
 use Rattle.namespace_keys.specs.Laws.{WrappedKeysAreUnwrapped, UnwrappedKeysWereWrapped}
 
 itself : (b : ℕ) → (b == b) ≡ true

@@ -10,8 +10,8 @@ use Rattle.etcd_types.specs.declared.answer.Body.TheBlock.{hidden-the_row-Body-0
 use Rattle.namespace_keys.specs.declared.fault.KeyFault.{KeyFault}
 use Rattle.namespace_keys.specs.declared.fault.KeyFault.TheVariants.{ForeignKey, NoMemory}
 use Rattle.namespace_keys.specs.Returned.{Fails}
-use Rattle.namespace_keys.specs.Wrapped.{compare_under, operation_under, row_under, transaction_under}
-use Rattle.namespace_keys.specs.Unwrapped.{Unwrapped, ◌>>=◌, each, body_without, row_without, bodies_without}
+use Rattle.proxy_model.specs.Wrapped.{compare_under, operation_under, row_under, transaction_under}
+use Rattle.proxy_model.specs.Unwrapped.{Unwrapped, ◌>>=◌, each, body_without, row_without, bodies_without}
 
 row_under-items : {m : _} (p : List ℕ) (row : Row_of-Op m) → row_under p row ≡ map (operation_under p) (items-the_row-Op m row)
 row_under-items p end_of-Op = refl

@@ -4,7 +4,7 @@ use Rattle.etcd_types.specs.declared.key_range.KeyRange.{KeyRange}
 use Rattle.etcd_types.specs.Keys.{up_to, before, same, is_empty, is_zero}
 use Rattle.etcd_types.specs.Ranges.{contains}
 use Rattle.etcd_types.proofs.KeyOrder.{up_to-along, up_to-nothing, same-equal, same-itself}
-use Rattle.namespace_keys.specs.Prefix.{prefix_end, end_under, under}
+use Rattle.proxy_model.specs.Prefixes.{prefix_end, end_under, under}
 use Rattle.namespace_keys.specs.Laws.{are_bytes, is_left_out, WrappedKeysAreAsked, AskedKeysAreWrapped}
 use Rattle.namespace_keys.proofs.Order.{up_to_under, same_under, prefix_first, zero_up_to, behind}
 use Rattle.namespace_keys.proofs.Ends.{end_under-not_empty, ends_same, within_end, no_prefix}

@@ -3,7 +3,7 @@ use Rattle.std.proofs.Common.{◌≡◌, ℕ, ◌+◌, ◌<◌, suc, List, [], �
 use Rattle.std.proofs.lemmas.List.{take_more, take-append-drop}
 use Rattle.namespace_keys.specs.declared.fault.KeyFault.{KeyFault}
 use Rattle.namespace_keys.specs.declared.fault.KeyFault.TheVariants.{ForeignKey, NoMemory}
-use Rattle.namespace_keys.specs.Unwrapped.{Unwrapped, ◌>>=◌, each}
+use Rattle.proxy_model.specs.Unwrapped.{Unwrapped, ◌>>=◌, each}
 use Rattle.namespace_keys.specs.Returned.{Fails}
 
 bound : {A B : Type 0} (r : Unwrapped A) (f : A → Unwrapped B) (z : B) → (r >>= f) ≡ Ok z → (y : A) × (r ≡ Ok y) × (f y ≡ Ok z)

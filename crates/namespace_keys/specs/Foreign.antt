@@ -8,8 +8,8 @@ use Rattle.etcd_types.specs.declared.watch.Change.TheVariants as change
 use Rattle.etcd_types.specs.declared.watch.Event.{Event}
 use Rattle.etcd_types.specs.declared.watch.WatchItem.{WatchItem}
 use Rattle.etcd_types.specs.declared.watch.WatchItem.TheVariants as item
-use Rattle.namespace_keys.specs.Prefix.{without}
-use Rattle.namespace_keys.specs.Unwrapped.{Unwrapped}
+use Rattle.proxy_model.specs.Prefixes.{without}
+use Rattle.proxy_model.specs.Unwrapped.{Unwrapped}
 
 abbrev pub first_foreign : List ℕ → List (List ℕ) → Option (List ℕ)
 first_foreign p [] = None

@@ -7,8 +7,8 @@ use Rattle.etcd_types.specs.declared.answer.Reply.{Reply}
 use Rattle.etcd_types.specs.declared.watch.WatchItem.{WatchItem}
 use Rattle.etcd_types.specs.Keys.{is_empty, is_zero}
 use Rattle.etcd_types.specs.Ranges.{contains}
-use Rattle.namespace_keys.specs.Prefix.{without, prefix_end, under}
-use Rattle.namespace_keys.specs.Unwrapped.{own_keys, reply_without, item_without}
+use Rattle.proxy_model.specs.Prefixes.{without, prefix_end, under}
+use Rattle.proxy_model.specs.Unwrapped.{own_keys, reply_without, item_without}
 use Rattle.namespace_keys.specs.Foreign.{first_foreign, refused, body_keys, item_keys}
 
 abbrev pub are_bytes : List ℕ → Bool

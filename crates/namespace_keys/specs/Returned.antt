@@ -2,7 +2,7 @@
 use Rattle.std.specs.Prelude.{◌≡◌, ℕ, List, Result, Ok, Err}
 use Rattle.namespace_keys.specs.declared.fault.KeyFault.{KeyFault}
 use Rattle.namespace_keys.specs.declared.fault.KeyFault.TheVariants.{ForeignKey, NoMemory}
-use Rattle.namespace_keys.specs.Unwrapped.{Unwrapped}
+use Rattle.proxy_model.specs.Unwrapped.{Unwrapped}
 
 -- a foreign key is refused by name
 abbrev pub Fails : {A : Type 0} → KeyFault → Unwrapped A → Type 0

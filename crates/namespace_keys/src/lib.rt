@@ -15,7 +15,7 @@ pub use laws::{
     foreign_keys_are_named, worked_prefixes, wrapped_keys_come_back, wrapped_ranges_have_their_keys,
 };
 pub use namespace::Namespace;
-pub use prefix::prefix_end;
+pub use prefix::{key_under, prefix_end, range_under};
 
 #[cfg(test)]
 mod tests;

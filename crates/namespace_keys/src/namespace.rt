@@ -1,6 +1,6 @@
 ghost use Rattle.std.specs.Prelude.{◌≡◌, IfOk};
-ghost use Rattle.namespace_keys.specs.Wrapped.{request_under};
-ghost use Rattle.namespace_keys.specs.Unwrapped.{reply_without, item_without};
+ghost use Rattle.proxy_model.specs.Wrapped.{request_under};
+ghost use Rattle.proxy_model.specs.Unwrapped.{reply_without, item_without};
 ghost use Rattle.namespace_keys.specs.Returned.{Unwraps};
 
 use crate::fault::KeyFault;

@@ -1,6 +1,6 @@
 ghost use Rattle.std.specs.Prelude.{◌≡◌, ◌++◌, IfOk, MatchOption, None, Some};
 ghost use Rattle.etcd_types.specs.Keys.{is_zero};
-ghost use Rattle.namespace_keys.specs.Prefix.{prefix_end, end_under, under, without};
+ghost use Rattle.proxy_model.specs.Prefixes.{prefix_end, end_under, under, without};
 
 use etcd_types::{Bytes, KeyRange, NoMemory};
 use std::alloc::Global;
@@ -21,19 +21,16 @@ pub fn prefix_end(alloc: Global, prefix: &Bytes) -> Result<Bytes, NoMemory>
     Ok(Bytes::from_slice(alloc, b"\0")?)
 }
 
-/// The key under the prefix.
-pub(crate) fn key_under(alloc: Global, prefix: &Bytes, key: &Bytes) -> Result<Bytes, NoMemory>
+/// The key under the prefix. `NoMemory` where memory was wanting.
+pub fn key_under(alloc: Global, prefix: &Bytes, key: &Bytes) -> Result<Bytes, NoMemory>
     ensures { IfOk result (λ bytes. bytes ≡ prefix.now ++ key.now) }
 {
     Ok(join(alloc, prefix.as_slice(), key.as_slice())?)
 }
 
-/// The keys of the range, each under the prefix.
-pub(crate) fn range_under(
-    alloc: Global,
-    prefix: &Bytes,
-    range: &KeyRange,
-) -> Result<KeyRange, NoMemory>
+/// The keys of the range, each under the prefix: an empty end stays empty, and an end above every key becomes the prefix's
+/// own end. `NoMemory` where memory was wanting.
+pub fn range_under(alloc: Global, prefix: &Bytes, range: &KeyRange) -> Result<KeyRange, NoMemory>
     ensures { IfOk result (λ wrapped. wrapped ≡ under prefix.now range.now) }
 {
     Ok(KeyRange {

@@ -1,5 +1,5 @@
 ghost use Rattle.std.specs.Prelude.{◌≡◌, IfOk, map};
-ghost use Rattle.namespace_keys.specs.Wrapped.{range_under, put_under, delete_under, compare_under, watch_under, operation_under, transaction_under};
+ghost use Rattle.proxy_model.specs.Wrapped.{range_under, put_under, delete_under, compare_under, watch_under, operation_under, transaction_under};
 
 use crate::prefix::{key_under, range_under};
 use etcd_types::{

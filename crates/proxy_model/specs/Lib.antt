@@ -8,10 +8,14 @@ pub mod LeaseTable
 pub mod Leaving
 pub mod Limits
 pub mod Members
+pub mod PassingOn
 pub mod Prefixes
 pub mod Readings
+pub mod RequestRefusals
 pub mod Session
 pub mod SeveralKeys
 pub mod Snapshot
+pub mod Unwrapped
 pub mod Upstream
 pub mod Worked
+pub mod Wrapped

@@ -1,7 +1,14 @@
--- Keys under a prefix: a namespace puts one before every key, and so does the leasing range for ownership keys.
+-- Keys and ranges under a prefix, which is a list of bytes (etcd's documentation of clientv3's package `namespace`, and of
+-- `range_end` in the API reference): a namespace puts one before every key, and the leasing range before ownership keys.
 use Rattle.std.specs.Prelude.{ℕ, ◌+◌, ◌==◌, List, [], ◌∷◌, ◌++◌, Option, None, Some, unwrap_or, if◌then◌else◌}
 use Rattle.etcd_types.specs.declared.key_range.KeyRange.{KeyRange}
 use Rattle.etcd_types.specs.Keys.{is_empty, is_zero}
+
+-- what stands behind the prefix in a key, which may have another beginning
+abbrev pub without : List ℕ → List ℕ → Option (List ℕ)
+without [] k = Some k
+without (b ∷ bs) [] = None
+without (b ∷ bs) (c ∷ cs) = if b == c then without bs cs else None
 
 abbrev pub raised_last : ℕ → Option (List ℕ) → Option (List ℕ)
 raised_last b None = if b == 255 then None else Some ((b + 1) ∷ [])

@@ -7,9 +7,11 @@
 mod lease;
 mod ownership;
 mod session;
+mod unserved;
 mod worked;
 
 pub use lease::{Entry, Phase};
 pub use ownership::{Claim, Owned, Owner, Written};
 pub use session::Standing;
+pub use unserved::Unserved;
 pub use worked::worked_transactions;

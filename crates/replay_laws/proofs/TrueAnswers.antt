@@ -5,7 +5,7 @@ use Rattle.std.proofs.lemmas.List.{map-append}
 use Rattle.std.proofs.lemmas.Option.{slice_get-map}
 use Rattle.etcd_types.specs.declared.request.Request.{Request}
 use Rattle.etcd_types.specs.declared.answer.Refusal.{Refusal}
-use Rattle.request_model.specs.RequestRefusals.{refusal_of}
+use Rattle.proxy_model.specs.RequestRefusals.{refusal_of}
 use Rattle.etcd_types.specs.declared.answer.Answer.{Answer}
 use Rattle.script_text.specs.declared.line.Line.{Line}
 use Rattle.script_text.specs.declared.line.Line.TheVariants as line

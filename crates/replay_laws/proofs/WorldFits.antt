@@ -6,8 +6,8 @@ use Rattle.std.proofs.lemmas.List.{length-replicate}
 use Rattle.etcd_types.specs.declared.request.Request.{Request}
 use Rattle.etcd_types.specs.declared.request.Request.TheVariants as request
 use Rattle.etcd_types.specs.declared.answer.Refusal.{Refusal}
-use Rattle.request_model.specs.RequestRefusals.{refusal_of}
-use Rattle.request_model.specs.PassingOn.{passed_on}
+use Rattle.proxy_model.specs.RequestRefusals.{refusal_of}
+use Rattle.proxy_model.specs.PassingOn.{passed_on}
 use Rattle.etcd_types.specs.declared.answer.Answer.{Answer}
 use Rattle.script_text.specs.declared.line.Line.{Line}
 use Rattle.script_text.specs.declared.line.Line.TheVariants as line

@@ -8,8 +8,8 @@ use Rattle.etcd_types.specs.declared.request.Request.{Request}
 use Rattle.etcd_types.specs.declared.answer.Answer.{Answer}
 use Rattle.etcd_types.specs.declared.answer.Answer.TheVariants.{Refused}
 use Rattle.etcd_types.specs.declared.answer.Refusal.{Refusal}
-use Rattle.request_model.specs.RequestRefusals.{refusal_of}
-use Rattle.request_model.specs.PassingOn.{passed_on, replied}
+use Rattle.proxy_model.specs.RequestRefusals.{refusal_of}
+use Rattle.proxy_model.specs.PassingOn.{passed_on, replied}
 use Rattle.script_text.specs.declared.line.Line.{Line}
 use Rattle.script_text.specs.declared.line.Line.TheVariants as line
 use Rattle.script_text.specs.declared.item.Item.{Item}

@@ -1,6 +1,6 @@
 -- The operations so far have no field that isn't served.
 use Rattle.std.proofs.Common.{◌≡◌, drop}
-use Rattle.request_model.specs.RequestRefusals.{unserved_ops}
+use Rattle.proxy_model.specs.RequestRefusals.{unserved_ops}
 use Rattle.client_requests.proofs.refusals.unserved_of_operations.Given as goal
 
 abbrev pub invariant-loop-operation : goal.invariant-loop-operation

@@ -1,6 +1,6 @@
 -- What was left out at the end is all FF.
 use Rattle.std.proofs.Common.{◌≡◌, length}
-use Rattle.namespace_keys.specs.Prefix.{raised}
+use Rattle.proxy_model.specs.Prefixes.{raised}
 use Rattle.namespace_keys.proofs.prefix.prefix_end.Given as goal
 
 abbrev pub invariant-loop-last : goal.invariant-loop-last

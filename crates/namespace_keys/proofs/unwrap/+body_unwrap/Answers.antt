@@ -1,5 +1,5 @@
 use Rattle.std.proofs.lemmas.Result.{err_from_is_err_and}
-use Rattle.namespace_keys.specs.Unwrapped.{body_without}
+use Rattle.proxy_model.specs.Unwrapped.{body_without}
 use Rattle.namespace_keys.proofs.Nested.{transaction_unwraps, transaction_fails}
 use Rattle.namespace_keys.proofs.Turns.{each_more, each_fails}
 use Rattle.namespace_keys.proofs.unwrap.+body_unwrap.Goals as goal

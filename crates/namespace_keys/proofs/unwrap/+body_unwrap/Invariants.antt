@@ -1,6 +1,6 @@
 -- Those unwrapped so far are those of the front.
 use Rattle.std.proofs.Common.{◌≡◌, take, Ok}
-use Rattle.namespace_keys.specs.Unwrapped.{each, body_without}
+use Rattle.proxy_model.specs.Unwrapped.{each, body_without}
 use Rattle.namespace_keys.proofs.unwrap.+body_unwrap.Given as goal
 
 abbrev pub invariant-unwrap_bodies-loop-body : goal.invariant-unwrap_bodies-loop-body

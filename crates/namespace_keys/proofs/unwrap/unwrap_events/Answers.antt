@@ -1,5 +1,5 @@
 use Rattle.std.proofs.lemmas.Result.{err_from_is_err_and}
-use Rattle.namespace_keys.specs.Unwrapped.{event_without}
+use Rattle.proxy_model.specs.Unwrapped.{event_without}
 use Rattle.namespace_keys.proofs.Turns.{each_more, each_fails}
 use Rattle.namespace_keys.proofs.unwrap.unwrap_events.Goals as goal
 

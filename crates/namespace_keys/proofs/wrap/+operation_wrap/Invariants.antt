@@ -1,6 +1,6 @@
 -- Those wrapped so far are those of the front.
 use Rattle.std.proofs.Common.{◌≡◌, map, take}
-use Rattle.namespace_keys.specs.Wrapped.{operation_under}
+use Rattle.proxy_model.specs.Wrapped.{operation_under}
 use Rattle.namespace_keys.proofs.wrap.+operation_wrap.Given as goal
 
 abbrev pub invariant-wrap_operations-loop-operation : goal.invariant-wrap_operations-loop-operation

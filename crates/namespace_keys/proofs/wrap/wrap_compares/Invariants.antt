@@ -1,6 +1,6 @@
 -- Those wrapped so far are those of the front.
 use Rattle.std.proofs.Common.{◌≡◌, map, take}
-use Rattle.namespace_keys.specs.Wrapped.{compare_under}
+use Rattle.proxy_model.specs.Wrapped.{compare_under}
 use Rattle.namespace_keys.proofs.wrap.wrap_compares.Given as goal
 
 abbrev pub invariant-loop-compare : goal.invariant-loop-compare

@@ -10,7 +10,7 @@ use Rattle.etcd_types.specs.declared.operation.Op.TheVariants.{Range, Put, Delet
 use Rattle.etcd_types.specs.declared.request.WatchAsk.{WatchAsk}
 use Rattle.etcd_types.specs.declared.request.Request.{Request}
 use Rattle.etcd_types.specs.declared.request.Request.TheVariants as request
-use Rattle.namespace_keys.specs.Prefix.{under}
+use Rattle.proxy_model.specs.Prefixes.{under}
 
 abbrev pub range_under : List ℕ → RangeAsk → RangeAsk
 range_under p ask = record ask { range = under p ask.range }

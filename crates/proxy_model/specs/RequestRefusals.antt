@@ -10,8 +10,8 @@ use Rattle.etcd_types.specs.declared.request.Request.{Request}
 use Rattle.etcd_types.specs.declared.request.Request.TheVariants.{Range, Put, Delete, Txn, Grant, Revoke, KeepAlive, TimeToLive}
 use Rattle.store_model.specs.FirstRefusals.{compare_lacks_key}
 use Rattle.store_model.specs.Refusals.{key_not_provided}
-use Rattle.request_model.specs.declared.unserved.Unserved.{Unserved}
-use Rattle.request_model.specs.declared.unserved.Unserved.TheVariants.{IgnoreLease, NestedTxn}
+use Rattle.proxy_model.specs.declared.unserved.Unserved.{Unserved}
+use Rattle.proxy_model.specs.declared.unserved.Unserved.TheVariants.{IgnoreLease, NestedTxn}
 
 -- the first of them that is there
 abbrev pub first_of : {A : Type 0} → List (Option A) → Option A

@@ -10,7 +10,7 @@ use Rattle.etcd_types.specs.declared.watch.Change.TheVariants as change
 use Rattle.etcd_types.specs.declared.watch.Event.{Event}
 use Rattle.etcd_types.specs.declared.watch.WatchItem.{WatchItem}
 use Rattle.etcd_types.specs.declared.watch.WatchItem.TheVariants as item
-use Rattle.namespace_keys.specs.Prefix.{without}
+use Rattle.proxy_model.specs.Prefixes.{without}
 
 -- a value without the namespace, or the first foreign key in it
 abbrev pub Unwrapped : Type 0 → Type 0

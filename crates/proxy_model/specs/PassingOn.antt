@@ -6,8 +6,8 @@ use Rattle.etcd_types.specs.declared.answer.Refusal.{Refusal}
 use Rattle.etcd_types.specs.declared.answer.Reply.{Reply}
 use Rattle.etcd_types.specs.declared.request.Request.{Request}
 use Rattle.etcd_types.specs.declared.request.Request.TheVariants.{Grant}
-use Rattle.namespace_keys.specs.Wrapped.{request_under}
-use Rattle.namespace_keys.specs.Unwrapped.{Unwrapped, reply_without}
+use Rattle.proxy_model.specs.Wrapped.{request_under}
+use Rattle.proxy_model.specs.Unwrapped.{Unwrapped, reply_without}
 
 -- a lease number below the sessions', from the random word that came with the request
 abbrev pub chosen_lease : ℕ → ℕ

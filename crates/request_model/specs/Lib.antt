@@ -1,2 +1,0 @@
-pub mod PassingOn
-pub mod RequestRefusals
