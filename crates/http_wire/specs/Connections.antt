@@ -1,7 +1,8 @@
 -- A wire: what was read of a connection and not used yet, and the fault that it ended with.
-use Rattle.std.specs.Prelude.{◌≡◌, ℕ, List, Option, None, Some, Result, Ok, Err}
+use Rattle.std.specs.Prelude.{◌≡◌, ℕ, List, Option, None, Some, Result, Ok, Err, ⊤}
 use Rattle.std.specs.Io.KnownBytes.{prepend_known}
 use Rattle.http_wire.specs.declared.fault.WireFault.{WireFault}
+use Rattle.http_wire.specs.declared.fault.WireFault.TheVariants.{WriteFault}
 
 -- the bytes that were read and not used yet, and the fault of an earlier call
 pub record WireState : Type 0 where
@@ -22,3 +23,8 @@ pub record Repeats {S T : Type 0} (fault : WireFault) (before now : WireState) (
   pub answer : result ≡ Err fault
   pub wire_stays : now ≡ before
   pub source_stays : left ≡ source
+
+-- a fault that reading may have
+abbrev pub IsOfReading : WireFault → Type 0
+IsOfReading WriteFault = ⊥
+IsOfReading _ = ⊤

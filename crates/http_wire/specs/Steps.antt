@@ -24,9 +24,10 @@ going most next.Done all = only (Ended all)
 abbrev pub Breaks : Content → WireFault → Type 0
 Breaks c fault = IsTrue (is_of_bytes fault) → (c.bytes ≡ []) × IsBroken c.end fault
 
--- a fault that isn't about how many bytes there are
+-- a fault of reading that isn't about how many bytes a body has
 abbrev pub IsShort : WireFault → Type 0
 IsShort BodyTooLong = ⊥
+IsShort WriteFault = ⊥
 IsShort _ = ⊤
 
 -- one byte was there and taken, another stands in its place, or none comes

@@ -1,5 +1,6 @@
-ghost use Rattle.std.specs.Prelude.{◌≡◌, ◌≤◌, IsErrOf};
+ghost use Rattle.std.specs.Prelude.{◌≡◌, ◌≤◌, IfErr, IsErrOf};
 ghost use Rattle.outside.specs.Faults.{Rose};
+ghost use Rattle.http_wire.specs.Connections.{IsOfReading};
 ghost use Rattle.http_wire.specs.Heads.{HeadRead, AnswerRead};
 ghost use Rattle.http_wire.specs.Held.{ahead, ReadsAhead};
 
@@ -20,6 +21,7 @@ pub(crate) fn next_head<S: Source>(
     source: &mut S,
 ) -> Result<Option<Head>, WireFault>
     ensures read { ReadsAhead HeadRead (ahead (S.left source.old) buffer.old) (ahead (S.left source.new) buffer.new) result }
+    ensures reading { IfErr result IsOfReading }
     ensures cause { IsErrOf result WireFault.ReadFault → Rose (S.faults source.old) (S.faults source.new) }
     ensures kept { S.faults source.old ≤ S.faults source.new }
 {
@@ -41,6 +43,7 @@ pub(crate) fn next_answer<S: Source>(
     source: &mut S,
 ) -> Result<(u16, Framing), WireFault>
     ensures read { ReadsAhead AnswerRead (ahead (S.left source.old) buffer.old) (ahead (S.left source.new) buffer.new) result }
+    ensures reading { IfErr result IsOfReading }
     ensures cause { IsErrOf result WireFault.ReadFault → Rose (S.faults source.old) (S.faults source.new) }
     ensures kept { S.faults source.old ≤ S.faults source.new }
 {

@@ -1,5 +1,6 @@
-ghost use Rattle.std.specs.Prelude.{◌≡◌, ◌<◌, ◌≤◌, length, Ok, OnOk, IsErrOf, vec_len};
+ghost use Rattle.std.specs.Prelude.{◌≡◌, ◌<◌, ◌≤◌, length, Ok, OnOk, IfErr, IsErrOf, vec_len};
 ghost use Rattle.outside.specs.Faults.{Rose};
+ghost use Rattle.http_wire.specs.Connections.{IsOfReading};
 ghost use Rattle.http_wire.specs.Held.{ahead, ReadsAhead};
 ghost use Rattle.http_wire.specs.Steps as spec;
 
@@ -61,6 +62,7 @@ fn line_turn<S: Source>(
         (ahead (S.left source.old) buffer.old) (ahead (S.left source.new) buffer.new) result }
     ensures room { OnOk result (vec_len line.new ≤ LINE_LIMIT) }
     ensures more { result ≡ Ok Turn.More → vec_len line.old < vec_len line.new }
+    ensures reading { IfErr result IsOfReading }
     ensures cause { IsErrOf result WireFault.ReadFault → Rose (S.faults source.old) (S.faults source.new) }
     ensures kept { S.faults source.old ≤ S.faults source.new }
 {
@@ -90,6 +92,7 @@ pub(crate) fn whole_line<S: Source>(
 ) -> Result<Option<Bytes>, WireFault>
     ensures read { ReadsAhead (spec.NextLine framing.old framing.new)
         (ahead (S.left source.old) buffer.old) (ahead (S.left source.new) buffer.new) result }
+    ensures reading { IfErr result IsOfReading }
     ensures cause { IsErrOf result WireFault.ReadFault → Rose (S.faults source.old) (S.faults source.new) }
     ensures kept { S.faults source.old ≤ S.faults source.new }
 {

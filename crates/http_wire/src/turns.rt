@@ -1,5 +1,6 @@
 ghost use Rattle.std.specs.Prelude.{◌≡◌, ◌+◌, ◌<◌, ◌≤◌, true, length, Ok, OnOk, IfOk, IfErr, IfSome, IsErrOf, IsTrue, vec_len};
 ghost use Rattle.outside.specs.Faults.{Rose};
+ghost use Rattle.http_wire.specs.Connections.{IsOfReading};
 ghost use Rattle.http_wire.specs.Held.{held, ahead, ReadsAhead};
 ghost use Rattle.http_wire.specs.Bodies.{BodyRead};
 ghost use Rattle.http_wire.specs.Steps as spec;
@@ -55,6 +56,7 @@ fn body_turn<S: Source>(
         (ahead (S.left source.old) buffer.old) (ahead (S.left source.new) buffer.new) result }
     ensures room { OnOk result (vec_len body.new ≤ BODY_LIMIT) }
     ensures more { result ≡ Ok true → vec_len body.old < vec_len body.new }
+    ensures reading { IfErr result IsOfReading }
     ensures cause { IsErrOf result WireFault.ReadFault → Rose (S.faults source.old) (S.faults source.new) }
     ensures kept { S.faults source.old ≤ S.faults source.new }
 {
@@ -85,6 +87,7 @@ pub(crate) fn whole_body<S: Source>(
     first: Framing,
 ) -> Result<Bytes, WireFault>
     ensures read { ReadsAhead (BodyRead first) (ahead (S.left source.old) buffer.old) (ahead (S.left source.new) buffer.new) result }
+    ensures reading { IfErr result IsOfReading }
     ensures cause { IsErrOf result WireFault.ReadFault → Rose (S.faults source.old) (S.faults source.new) }
     ensures kept { S.faults source.old ≤ S.faults source.new }
 {

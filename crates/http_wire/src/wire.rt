@@ -1,4 +1,4 @@
-ghost use Rattle.std.specs.Prelude.{◌≡◌, ◌≤◌, [], None, IfOk, IfSome, IsErrOf};
+ghost use Rattle.std.specs.Prelude.{◌≡◌, ◌≤◌, [], None, IfOk, IfErr, IfSome, IsErrOf};
 ghost use Rattle.outside.specs.Faults.{Rose};
 
 use crate::buffer::Buffer;
@@ -36,7 +36,7 @@ impl Model for Wire {
 
 impl Wire {
     ghost use Rattle.http_wire.specs.Bodies.{BodyRead};
-    ghost use Rattle.http_wire.specs.Connections.{bytes_ahead, fault_after, Repeats};
+    ghost use Rattle.http_wire.specs.Connections.{bytes_ahead, fault_after, IsOfReading, Repeats};
     ghost use Rattle.http_wire.specs.Heads.{HeadRead, AnswerRead};
     ghost use Rattle.http_wire.specs.Held.{ReadsAhead};
     ghost use Rattle.http_wire.specs.Steps.{NextLine};
@@ -62,6 +62,7 @@ impl Wire {
             (bytes_ahead (S.left source.new) self.new) result }
         ensures fault { self.old.fault ≡ None → self.new.fault ≡ fault_after result }
         ensures again { IfSome self.old.fault (λ fault. Repeats fault self.old self.new source.old source.new result) }
+        ensures reading { self.old.fault ≡ None → IfErr result IsOfReading }
         ensures cause { self.old.fault ≡ None → IsErrOf result WireFault.ReadFault → Rose (S.faults source.old) (S.faults source.new) }
         ensures kept { S.faults source.old ≤ S.faults source.new }
     {
@@ -86,6 +87,7 @@ impl Wire {
             (bytes_ahead (S.left source.new) self.new) result }
         ensures fault { self.old.fault ≡ None → self.new.fault ≡ fault_after result }
         ensures again { IfSome self.old.fault (λ fault. Repeats fault self.old self.new source.old source.new result) }
+        ensures reading { self.old.fault ≡ None → IfErr result IsOfReading }
         ensures cause { self.old.fault ≡ None → IsErrOf result WireFault.ReadFault → Rose (S.faults source.old) (S.faults source.new) }
         ensures kept { S.faults source.old ≤ S.faults source.new }
     {
@@ -109,6 +111,7 @@ impl Wire {
             (bytes_ahead (S.left source.new) self.new) result }
         ensures fault { self.old.fault ≡ None → self.new.fault ≡ fault_after result }
         ensures again { IfSome self.old.fault (λ fault. Repeats fault self.old self.new source.old source.new result) }
+        ensures reading { self.old.fault ≡ None → IfErr result IsOfReading }
         ensures cause { self.old.fault ≡ None → IsErrOf result WireFault.ReadFault → Rose (S.faults source.old) (S.faults source.new) }
         ensures kept { S.faults source.old ≤ S.faults source.new }
     {
@@ -137,6 +140,7 @@ impl Wire {
             (bytes_ahead (S.left source.new) self.new) result }
         ensures fault { self.old.fault ≡ None → self.new.fault ≡ fault_after result }
         ensures again { IfSome self.old.fault (λ fault. Repeats fault self.old self.new source.old source.new result) }
+        ensures reading { self.old.fault ≡ None → IfErr result IsOfReading }
         ensures cause { self.old.fault ≡ None → IsErrOf result WireFault.ReadFault → Rose (S.faults source.old) (S.faults source.new) }
         ensures kept { S.faults source.old ≤ S.faults source.new }
     {
