@@ -1,0 +1,3 @@
+pub mod BodyLemmas
+pub mod ItemLemmas
+pub mod NoFloats

@@ -1,4 +1,3 @@
-ghost use Rattle.std.specs.Prelude.{◌≡◌};
 ghost use Rattle.serde_json.specs.View.{members_view};
 ghost use Rattle.serde_json.specs.Read.{max_depth};
 ghost use Rattle.json_model.specs.declared.extra.Reading.TheVariants.{Client, Call};

@@ -4,7 +4,11 @@
 #![tactic(auto)]
 
 mod decode;
+mod encode;
+mod fields;
 mod paths;
+mod transactions;
 
 pub use decode::{decode_call, decode_request};
+pub use encode::encode_request;
 pub use json_model::ApiFault;

@@ -8,3 +8,5 @@ pub mod WrittenValues
 pub mod Base64Forms
 pub mod RequestsBack
 pub mod WrittenTexts
+pub mod NoFloats
+pub mod ItemsSoFar

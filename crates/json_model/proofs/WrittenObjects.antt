@@ -38,11 +38,11 @@ and_parts : (a b : Bool) → a && b ≡ true → (a ≡ true) × (b ≡ true)
 and_parts true b e = (refl, e)
 and_parts false b e = absurd (cc)
 
-or_parts : (a b : Bool) → a || b ≡ false → (a ≡ false) × (b ≡ false)
+pub or_parts : (a b : Bool) → a || b ≡ false → (a ≡ false) × (b ≡ false)
 or_parts true b e = absurd (cc)
 or_parts false b e = (refl, e)
 
-or_false : (a b : Bool) → a ≡ false → b ≡ false → a || b ≡ false
+pub or_false : (a b : Bool) → a ≡ false → b ≡ false → a || b ≡ false
 or_false true b e f = e
 or_false false b e f = f
 

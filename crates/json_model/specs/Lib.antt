@@ -21,3 +21,4 @@ pub mod Answers
 pub mod WatchItems
 pub mod WrittenReplies
 pub mod Fits
+pub mod FitReplies
