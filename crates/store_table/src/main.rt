@@ -7,10 +7,9 @@
 #![tactic(auto)]
 
 mod trial;
-mod wrong;
 
 use crate::trial::Trial;
-use crate::wrong::Wrong;
+use table_rows::Wrong;
 
 fn main(rt: HostRuntime) -> Result<(), Wrong> {
     let alloc = rt.alloc();

@@ -4,11 +4,11 @@ ghost use Rattle.store_model.specs.State.{State, HasMember};
 ghost use Rattle.store_model.specs.Step.{IsExecuted};
 ghost use Rattle.store_world.specs.Store.{Stands};
 
-use crate::wrong::Wrong;
 use etcd_types::{Request, WatchAsk, WatchItem};
 use message_text::Text;
 use std::alloc::Global;
 use store_world::{Store, StoreFault};
+use table_rows::Wrong;
 use text_words::{Words, is_word, read_number, read_number_within};
 
 const MOST_REVISIONS: u64 = 1_000_000;

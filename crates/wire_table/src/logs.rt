@@ -1,11 +1,10 @@
 //! What a wire makes of a source, as text.
 
 use crate::pieces::Pieces;
-use crate::wrong::Wrong;
 use etcd_types::Bytes;
 use http_wire::{Framing, Head, Wire, WireFault};
 use std::alloc::Global;
-use std::str;
+use table_rows::{Wrong, text};
 
 const MOST_REQUESTS: u32 = 8;
 
@@ -167,12 +166,4 @@ fn length_told(alloc: Global, read: Result<Bytes, WireFault>) -> Result<String, 
         Err(fault) => write!(told, "{fault}")?,
     }
     Ok(told)
-}
-
-/// The bytes as a text, or `?` where they are none.
-pub fn text(bytes: &[u8]) -> &str {
-    match str::from_utf8(bytes) {
-        Ok(text) => text,
-        Err(_) => "?",
-    }
 }

@@ -20,10 +20,9 @@ mod outcome;
 mod part;
 mod pieces;
 mod trial;
-mod wrong;
 
 use crate::trial::try_line;
-use crate::wrong::Wrong;
+use table_rows::Wrong;
 
 fn main(rt: HostRuntime) -> Result<(), Wrong> {
     let alloc = rt.alloc();

@@ -1,12 +1,11 @@
-use crate::logs::text;
 use crate::outcome::Outcome;
-use crate::wrong::Wrong;
 use etcd_types::Bytes;
 use http_wire::{
     WireFault, begin_chunks, end_chunks, write_call, write_chunk, write_continue, write_reply,
 };
 use outside::MemSink;
 use std::alloc::Global;
+use table_rows::{Wrong, text};
 use text_words::{Words, is_word, read_bytes, read_number_within};
 
 /// What is told behind the bytes that a sink took before it failed.

@@ -2,9 +2,9 @@ use crate::logs::{answers, body_length, line_length, requests};
 use crate::outcome::Outcome;
 use crate::part::{Part, try_call};
 use crate::pieces::Pieces;
-use crate::wrong::Wrong;
 use etcd_types::Bytes;
 use std::alloc::Global;
+use table_rows::Wrong;
 use text_words::{Words, is_word, read_bytes, read_number_within};
 
 /// How a log ends where a read failed.
