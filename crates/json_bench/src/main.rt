@@ -1,0 +1,58 @@
+//! Measures how fast a JSON body is read as a request, and the request written again. The one word is the path of the
+//! request; the body is the standard input.
+#![tactic(auto)]
+
+use api_request::{ApiFault, decode_request, encode_request};
+use etcd_types::Request;
+use std::alloc::Global;
+use std::io::Read;
+use std::time::Instant;
+use std::{env, io};
+
+/// Microseconds since then.
+fn micros(rt: &HostRuntime, start: &Instant) -> io::Result<u128> {
+    Ok(start.elapsed(rt)?.as_micros())
+}
+
+/// The length of the request's own text, where it finds memory.
+fn written_length(alloc: Global, request: &Request) -> usize {
+    match encode_request(alloc, request) {
+        Ok((_, text)) => text.as_slice().len(),
+        Err(_) => 0,
+    }
+}
+
+fn tell(
+    rt: &HostRuntime,
+    alloc: Global,
+    length: usize,
+    read: Result<Request, ApiFault>,
+    taken: u128,
+) -> io::Result<()> {
+    match read {
+        Err(fault) => println!(rt; "{length} bytes: {fault}, {taken} us"),
+        Ok(request) => {
+            let start = Instant::now(rt)?;
+            let written = written_length(alloc, &request);
+            let writing = micros(rt, &start)?;
+            println!(rt; "{length} bytes: read, {taken} us; {written} bytes written, {writing} us")
+        }
+    }
+}
+
+fn main(rt: HostRuntime) -> io::Result<()> {
+    let alloc: Global = rt.alloc();
+    let mut words = Vec::new(alloc);
+    for word in env::args(&rt)?.skip(1) {
+        words.push(word)?;
+    }
+    let [path] = words.as_slice() else {
+        return println!(rt; "json_bench PATH < BODY");
+    };
+    let mut body = Vec::new(alloc);
+    rt.reader().read_to_end(&mut body)?;
+    let start = Instant::now(&rt)?;
+    let read = decode_request(alloc, path.as_bytes(), body.as_slice());
+    let taken = micros(&rt, &start)?;
+    tell(&rt, alloc, body.len(), read, taken)
+}
