@@ -1,5 +1,5 @@
 -- Names in a text, and lowerCamelCase.
-use Rattle.std.proofs.Common.{◌≡◌, ℕ, true, false, ◌==◌, List, [], ◌∷◌, length, refl}
+use Rattle.std.proofs.Common.{◌≡◌, ℕ, false, ◌==◌, List, [], ◌∷◌, length, refl}
 use Rattle.std.specs.List.{slice_split}
 use Rattle.json_model.specs.Names.{words}
 

@@ -1,8 +1,8 @@
 -- The four forms of base64 are read, and nothing else is.
-use Rattle.std.proofs.Common.{◌≡◌, ◌⊎◌, inl, inr, ℕ, List, Option, Some, None, Result, Ok, Err, refl, sym, ap, ◌∙◌}
+use Rattle.std.proofs.Common.{◌≡◌, ◌⊎◌, inl, inr, ℕ, List, Option, Some, None, Result, Ok, Err, refl, ap, ◌∙◌}
 use Rattle.base64.specs.declared.engine.general_purpose.GeneralPurpose.{GeneralPurpose}
 use Rattle.base64.specs.Engines.{standard, standard_no_pad, url_safe, url_safe_no_pad}
-use Rattle.base64.specs.GeneralPurpose.{encode_of, decode_of, IsBytes, IsStrict, IsConsistent}
+use Rattle.base64.specs.GeneralPurpose.{encode_of, IsBytes, IsStrict, IsConsistent}
 use Rattle.base64.proofs.EngineFacts.{decode_of-encode_of, decode_of_strict}
 use Rattle.json_model.specs.Base64.{ok_of, or_else, decoded_by, decoded, IsBase64}
 

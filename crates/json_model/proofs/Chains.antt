@@ -1,9 +1,8 @@
 -- A chain of steps that may be a fault, and what a body gave of its first step.
-use Rattle.std.proofs.Common.{◌≡◌, List, ◌++◌, Result, Ok, Err, ap}
-use Rattle.std.specs.Prelude.{⊤}
+use Rattle.std.proofs.Common.{List, ◌++◌, Result, Ok, ap}
 use Rattle.json_model.specs.declared.fault.FieldFault.{FieldFault}
 use Rattle.json_model.specs.declared.fault.FieldFault.TheVariants as fields
-use Rattle.json_model.specs.Faults.{◌>>=◌, FieldFails, Gives}
+use Rattle.json_model.specs.Faults.{◌>>=◌, FieldFails}
 
 -- the first fault is the chain's
 pub fails_first : {A B : Type 0} (e : FieldFault) (r : Result A FieldFault) (f : A → Result B FieldFault) → FieldFails e r → FieldFails e (r >>= f)

@@ -1,14 +1,13 @@
 -- Decimal text and what std's `parse` reads.
-use Rattle.std.proofs.Common.{◌≡◌, ℕ, zero, suc, ◌<◌, ◌≤◌, ◌^◌, ◌+◌, Bool, true, false, cond, ◌&&◌, not, List, [], ◌∷◌, length, drop, get_or, Option, Some, None, Result, Ok, Err, option_map, option_and_then, pos, neg_ℤ, ℤ, refl, sym, ◌∙◌, ap, arith, rules, decimal}
-use Rattle.std.proofs.lemmas.Int.{ints}
+use Rattle.std.proofs.Common.{◌≡◌, ℕ, ◌<◌, ◌≤◌, ◌^◌, ◌+◌, Bool, true, false, cond, ◌&&◌, List, [], ◌∷◌, length, drop, get_or, Some, None, Result, Ok, Err, option_and_then, pos, neg_ℤ, ℤ, refl, sym, ◌∙◌, ap, arith, rules}
 use Rattle.std.specs.Char.{is_ascii_digit}
 use Rattle.std.specs.Int.{w64}
 use Rattle.std.specs.List.{list_all}
 use Rattle.std.specs.Result.{OkIff, result_ok}
-use Rattle.std.specs.Str.Parse.{ParsesUnsigned, ParsesSigned, digits_value, starts_with_minus}
-use Rattle.std.proofs.lemmas.Bool.{lt-ltb, le-ltb, ltb-true}
+use Rattle.std.specs.Str.Parse.{ParsesUnsigned, ParsesSigned, digits_value}
+use Rattle.std.proofs.lemmas.Bool.{lt-ltb, le-ltb}
 use Rattle.std.proofs.lemmas.Str.Parse.{IsNumeralModel, numerals_by_value, parse_digits, parse_signed_minus}
-use Rattle.json_model.specs.Numbers.{begins_well, is_canonical, below, decimal_of, unless_zero, negative_of, signed_of}
+use Rattle.json_model.specs.Numbers.{begins_well, is_canonical, below, decimal_of, unless_zero, negative_of}
 
 pub own : IsNumeralModel (λ ds. list_all is_ascii_digit ds ≡ true) (digits_value 10)
 own = numerals_by_value _ (search rules)

@@ -1,25 +1,16 @@
 -- A request's fields are read back as they are written, but for transactions.
-use Rattle.std.proofs.Common.{◌≡◌, ℕ, zero, suc, ◌<◌, ◌≤◌, ◌^◌, Bool, true, false, List, [], ◌∷◌, Option, Some, None, Result, Ok, Err, refl, sym, ap, ◌∙◌, arith}
-use Rattle.base64.specs.GeneralPurpose.{IsBytes}
-use Rattle.serde_json.specs.Data.{no_items}
+use Rattle.std.proofs.Common.{◌≡◌, ℕ, zero, suc, ◌<◌, Bool, false, [], Ok, refl, arith}
 use Rattle.etcd_types.specs.declared.operation.RangeAsk.{RangeAsk}
 use Rattle.etcd_types.specs.declared.operation.PutAsk.{PutAsk}
 use Rattle.etcd_types.specs.declared.operation.DeleteAsk.{DeleteAsk}
-use Rattle.etcd_types.specs.declared.operation.Compare.{Compare}
-use Rattle.etcd_types.specs.declared.operation.Target.{Target}
-use Rattle.etcd_types.specs.declared.operation.Target.TheVariants.{Version, Create, Modified, Value, Lease}
-use Rattle.etcd_types.specs.declared.operation.Relation.{Relation}
-use Rattle.etcd_types.specs.declared.operation.Relation.TheVariants.{Equal, Greater, Less, NotEqual}
-use Rattle.etcd_types.specs.declared.request.WatchAsk.{WatchAsk}
 use Rattle.etcd_types.specs.declared.request.Request.TheVariants as request
 use Rattle.json_model.specs.FieldNames as names
-use Rattle.json_model.specs.Tables.{range_fields, put_fields, delete_fields, compaction_fields, grant_fields, lease_fields, time_to_live_fields, no_fields, create_fields, watch_fields, compare_fields, sort_orders, sort_targets, relations, targets, filters}
-use Rattle.json_model.specs.Known.{only}
-use Rattle.json_model.specs.Fields.{present, read_or, choice_from, number_at, bytes_at, flag_at, choice_at, list_at, child_at, items_or_none, each}
-use Rattle.json_model.specs.Written.{Field, members_of, object_of, number_value, bytes_value, flag_value, choice_value, list_value}
-use Rattle.json_model.specs.WrittenRequests.{range_written, put_written, delete_written, compact_written, grant_written, lease_written, time_to_live_written, compare_written, compare_value, operand_written, relation_number, target_number, create_written, watch_written, filter_items}
+use Rattle.json_model.specs.Tables.{range_fields, put_fields, delete_fields, compaction_fields, grant_fields, lease_fields, time_to_live_fields, no_fields, sort_orders, sort_targets}
+use Rattle.json_model.specs.Fields.{present, read_or, choice_from}
+use Rattle.json_model.specs.Written.{members_of, choice_value}
+use Rattle.json_model.specs.WrittenRequests.{range_written, put_written, delete_written, compact_written, grant_written, lease_written, time_to_live_written}
 use Rattle.json_model.specs.Requests.{key_range_in, limits_in, sorting_in, range_flags_in, bounds_in, range_in, ignored_in, put_in, delete_in, compact_in, grant_in, lease_in, time_to_live_in, leases_in}
-use Rattle.json_model.specs.Fits.{IsNumber, RangeFits, PutFits, DeleteFits, CompareFits, OperandFits, WatchFits}
+use Rattle.json_model.specs.Fits.{IsNumber, RangeFits, PutFits, DeleteFits}
 use Rattle.json_model.proofs.WrittenObjects.{one_name, two_names, only_written}
 use Rattle.json_model.proofs.WrittenValues.{number_back, bytes_back, flag_back, choice_back}
 

@@ -14,7 +14,7 @@ use Rattle.json_model.specs.Faults.{◌>>=◌}
 use Rattle.json_model.specs.Base64.{or_else}
 use Rattle.json_model.specs.Names.{words, camel, field_of}
 use Rattle.json_model.specs.FieldNames.{FieldName}
-use Rattle.json_model.specs.Fields.{present, found, value_at}
+use Rattle.json_model.specs.Fields.{present, value_at}
 use Rattle.json_model.specs.Known.{has_key, is_twice, known, all_known, only, first_twice, unless_twice, once}
 use Rattle.json_model.specs.Written.{Field, with_field, with_fields, members_of}
 

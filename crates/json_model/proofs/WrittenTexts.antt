@@ -1,11 +1,10 @@
 -- The text that is written for a value is read as the value.
-use Rattle.std.proofs.Common.{◌≡◌, ℕ, suc, ◌<◌, ◌≤◌, ◌^◌, Bool, true, false, ◌||◌, List, [], ◌∷◌, ◌++◌, length, max, Option, Some, None, option_map, option_and_then, Ordering, Less, Equal, Greater, decimal, refl, sym, ap, ap₂, ◌∙◌, subst, arith, append-nil, nat_cmp}
+use Rattle.std.proofs.Common.{◌≡◌, ℕ, suc, ◌<◌, ◌≤◌, ◌^◌, Bool, true, false, List, [], ◌∷◌, max, Option, Some, None, option_map, option_and_then, Ordering, Less, Equal, Greater, decimal, refl, sym, ap, ap₂, ◌∙◌, arith, append-nil, nat_cmp}
 use Rattle.std.specs.Prelude.{⊤, IsUtf8}
 use Rattle.std.specs.Ordering.{match_ordering, ordering_reverse}
 use Rattle.std.specs.Cmp.Lexicographic.{slice_cmp}
 use Rattle.std.proofs.lemmas.Cmp.{nat_list_cmp_total}
 use Rattle.std.proofs.lemmas.Fmt.{IsAscii-decimal}
-use Rattle.std.proofs.lemmas.Map.Lookups.{exact_bytes}
 use Rattle.std.proofs.lemmas.Str.{IsUtf8-from_ascii, IsUtf8-append, IsUtf8-nil}
 use Rattle.json.specs.Lex.{tokens}
 use Rattle.json.specs.Print.{print, quoted, token_text}
@@ -17,11 +16,11 @@ use Rattle.json.proofs.Printed.Trees.{document-print, value-json_tokens}
 use Rattle.json.proofs.Printed.Utf8.{IsUtf8-are_ascii, IsUtf8-quoted, IsUtf8-boolean}
 use Rattle.json.proofs.Unique.Spelling.{tokens-document}
 use Rattle.serde_json.specs.Data.{Num, unsigned, negative, float, Data, null, boolean, number, string, array, object, Items, no_items, item, Members, no_members, member, put, depth, items_depth, members_depth}
-use Rattle.serde_json.specs.Read.{read, max_depth, number_of, of_json, of_items, of_members}
-use Rattle.serde_json.specs.Written.{outline, items_outline, members_outline, number_text, has_float, items_have_float, members_have_float, compact_text, items_text, members_text, comma_if}
+use Rattle.serde_json.specs.Read.{read, max_depth, of_json, of_items, of_members}
+use Rattle.serde_json.specs.Written.{outline, items_outline, members_outline, has_float, items_have_float, members_have_float, compact_text, items_text, members_text, comma_if}
 use Rattle.serde_json.proofs.Numbers.{number_of-decimal}
 use Rattle.serde_json.proofs.Texts.{print-outline}
-use Rattle.json_model.specs.Texts.{json_of, object_of}
+use Rattle.json_model.specs.Texts.{object_of}
 use Rattle.json_model.specs.Written.{Field, with_field, with_fields, members_of}
 use Rattle.json_model.proofs.TextLemmas.{json_is}
 

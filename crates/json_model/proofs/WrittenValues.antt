@@ -1,25 +1,21 @@
 -- What is written for a value is read back as the value.
-use Rattle.std.proofs.Common.{◌≡◌, ◌⊎◌, inl, inr, ℕ, zero, suc, ◌<◌, ◌≤◌, ◌^◌, ◌==◌, Bool, true, false, not, cond, ◌&&◌, ℤ, pos, negsuc, List, [], ◌∷◌, length, get_or, lit<, Option, Some, None, Result, Ok, Err, option_map, option_and_then, decimal, refl, sym, ap, ◌∙◌, arith, rules}
-use Rattle.std.specs.Prelude.{⊤}
-use Rattle.std.specs.Char.{is_ascii_digit}
-use Rattle.std.specs.Fmt.{signed_decimal}
-use Rattle.std.specs.List.{list_all, AllByRecursion}
-use Rattle.std.specs.Str.Parse.{digits_value}
+use Rattle.std.proofs.Common.{◌≡◌, ◌⊎◌, inl, inr, ℕ, zero, suc, ◌<◌, ◌^◌, ◌==◌, Bool, true, false, not, cond, ◌&&◌, List, [], ◌∷◌, length, get_or, lit<, Option, Some, None, Result, Ok, decimal, refl, ap, ◌∙◌, arith}
+use Rattle.std.specs.List.{AllByRecursion}
 use Rattle.std.proofs.lemmas.Bool.{lt-ltb}
 use Rattle.std.proofs.lemmas.Bool.Decides.{nat_tests}
 use Rattle.std.proofs.lemmas.Fmt.{digits_decimal, digits_value-decimal, first_decimal, decimal_nonempty, decimal_digit}
 use Rattle.base64.specs.Engines.{standard}
-use Rattle.base64.specs.GeneralPurpose.{encode_of, decode_of, IsBytes}
+use Rattle.base64.specs.GeneralPurpose.{encode_of, IsBytes}
 use Rattle.base64.proofs.EngineFacts.{decode_of-encode_of}
-use Rattle.serde_json.specs.Data.{Data, string, array, object, boolean, Items, no_items, item, Members}
+use Rattle.serde_json.specs.Data.{Data, object, Items, no_items, item, Members}
 use Rattle.json_model.specs.declared.fault.FieldFault.{FieldFault}
 use Rattle.json_model.specs.Faults.{◌>>=◌}
-use Rattle.json_model.specs.Base64.{ok_of, or_else, decoded_by, decoded}
+use Rattle.json_model.specs.Base64.{or_else, decoded}
 use Rattle.json_model.specs.FieldNames.{FieldName}
-use Rattle.json_model.specs.Numbers.{begins_well, is_canonical, below, decimal_of, signed_of}
+use Rattle.json_model.specs.Numbers.{begins_well, is_canonical, below, decimal_of}
 use Rattle.json_model.specs.Fields as fields
 use Rattle.json_model.specs.Fields.{present, read_or, number_from, signed_from, bytes_from, flag_from, choice_from, items_from, number_at, wide_at, signed_at, bytes_at, flag_at, choice_at, list_at, child_at, value_at, items_or_none, each}
-use Rattle.json_model.specs.Written.{Field, members_of, number_value, signed_value, bytes_value, flag_value, choice_value, list_value, text_of, items_of}
+use Rattle.json_model.specs.Written.{Field, members_of, number_value, bytes_value, flag_value, choice_value, list_value, text_of, items_of}
 use Rattle.json_model.proofs.Decimals.{own}
 use Rattle.json_model.proofs.WrittenObjects.{lookup, distinct, found_written}
 

@@ -1,6 +1,6 @@
 -- The JSON mapping of answers: which answer to a request a status and a body are. Whatever isn't in the mapping is
 -- unreadable.
-use Rattle.std.specs.Prelude.{ℕ, ◌^◌, ◌==◌, ◌||◌, nat_lt, not, if◌then◌else◌, Bool, true, false, List, [], ◌∷◌, Option, Some, None, Result, Ok, Err}
+use Rattle.std.specs.Prelude.{ℕ, ◌^◌, ◌==◌, ◌||◌, nat_lt, not, if◌then◌else◌, List, [], Option, Some, None, Result, Ok, Err}
 use Rattle.serde_json.specs.Data.{Data, null, boolean, number, string, array, object, Members}
 use Rattle.serde_json.specs.Read.{max_depth}
 use Rattle.etcd_types.specs.declared.request.Request.{Request}

@@ -1,5 +1,5 @@
 -- What a compare of a transaction says.
-use Rattle.std.specs.Prelude.{ℕ, ◌==◌, if◌then◌else◌, Bool, true, false, List, [], codes, Result, Ok, Err}
+use Rattle.std.specs.Prelude.{ℕ, ◌==◌, if◌then◌else◌, Bool, true, false, List, [], Result, Ok, Err}
 use Rattle.serde_json.specs.Data.{Data, Members}
 use Rattle.etcd_types.specs.declared.operation.Compare.{Compare}
 use Rattle.etcd_types.specs.declared.operation.Target.{Target}

@@ -1,5 +1,5 @@
 -- Results that may be a fault, and what a body's result has to do with a definition's.
-use Rattle.std.specs.Prelude.{◌≡◌, List, Result, Ok, Err, ⊤}
+use Rattle.std.specs.Prelude.{◌≡◌, Result, Ok, Err, ⊤}
 use Rattle.json_model.specs.declared.fault.FieldFault.{FieldFault}
 use Rattle.json_model.specs.declared.fault.FieldFault.TheVariants as fields
 use Rattle.json_model.specs.declared.fault.ApiFault.{ApiFault}

@@ -1,6 +1,6 @@
 -- Fields of an object, each read by its kind. An absent field, and one that is null, has the kind's default.
-use Rattle.std.specs.Prelude.{ℕ, ◌^◌, ◌==◌, not, ℤ, pos, Bool, true, false, is_some, List, [], ◌∷◌, Option, Some, None, option_and_then, Result, Ok, Err}
-use Rattle.serde_json.specs.Data.{Num, Data, null, boolean, number, string, array, object, Items, no_items, item, Members, no_members}
+use Rattle.std.specs.Prelude.{ℕ, ◌^◌, ◌==◌, not, ℤ, pos, Bool, false, is_some, List, [], ◌∷◌, Option, Some, None, option_and_then, Result, Ok, Err}
+use Rattle.serde_json.specs.Data.{Data, null, boolean, number, string, array, object, Items, no_items, item, Members, no_members}
 use Rattle.serde_json.specs.Find.{get_member, as_u64, as_i64}
 use Rattle.json_model.specs.declared.fault.FieldFault.{FieldFault}
 use Rattle.json_model.specs.declared.fault.FieldFault.TheVariants.{WrongKind, BadNumber, BadBase64, BadEnum}

@@ -1,7 +1,7 @@
 -- The answers and the messages of watches that are read back as they are written: numbers in the API's ranges, bytes that
 -- are bytes, refusals with a code above 0 and a text in UTF-8, and within a transaction ranges, puts, deletes and
 -- transactions alone.
-use Rattle.std.specs.Prelude.{◌≡◌, ℕ, ◌<◌, ◌≤◌, ◌^◌, Bool, true, false, if◌then◌else◌, ℤ, pos, negsuc, List, [], ◌∷◌, Option, Some, None, ⊤, IsUtf8}
+use Rattle.std.specs.Prelude.{◌≡◌, ◌<◌, ◌≤◌, ◌^◌, if◌then◌else◌, ℤ, pos, negsuc, [], ◌∷◌, Option, Some, None, ⊤, IsUtf8}
 use Rattle.std.specs.List.{AllByRecursion}
 use Rattle.base64.specs.GeneralPurpose.{IsBytes}
 use Rattle.serde_json.specs.Data.{Data, depth}
@@ -26,7 +26,7 @@ use Rattle.json_model.specs.FieldNames as names
 use Rattle.json_model.specs.Fits.{IsNumber}
 use Rattle.json_model.specs.Written.{field, object_of}
 use Rattle.json_model.specs.WrittenRequests.{request_path}
-use Rattle.json_model.specs.WrittenReplies.{reply_value, refusal_written, item_written, is_keep_alive}
+use Rattle.json_model.specs.WrittenReplies.{reply_value, item_written, is_keep_alive}
 
 -- a number of 64 bits with a sign
 abbrev pub IsSigned : ℤ → Type 0

@@ -1,12 +1,12 @@
 -- What a reply of a member says: unknown fields are left aside, and a field that is named twice isn't in the mapping.
-use Rattle.std.specs.Prelude.{ℕ, zero, suc, ◌^◌, ◌==◌, ◌||◌, nat_lt, not, if◌then◌else◌, Bool, true, false, ℤ, List, [], ◌∷◌, codes, Option, Some, None, Result, Ok, Err}
-use Rattle.serde_json.specs.Data.{Data, null, boolean, number, string, array, object, Members}
+use Rattle.std.specs.Prelude.{ℕ, zero, suc, List, Option, Some, None, Result, Ok, Err}
+use Rattle.serde_json.specs.Data.{Data, Members}
 use Rattle.etcd_types.specs.declared.record.Header.{Header}
 use Rattle.etcd_types.specs.declared.record.Kv.{Kv}
 use Rattle.etcd_types.specs.declared.answer.Body.{Body}
 use Rattle.etcd_types.specs.declared.answer.Body.TheVariants as body
 use Rattle.json_model.specs.declared.fault.FieldFault.{FieldFault}
-use Rattle.json_model.specs.declared.fault.FieldFault.TheVariants.{WrongKind, BadNumber}
+use Rattle.json_model.specs.declared.fault.FieldFault.TheVariants.{WrongKind}
 use Rattle.json_model.specs.Faults.{◌>>=◌}
 use Rattle.json_model.specs.FieldNames as names
 use Rattle.json_model.specs.Known.{once}

@@ -1,6 +1,6 @@
 -- What the fields of a request say, but for transactions and watches. Fields are looked at in the order of their table,
 -- and the first fault counts.
-use Rattle.std.specs.Prelude.{ℕ, Bool, true, List, [], codes, Result, Ok, Err}
+use Rattle.std.specs.Prelude.{ℕ, Bool, Result, Ok}
 use Rattle.serde_json.specs.Data.{Members}
 use Rattle.etcd_types.specs.declared.key_range.KeyRange.{KeyRange}
 use Rattle.etcd_types.specs.declared.operation.RangeAsk.{RangeAsk}

@@ -1,6 +1,6 @@
 -- What the fields of a transaction say. A transaction's operations may be transactions: the number is how many may stand
 -- round one another, which JSON bounds by how deep it nests.
-use Rattle.std.specs.Prelude.{ℕ, zero, suc, List, codes, Option, Some, None, Result, Ok, Err}
+use Rattle.std.specs.Prelude.{ℕ, zero, suc, List, Option, Some, None, Result, Ok, Err}
 use Rattle.serde_json.specs.Data.{Data, Members}
 use Rattle.etcd_types.specs.declared.operation.Op.{Op}
 use Rattle.etcd_types.specs.declared.operation.Op.TheVariants.{Range, Put, Delete, Txn}

@@ -1,5 +1,5 @@
 -- The JSON mapping of a watch's messages: which item a line is. A line's object stands in `result`.
-use Rattle.std.specs.Prelude.{ℕ, ◌==◌, if◌then◌else◌, Bool, true, false, List, Option, Some, None, Result, Ok, Err}
+use Rattle.std.specs.Prelude.{ℕ, ◌==◌, if◌then◌else◌, Bool, true, false, List, Result, Ok}
 use Rattle.serde_json.specs.Data.{Data, Members}
 use Rattle.etcd_types.specs.declared.record.Header.{Header}
 use Rattle.etcd_types.specs.declared.record.Kv.{Kv}

@@ -1,7 +1,7 @@
 -- What the fields of a watch request say.
-use Rattle.std.specs.Prelude.{ℕ, ◌==◌, ◌||◌, if◌then◌else◌, Bool, true, false, List, [], codes, Option, Some, None, Result, Ok, Err, ⊤}
+use Rattle.std.specs.Prelude.{ℕ, ◌==◌, ◌||◌, if◌then◌else◌, Bool, false, List, [], Option, Some, None, Result, Ok, Err}
 use Rattle.std.specs.List.{list_any}
-use Rattle.serde_json.specs.Data.{Data, Members, no_members}
+use Rattle.serde_json.specs.Data.{Members}
 use Rattle.etcd_types.specs.declared.request.WatchAsk.{WatchAsk}
 use Rattle.json_model.specs.declared.fault.FieldFault.{FieldFault}
 use Rattle.json_model.specs.declared.fault.FieldFault.TheVariants.{WrongKind}

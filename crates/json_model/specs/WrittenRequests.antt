@@ -1,8 +1,7 @@
 -- The fields that are written for a request, and its text: without spaces, names in byte order, defaults left out.
-use Rattle.std.specs.Prelude.{ℕ, Bool, true, false, List, [], ◌∷◌, codes, Option, Some, None}
-use Rattle.serde_json.specs.Data.{Data, string, object, Items, no_items, item}
+use Rattle.std.specs.Prelude.{ℕ, Bool, true, false, List, [], ◌∷◌, codes, Some}
+use Rattle.serde_json.specs.Data.{Data, string, Items, no_items, item}
 use Rattle.serde_json.specs.Written.{compact_text}
-use Rattle.etcd_types.specs.declared.key_range.KeyRange.{KeyRange}
 use Rattle.etcd_types.specs.declared.operation.RangeAsk.{RangeAsk}
 use Rattle.etcd_types.specs.declared.operation.PutAsk.{PutAsk}
 use Rattle.etcd_types.specs.declared.operation.DeleteAsk.{DeleteAsk}

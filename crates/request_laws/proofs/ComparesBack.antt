@@ -1,8 +1,7 @@
 -- A compare and a watch are read back as they are written.
-use Rattle.std.proofs.Common.{◌≡◌, ℕ, zero, ◌<◌, ◌^◌, ◌==◌, Bool, true, false, lit<, List, [], ◌∷◌, Option, Some, None, Result, Ok, Err, refl, sym, ap, ◌∙◌}
+use Rattle.std.proofs.Common.{◌≡◌, ℕ, ◌==◌, Bool, true, false, lit<, List, [], ◌∷◌, None, Ok, refl, sym, ap}
 use Rattle.std.specs.List.{list_any}
 use Rattle.base64.specs.GeneralPurpose.{IsBytes}
-use Rattle.serde_json.specs.Data.{no_items}
 use Rattle.etcd_types.specs.declared.operation.Compare.{Compare}
 use Rattle.etcd_types.specs.declared.operation.Target.{Target}
 use Rattle.etcd_types.specs.declared.operation.Target.TheVariants.{Version, Create, Modified, Value, Lease}
@@ -12,12 +11,12 @@ use Rattle.etcd_types.specs.declared.request.WatchAsk.{WatchAsk}
 use Rattle.json_model.specs.FieldNames as names
 use Rattle.json_model.specs.Tables.{compare_fields, create_fields, watch_fields, relations, targets, filters}
 use Rattle.json_model.specs.Fields.{present, read_or, choice_from, each}
-use Rattle.json_model.specs.Written.{members_of, number_value, choice_value}
-use Rattle.json_model.specs.WrittenRequests.{compare_written, compare_value, relation_number, create_written, watch_written, name_if, filter_items}
+use Rattle.json_model.specs.Written.{members_of, choice_value}
+use Rattle.json_model.specs.WrittenRequests.{compare_written, compare_value, relation_number, create_written, watch_written, filter_items}
 use Rattle.json_model.specs.Requests.{key_range_in}
 use Rattle.json_model.specs.Compares.{relation_of, operand_in, comparison_in, compare_in}
 use Rattle.json_model.specs.Compares as compares
-use Rattle.json_model.specs.Watches.{filters_in, unserved_in, create_in, created_in, watch_in}
+use Rattle.json_model.specs.Watches.{unserved_in, create_in, created_in, watch_in}
 use Rattle.json_model.specs.Fits.{OperandFits, CompareFits, WatchFits}
 use Rattle.json_model.proofs.WrittenObjects.{one_name, two_names, only_written, found_written}
 use Rattle.json_model.proofs.WrittenValues.{number_back, bytes_back, flag_back, choice_back, list_back}

@@ -1,5 +1,5 @@
 -- What is written for a request whose values fit is a plain value: numbers without fractions, text as UTF-8.
-use Rattle.std.proofs.Common.{◌≡◌, ℕ, zero, suc, ◌<◌, ◌^◌, Bool, true, false, List, [], ◌∷◌, Option, Some, None, codes, decimal, refl, arith}
+use Rattle.std.proofs.Common.{◌≡◌, ℕ, zero, suc, ◌<◌, Bool, true, false, List, [], ◌∷◌, codes, decimal, refl, arith}
 use Rattle.std.specs.Prelude.{⊤, IsUtf8}
 use Rattle.std.specs.List.{list_all, AllByRecursion}
 use Rattle.std.proofs.lemmas.Bool.{and_parts}
@@ -9,7 +9,7 @@ use Rattle.base64.specs.Engines.{standard}
 use Rattle.base64.specs.GeneralPurpose.{encode_of}
 use Rattle.base64.proofs.EngineFacts.{IsAscii-encode_of}
 use Rattle.json.proofs.Printed.Utf8.{are_ascii, IsUtf8-are_ascii}
-use Rattle.serde_json.specs.Data.{Data, object, Items, no_items, item}
+use Rattle.serde_json.specs.Data.{Items, no_items, item}
 use Rattle.etcd_types.specs.declared.operation.RangeAsk.{RangeAsk}
 use Rattle.etcd_types.specs.declared.operation.PutAsk.{PutAsk}
 use Rattle.etcd_types.specs.declared.operation.DeleteAsk.{DeleteAsk}
@@ -28,7 +28,7 @@ use Rattle.json_model.specs.FieldNames as names
 use Rattle.json_model.specs.Tables.{sort_orders, sort_targets, relations, targets}
 use Rattle.json_model.specs.Written.{Field, number_value, bytes_value, flag_value, choice_value, list_value, members_of, items_of}
 use Rattle.json_model.specs.WrittenRequests.{range_written, put_written, delete_written, relation_number, target_number, operand_written, compare_written, compare_value, lists_written, operation_written, operation_value, row_values, txn_written, name_if, filter_items, create_written, watch_written, compact_written, grant_written, lease_written, time_to_live_written, request_written}
-use Rattle.json_model.specs.Fits.{IsNumber, RangeFits, PutFits, DeleteFits, OperandFits, CompareFits, OperationFits, RowFits, TxnFits, WatchFits, ValuesFit}
+use Rattle.json_model.specs.Fits.{IsNumber, RangeFits, PutFits, OperandFits, CompareFits, OperationFits, RowFits, TxnFits, WatchFits, ValuesFit}
 use Rattle.json_model.proofs.WrittenTexts.{IsPlain, ArePlain, HasPlain, IsPlainField, ArePlainFields, plain_members}
 
 -- ---- the kinds

@@ -1,6 +1,6 @@
 -- A request's text is read as the request.
-use Rattle.std.proofs.Common.{◌≡◌, ℕ, ◌≤◌, List, Option, Some, None, Result, Ok, Err, refl, arith}
-use Rattle.serde_json.specs.Data.{object, Members, depth, members_depth}
+use Rattle.std.proofs.Common.{◌≡◌, ℕ, ◌≤◌, List, Some, None, Ok, refl, arith}
+use Rattle.serde_json.specs.Data.{object, Members, depth}
 use Rattle.serde_json.specs.Read.{max_depth}
 use Rattle.etcd_types.specs.declared.operation.TxnAsk.{TxnAsk}
 use Rattle.etcd_types.specs.declared.request.Request.{Request}

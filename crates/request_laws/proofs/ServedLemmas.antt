@@ -1,7 +1,7 @@
 -- What is written for a request that the reader serves has nothing that isn't served.
-use Rattle.std.proofs.Common.{◌≡◌, ℕ, zero, suc, Bool, true, false, List, [], ◌∷◌, Option, Some, None, refl, sym, ap, ◌∙◌}
+use Rattle.std.proofs.Common.{◌≡◌, ℕ, zero, suc, Bool, true, false, List, [], ◌∷◌, Option, None, refl}
 use Rattle.std.specs.List.{AllByRecursion}
-use Rattle.serde_json.specs.Data.{Data, object, array, Items, no_items, item, Members}
+use Rattle.serde_json.specs.Data.{Data, Items, no_items, item, Members}
 use Rattle.etcd_types.specs.declared.operation.RangeAsk.{RangeAsk}
 use Rattle.etcd_types.specs.declared.operation.PutAsk.{PutAsk}
 use Rattle.etcd_types.specs.declared.operation.DeleteAsk.{DeleteAsk}
@@ -12,10 +12,9 @@ use Rattle.etcd_types.specs.declared.request.WatchAsk.{WatchAsk}
 use Rattle.etcd_types.specs.declared.request.Request.{Request}
 use Rattle.etcd_types.specs.declared.request.Request.TheVariants as request
 use Rattle.json_model.specs.declared.extra.Extra.{Extra}
-use Rattle.json_model.specs.declared.extra.Extra.TheVariants.{IgnoreValue, IgnoreLease, RequestTxn}
+use Rattle.json_model.specs.declared.extra.Extra.TheVariants.{IgnoreLease, RequestTxn}
 use Rattle.json_model.specs.declared.extra.Reading.{Reading}
 use Rattle.json_model.specs.declared.extra.Reading.TheVariants.{Call}
-use Rattle.json_model.specs.Base64.{or_else}
 use Rattle.json_model.specs.FieldNames as names
 use Rattle.json_model.specs.Fields.{present, is_yes}
 use Rattle.json_model.specs.Written.{Field, members_of, flag_value, list_value, items_of}

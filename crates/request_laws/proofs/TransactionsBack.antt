@@ -1,20 +1,19 @@
 -- A transaction is read back as it is written, with those within it.
-use Rattle.std.proofs.Common.{◌≡◌, ℕ, zero, suc, ◌<◌, ◌≤◌, max, nat_cmp, List, [], ◌∷◌, Option, Some, None, Result, Ok, Err, Ordering, Less, Equal, Greater, refl, sym, ap, ◌∙◌, arith}
+use Rattle.std.proofs.Common.{◌≡◌, ℕ, zero, suc, ◌≤◌, max, nat_cmp, List, [], ◌∷◌, Some, Result, Ok, Ordering, Less, Equal, Greater, refl, sym, ap, ◌∙◌, arith}
 use Rattle.std.specs.List.{AllByRecursion}
 use Rattle.std.specs.Ordering.{match_ordering}
 use Rattle.std.specs.Cmp.Lexicographic.{slice_cmp}
-use Rattle.serde_json.specs.Data.{Data, array, object, Items, no_items, item, Members, no_members, member, depth, items_depth, members_depth}
+use Rattle.serde_json.specs.Data.{Data, array, Items, no_items, item, Members, no_members, member, depth, items_depth, members_depth}
 use Rattle.serde_json.specs.Find.{get_member}
 use Rattle.etcd_types.specs.declared.operation.RangeAsk.{RangeAsk}
 use Rattle.etcd_types.specs.declared.operation.PutAsk.{PutAsk}
 use Rattle.etcd_types.specs.declared.operation.DeleteAsk.{DeleteAsk}
 use Rattle.etcd_types.specs.declared.operation.Compare.{Compare}
 use Rattle.etcd_types.specs.declared.operation.TxnAsk.{TxnAsk}
-use Rattle.etcd_types.specs.declared.operation.Op.{Op, Row_of-Op, end_of-Op, more_of-Op, roll-Op, out-Op, roll-out-Op, items-the_row-Op, items_shown-the_row-Op-0, items_hidden-the_row-Op-0}
+use Rattle.etcd_types.specs.declared.operation.Op.{Op, Row_of-Op, end_of-Op, more_of-Op, roll-Op, roll-out-Op, items-the_row-Op, items_shown-the_row-Op-0}
 use Rattle.etcd_types.specs.declared.operation.Op.TheOpen as layer
 use Rattle.etcd_types.specs.declared.operation.Op.TheVariants.{Range, Put, Delete, Txn, Txn', rolls-Txn, outs-Txn'}
 use Rattle.json_model.specs.declared.fault.FieldFault.{FieldFault}
-use Rattle.json_model.specs.Faults.{◌>>=◌}
 use Rattle.json_model.specs.FieldNames as names
 use Rattle.json_model.specs.Tables.{txn_fields, operation_fields}
 use Rattle.json_model.specs.Fields.{each}

@@ -6,17 +6,15 @@ use Rattle.etcd_types.specs.declared.answer.Body.{Body}
 use Rattle.json_model.specs.FieldNames as names
 use Rattle.json_model.specs.WrittenReplies.{response_value, response_written, txn_fields_of}
 use Rattle.api_reply.proofs.BodyLemmas.{response_txn}
-use Rattle.api_reply.proofs.ItemLemmas.{next_value, all_values}
+use Rattle.json_model.proofs.ItemsSoFar.{one_more, no_more}
 use Rattle.api_reply.proofs.responses.+response.Goals as goal
 
 pub response_values-loop-body-preserved : goal.response_values-loop-body-preserved
 response_values-loop-body-preserved t c =
-    rw c.in_ok-push.ensures.items
-    (next_value response_value c.loop-body.values.items c.in_ok-response_value.field-0 c.as_slice-body-items.result.now c.loop-body.body-index c.body-item.result c.body-item.result c.loop-body-test.true c.body-item.is c.in_ok-response_value.ensures
-    ∙ c.loop-body.invariant)
+    one_more response_value _ _ _ _ _ _ _ _ c.loop-body-test.true c.body-item.is c.in_ok-response_value.ensures c.in_ok-push.ensures.items c.loop-body.invariant
 
 pub response_values-returns : goal.response_values-returns
-response_values-returns t c = sym (all_values response_value c.loop-body.values.items c.as_slice-body-items.result.now c.loop-body.body-index c.loop-body-test.false) ∙ c.loop-body.invariant
+response_values-returns t c = no_more response_value _ _ _ _ c.loop-body-test.false c.loop-body.invariant
 
 pub response_value-returns-in_ok-txn_response-in-Txn : goal.response_value-returns-in_ok-txn_response-in-Txn
 response_value-returns-in_ok-txn_response-in-Txn t c =

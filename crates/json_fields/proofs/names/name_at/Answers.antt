@@ -1,4 +1,4 @@
-use Rattle.std.proofs.Common.{◌==◌, ◌∙◌, ℕ, List, ap, ap₂, sym, slice_get, lit<}
+use Rattle.std.proofs.Common.{◌∙◌, ℕ, List, ap₂, sym, slice_get, lit<}
 use Rattle.std.proofs.lemmas.Iterator.Consumers.{nth_from_yields_List}
 use Rattle.std.proofs.lemmas.Iterator.Splits.{YieldsList-from_str_split}
 use Rattle.json_fields.proofs.NameLemmas.{words_some}
