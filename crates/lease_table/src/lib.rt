@@ -12,7 +12,7 @@ ghost use Rattle.std.specs.Option.{option_copied};
 ghost use Rattle.lease_table.specs.Places.{IsPlace, IsGap};
 ghost use Rattle.etcd_types.specs.Ranges.{contains};
 ghost use Rattle.proxy_model.specs.Keyed.{at, with_at, is_in_order};
-ghost use Rattle.proxy_model.specs.LeaseTable.{empty_table, room, is_held, is_writing, hold, change, leave_range, writing, written, unwritten, marked, leaving, in_phase, phase_after_write, phase_given_up, given_up_in};
+ghost use Rattle.proxy_model.specs.LeaseTable.{empty_table, room, is_held, is_writing, hold, change, leave_range, writing, written, unwritten, marked, leaving, in_phase, phase_after_write, phase_given_up, phase_left, given_up_in};
 
 use etcd_types::{Bytes, KeyRange, Kv, NoMemory};
 pub use proxy_model::{Entry, Phase};
@@ -148,7 +148,10 @@ impl LeaseTable {
         requires { IsTrue (is_some (at self.old.entries key.now)) }
         ensures { self.new ≡ change self.old key.now leaving }
     {
-        self.set_phase(key, Phase::Leaving);
+        if let Ok(place) = self.place(key) {
+            let entry = &mut self.rows[place].1;
+            entry.phase = phase_left(entry.phase);
+        }
     }
 
     /// The key's entry, if there is one, is gone. There is room for as many entries in all as before.
@@ -206,8 +209,17 @@ fn phase_after_write(phase: Phase) -> Phase
 {
     match phase {
         Phase::Writing { revoked: false } => Phase::Held,
-        Phase::Writing { revoked: true } => Phase::Leaving,
-        Phase::Held | Phase::Leaving => phase,
+        Phase::Writing { revoked: true } => Phase::Leaving { sent: false },
+        Phase::Held | Phase::Leaving { .. } => phase,
+    }
+}
+
+fn phase_left(phase: Phase) -> Phase
+    ensures { result ≡ phase_left phase }
+{
+    match phase {
+        Phase::Held | Phase::Writing { .. } => Phase::Leaving { sent: false },
+        Phase::Leaving { .. } => phase,
     }
 }
 
@@ -215,8 +227,9 @@ fn phase_given_up(phase: Phase) -> Phase
     ensures { result ≡ phase_given_up phase }
 {
     match phase {
-        Phase::Held | Phase::Leaving => Phase::Leaving,
+        Phase::Held => Phase::Leaving { sent: false },
         Phase::Writing { .. } => Phase::Writing { revoked: true },
+        Phase::Leaving { .. } => phase,
     }
 }
 

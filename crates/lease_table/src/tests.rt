@@ -12,7 +12,7 @@ fn holds(table: &LeaseTable, key: &Bytes) -> bool
         None => false,
         Some(entry) => match entry.phase {
             Phase::Held => true,
-            Phase::Writing { .. } | Phase::Leaving => false,
+            Phase::Writing { .. } | Phase::Leaving { .. } => false,
         },
     }
 }
@@ -24,7 +24,7 @@ fn writes(table: &LeaseTable, key: &Bytes) -> bool
         None => false,
         Some(entry) => match entry.phase {
             Phase::Writing { .. } => true,
-            Phase::Held | Phase::Leaving => false,
+            Phase::Held | Phase::Leaving { .. } => false,
         },
     }
 }
@@ -108,9 +108,9 @@ fn a_write_ends_held_or_given_up(rt: HostRuntime) -> Result<(), Fail> {
     let mut table = four_held(alloc)?;
     for (key, marked, done, after) in [
         (b"a".as_slice(), false, true, Phase::Held),
-        (b"b", true, true, Phase::Leaving),
+        (b"b", true, true, Phase::Leaving { sent: false }),
         (b"c", false, false, Phase::Held),
-        (b"ca", true, false, Phase::Leaving),
+        (b"ca", true, false, Phase::Leaving { sent: false }),
     ] {
         let name = bytes(alloc, key)?;
         if holds(&table, &name) {
@@ -165,8 +165,8 @@ fn a_range_gives_up_its_own_keys_alone(rt: HostRuntime) -> Result<(), Fail> {
     for (key, after) in [
         (b"a".as_slice(), Phase::Held),
         (b"b", Phase::Writing { revoked: true }),
-        (b"c", Phase::Leaving),
-        (b"ca", Phase::Leaving),
+        (b"c", Phase::Leaving { sent: false }),
+        (b"ca", Phase::Leaving { sent: false }),
     ] {
         assert_eq!(rt;
             phase(&table, &bytes(alloc, key)?).map(|found| found.1),

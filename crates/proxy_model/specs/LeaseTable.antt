@@ -25,12 +25,12 @@ room t = t.spare + length t.entries
 abbrev pub is_held_phase : Phase → Bool
 is_held_phase Held = true
 is_held_phase (Writing revoked) = false
-is_held_phase Leaving = false
+is_held_phase (Leaving sent) = false
 
 abbrev pub is_writing_phase : Phase → Bool
 is_writing_phase Held = false
 is_writing_phase (Writing revoked) = true
-is_writing_phase Leaving = false
+is_writing_phase (Leaving sent) = false
 
 abbrev pub is_held : Option Entry → Bool
 is_held None = false
@@ -43,8 +43,8 @@ is_writing (Some e) = is_writing_phase e.phase
 -- after the owner write: held again, or given up where it was marked meanwhile
 abbrev pub phase_after_write : Phase → Phase
 phase_after_write Held = Held
-phase_after_write (Writing revoked) = if revoked then Leaving else Held
-phase_after_write Leaving = Leaving
+phase_after_write (Writing revoked) = if revoked then Leaving false else Held
+phase_after_write (Leaving sent) = Leaving sent
 
 abbrev pub in_phase : Phase → Entry → Entry
 in_phase phase e = record e { phase = phase }
@@ -61,14 +61,19 @@ unwritten e = record e { phase = phase_after_write e.phase }
 abbrev pub marked : Entry → Entry
 marked = in_phase (Writing true)
 
+abbrev pub phase_left : Phase → Phase
+phase_left Held = Leaving false
+phase_left (Writing revoked) = Leaving false
+phase_left (Leaving sent) = Leaving sent
+
 abbrev pub leaving : Entry → Entry
-leaving = in_phase Leaving
+leaving e = record e { phase = phase_left e.phase }
 
 -- to be given up: at once where it is held, else when its write is answered
 abbrev pub phase_given_up : Phase → Phase
-phase_given_up Held = Leaving
+phase_given_up Held = Leaving false
 phase_given_up (Writing revoked) = Writing true
-phase_given_up Leaving = Leaving
+phase_given_up (Leaving sent) = Leaving sent
 
 abbrev pub given_up : Entry → Entry
 given_up e = record e { phase = phase_given_up e.phase }

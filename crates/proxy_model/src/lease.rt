@@ -16,6 +16,6 @@ pub enum Phase {
     Held,
     /// An owner write of the key is due or out; `revoked` marks that the key is given up once it is answered.
     Writing { revoked: bool },
-    /// The key is given up: a rescind of it is due or out.
-    Leaving,
+    /// The key is given up: a rescind of it is out where it was `sent`, and else due.
+    Leaving { sent: bool },
 }

@@ -14,7 +14,7 @@ use Rattle.etcd_types.proofs.KeyOrder.{up_to-along, up_to-either, up_to-nothing,
 use Rattle.etcd_types.proofs.Overlaps.{overlap_in_a_key}
 use Rattle.proxy_model.specs.Prefixes.{raised, raised_last, prefix_end, leasing_range}
 use Rattle.proxy_model.specs.SeveralKeys.{end_before, part_before, start_behind, part_behind, parts}
-use Rattle.lease_laws.specs.Split.{one_if, times, PartsGoRound}
+use Rattle.proxy_laws.specs.Split.{one_if, times, PartsGoRound}
 
 -- Tests.
 

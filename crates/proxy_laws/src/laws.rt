@@ -1,6 +1,6 @@
-ghost use Rattle.lease_laws.specs.Answers.{AnswersFit, ClaimsAreTrue, WritesAreTrue, RescindsAreTrue, RevokesAreTrue, SnapshotsAreTrue};
-ghost use Rattle.lease_laws.specs.Ownership.{RangesStayUnderPrefix, OwnersAreNamed};
-ghost use Rattle.lease_laws.specs.Split.{PartsGoRound};
+ghost use Rattle.proxy_laws.specs.Answers.{AnswersFit, ClaimsAreTrue, WritesAreTrue, RescindsAreTrue, RevokesAreTrue, SnapshotsAreTrue};
+ghost use Rattle.proxy_laws.specs.Ownership.{RangesStayUnderPrefix, OwnersAreNamed};
+ghost use Rattle.proxy_laws.specs.Split.{PartsGoRound};
 
 /// What the store answers to a proxy's own transactions is read as what the store has: which branch ran, the records,
 /// and the owners.

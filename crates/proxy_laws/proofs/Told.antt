@@ -34,10 +34,10 @@ use Rattle.proxy_model.specs.Prefixes.{only, under}
 use Rattle.proxy_model.specs.Readings.{records_of, first_of, record_of, reading}
 use Rattle.proxy_model.specs.SeveralKeys.{written_ranges}
 use Rattle.proxy_model.proofs.FitsLaws.{fits_is_txn}
-use Rattle.lease_laws.specs.Answers.{AnswersFit, ClaimsAreTrue, WritesAreTrue, RescindsAreTrue, RevokesAreTrue, holds_now, claim_now, written_now, bodies_in, owned_now, owners_now}
-use Rattle.lease_laws.proofs.Fit.{run_fits, read_is}
-use Rattle.lease_laws.proofs.OneKey.{records_one}
-use Rattle.lease_laws.proofs.Ran.{same_ok, answer_ran, answer_branch, first_then_ok}
+use Rattle.proxy_laws.specs.Answers.{AnswersFit, ClaimsAreTrue, WritesAreTrue, RescindsAreTrue, RevokesAreTrue, holds_now, claim_now, written_now, bodies_in, owned_now, owners_now}
+use Rattle.proxy_laws.proofs.Fit.{run_fits, read_is}
+use Rattle.proxy_laws.proofs.OneKey.{records_one}
+use Rattle.proxy_laws.proofs.Ran.{same_ok, answer_ran, answer_branch, first_then_ok}
 
 pub answers_fit : AnswersFit
 answers_fit s member t reply e =

@@ -22,11 +22,11 @@ use Rattle.store_model.specs.State.{State}
 use Rattle.store_model.specs.Compares.{holds_of, compare_holds, all_hold}
 use Rattle.store_model.specs.Transactions.{seen, run_all, run_range}
 use Rattle.proxy_model.specs.Snapshot.{Held, record_held, is_plain, is_unsorted, is_plain_read, compares_one, is_snapshot, names_nothing, is_compare_held, is_read_held, all_held, has_room, snapshot_holds, snapshot_body, snapshot_by, plain_body, snapshot}
-use Rattle.lease_laws.specs.Answers.{SnapshotsAreTrue, AreRecordsOf, holds_now}
-use Rattle.lease_laws.proofs.Fit.{read_is, and_first, and_second}
-use Rattle.lease_laws.proofs.OneKey.{records_one}
-use Rattle.lease_laws.proofs.Ran.{same_ok, answer_branch, first_then_ok}
-use Rattle.lease_laws.proofs.Told.{unchanged_ok}
+use Rattle.proxy_laws.specs.Answers.{SnapshotsAreTrue, AreRecordsOf, holds_now}
+use Rattle.proxy_laws.proofs.Fit.{read_is, and_first, and_second}
+use Rattle.proxy_laws.proofs.OneKey.{records_one}
+use Rattle.proxy_laws.proofs.Ran.{same_ok, answer_branch, first_then_ok}
+use Rattle.proxy_laws.proofs.Told.{unchanged_ok}
 
 not_true : (b : Bool) → not b ≡ true → b ≡ false
 not_true true e = absurd (cc)

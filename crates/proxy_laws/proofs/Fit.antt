@@ -28,8 +28,8 @@ use Rattle.store_model.specs.Transactions.{Ran, RanAll, seen, run, run_row, run_
 use Rattle.store_laws.proofs.RangeProofs.{records-within}
 use Rattle.proxy_model.specs.Fits.{fits, fits_row, fits_all, fits_range, are_records_of, is_put, is_delete, fits_first, fits_branch, branch_of, is_nothing}
 use Rattle.proxy_model.proofs.FitsLaws.{branch_of-Txn}
-use Rattle.lease_laws.proofs.OneKey.{records_one}
-use Rattle.lease_laws.proofs.Ran.{same_ok, answered_ok, first_then_ok}
+use Rattle.proxy_laws.proofs.OneKey.{records_one}
+use Rattle.proxy_laws.proofs.Ran.{same_ok, answered_ok, first_then_ok}
 
 and_both : (a b : Bool) → a ≡ true → b ≡ true → a && b ≡ true
 and_both true b e f = f

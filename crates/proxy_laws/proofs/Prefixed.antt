@@ -15,8 +15,8 @@ use Rattle.etcd_types.specs.Keys.{up_to, before, same, is_empty, is_zero}
 use Rattle.etcd_types.specs.Ranges.{is_one, contains}
 use Rattle.etcd_types.proofs.KeyOrder.{up_to-along, up_to-nothing, up_to-itself, same-equal}
 use Rattle.proxy_model.specs.Prefixes.{raised, raised_last, prefix_end, end_under, under}
-use Rattle.lease_laws.specs.Ownership.{are_bytes, RangesStayUnderPrefix, OwnersAreNamed}
-use Rattle.lease_laws.proofs.Split.{head_below, head_same, not_false, not_true, and_both, and_true, range_has, or_up_to, end_not_empty, zero_up_to}
+use Rattle.proxy_laws.specs.Ownership.{are_bytes, RangesStayUnderPrefix, OwnersAreNamed}
+use Rattle.proxy_laws.proofs.Split.{head_below, head_same, not_false, not_true, and_both, and_true, range_has, or_up_to, end_not_empty, zero_up_to}
 
 -- Keys with one prefix compare as without it.
 ordered_same : (p a b : List ℕ) → slice_cmp nat_cmp (p ++ a) (p ++ b) ≡ slice_cmp nat_cmp a b

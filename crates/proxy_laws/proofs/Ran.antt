@@ -19,7 +19,7 @@ use Rattle.store_model.specs.Step.{Step, exec, exec_op, settled}
 use Rattle.store_model.proofs.StepLemmas.{exec_txn-refused, exec_txn-runs}
 use Rattle.proxy_model.specs.Fits.{branch_of}
 use Rattle.proxy_model.proofs.FitsLaws.{branch_of-Txn}
-use Rattle.lease_laws.specs.Answers.{Answers, holds_now}
+use Rattle.proxy_laws.specs.Answers.{Answers, holds_now}
 
 got : {A E : Type 0} → A → Result A E → A
 got d (Ok x) = x

@@ -1,5 +1,0 @@
-use Rattle.lease_laws.proofs.Prefixed.{ranges_stay, owners_are_named}
-use Rattle.lease_laws.proofs.laws.ownership_keys_name_their_keys.Goals as goal
-
-pub returns : goal.returns
-returns c = record { ranges = ranges_stay; owners = owners_are_named }

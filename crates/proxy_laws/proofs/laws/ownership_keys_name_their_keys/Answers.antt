@@ -1,0 +1,5 @@
+use Rattle.proxy_laws.proofs.Prefixed.{ranges_stay, owners_are_named}
+use Rattle.proxy_laws.proofs.laws.ownership_keys_name_their_keys.Goals as goal
+
+pub returns : goal.returns
+returns c = record { ranges = ranges_stay; owners = owners_are_named }
