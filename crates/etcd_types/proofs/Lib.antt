@@ -1,2 +1,3 @@
+pub mod Bools
 pub mod KeyOrder
 pub mod Overlaps

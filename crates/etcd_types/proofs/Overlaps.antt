@@ -1,33 +1,10 @@
 -- Two ranges overlap exactly where they have a key in common, since a range has every key between two of its own.
-use Rattle.std.proofs.Common.{◌≡◌, ℕ, Bool, true, false, not, cond, ◌&&◌, ◌||◌, List, [], ◌∷◌, refl, sym, ◌∙◌, ap, subst, ◌⊎◌, inl, inr}
+use Rattle.std.proofs.Common.{◌≡◌, ℕ, Bool, true, false, not, cond, ◌&&◌, ◌||◌, List, [], ◌∷◌, refl, sym, subst, inl, inr}
 use Rattle.etcd_types.specs.Keys.{up_to, same, is_empty, is_zero}
 use Rattle.etcd_types.specs.Ranges.{contains, lowest, overlaps, HaveCommonKey, OverlapInAKey}
 use Rattle.etcd_types.specs.declared.key_range.KeyRange.{KeyRange}
-use Rattle.etcd_types.proofs.KeyOrder.{up_to-itself, up_to-along, up_to-either, up_to-both, up_to-nothing, same-equal, same-itself}
-
-first_true : (a b : Bool) → a && b ≡ true → a ≡ true
-first_true true b e = refl
-first_true false b e = e
-
-second_true : (a b : Bool) → a && b ≡ true → b ≡ true
-second_true true b e = e
-second_true false b e = absurd (cc)
-
-both_true : (a b : Bool) → a ≡ true → b ≡ true → a && b ≡ true
-both_true true b e f = f
-both_true false b e f = e
-
-either_true : (a b : Bool) → a || b ≡ true → (a ≡ true) ⊎ (b ≡ true)
-either_true true b e = inl refl
-either_true false b e = inr e
-
-left_true : (a b : Bool) → a ≡ true → a || b ≡ true
-left_true true b e = refl
-left_true false b e = absurd (cc)
-
-right_true : (a b : Bool) → b ≡ true → a || b ≡ true
-right_true true b e = refl
-right_true false b e = e
+use Rattle.etcd_types.proofs.Bools.{and_first, and_second, and_both, or_either, or_left, or_right}
+use Rattle.etcd_types.proofs.KeyOrder.{up_to-itself, up_to-along, up_to-either, up_to-both, up_to-nothing, same-equal}
 
 -- `contains` and `lowest` by the answers of their tests
 abbrev contains_by : Bool → Bool → Bool → List ℕ → List ℕ → List ℕ → Bool
@@ -48,7 +25,7 @@ lowest_first_by true false all key end k h e =
     subst (λ (m : List ℕ). up_to key m ≡ true) (sym (same-equal k key e)) (up_to-itself key)
 lowest_first_by false true true key end k h e = up_to-nothing k
 lowest_first_by false true false key end k h e = e
-lowest_first_by false false all key end k h e = first_true (up_to key k) _ e
+lowest_first_by false false all key end k h e = and_first (up_to key k) _ e
 
 -- the lowest key is at or below each key of the range
 lowest_first : (r : KeyRange) (k : List ℕ) → contains r k ≡ true → up_to (lowest r) k ≡ true
@@ -64,7 +41,7 @@ between_by true false all key end m k h e low high =
 between_by false true true key end m k h e low high = refl
 between_by false true false key end m k h e low high = low
 between_by false false all key end m k h e low high =
-    both_true (up_to key m) _ low (not_above (up_to end m) (up_to end k) (λ b. up_to-along end m k b high) (second_true (up_to key k) _ e))
+    and_both (up_to key m) _ low (not_above (up_to end m) (up_to end k) (λ b. up_to-along end m k b high) (and_second (up_to key k) _ e))
   where
     not_above : (b c : Bool) → (b ≡ true → c ≡ true) → not c ≡ true → not b ≡ true
     not_above true c i n = absurd (cc (i refl))
@@ -77,9 +54,9 @@ between r m k e low high =
 
 a_key : (r s : KeyRange) → overlaps r s ≡ true → HaveCommonKey r s
 a_key r s e =
-    elim (either_true (contains r (lowest s) && contains s (lowest s)) _ e) [
-      | inl h ↦ (lowest s, first_true (contains r (lowest s)) _ h, second_true (contains r (lowest s)) _ h)
-      | inr h ↦ (lowest r, first_true (contains r (lowest r)) _ h, second_true (contains r (lowest r)) _ h)
+    elim (or_either (contains r (lowest s) && contains s (lowest s)) _ e) [
+      | inl h ↦ (lowest s, and_first (contains r (lowest s)) _ h, and_second (contains r (lowest s)) _ h)
+      | inr h ↦ (lowest r, and_first (contains r (lowest r)) _ h, and_second (contains r (lowest r)) _ h)
     ]
 
 from_key : (r s : KeyRange) → HaveCommonKey r s → overlaps r s ≡ true
@@ -87,8 +64,8 @@ from_key r s (k, in_r, in_s) =
     let r_low = lowest_first r k in_r in
     let s_low = lowest_first s k in_s in
     elim (up_to-either (lowest r) (lowest s)) [
-      | inl h ↦ left_true _ _ (both_true _ _ (between r (lowest s) k in_r h s_low) (between s (lowest s) k in_s (up_to-itself (lowest s)) s_low))
-      | inr h ↦ right_true (contains r (lowest s) && contains s (lowest s)) _ (both_true _ _ (between r (lowest r) k in_r (up_to-itself (lowest r)) r_low) (between s (lowest r) k in_s h r_low))
+      | inl h ↦ or_left _ _ (and_both _ _ (between r (lowest s) k in_r h s_low) (between s (lowest s) k in_s (up_to-itself (lowest s)) s_low))
+      | inr h ↦ or_right (contains r (lowest s) && contains s (lowest s)) _ (and_both _ _ (between r (lowest r) k in_r (up_to-itself (lowest r)) r_low) (between s (lowest r) k in_s h r_low))
     ]
 
 pub overlap_in_a_key : OverlapInAKey

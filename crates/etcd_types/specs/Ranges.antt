@@ -1,5 +1,5 @@
 -- Ranges of keys, by the etcd API reference (`RangeRequest.range_end`).
-use Rattle.std.specs.Prelude.{◌≡◌, ℕ, Bool, true, IsTrue, ◌&&◌, ◌||◌, ◌↔◌, if◌then◌else◌, List, []}
+use Rattle.std.specs.Prelude.{ℕ, Bool, IsTrue, ◌&&◌, ◌||◌, ◌↔◌, if◌then◌else◌, List, []}
 use Rattle.etcd_types.specs.declared.key_range.KeyRange.{KeyRange}
 use Rattle.etcd_types.specs.Keys.{up_to, before, same, is_empty, is_zero}
 

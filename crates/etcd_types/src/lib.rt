@@ -24,6 +24,3 @@ pub use operation::{Compare, DeleteAsk, Op, PutAsk, RangeAsk, Relation, Sort, Ta
 pub use record::{Header, Kv};
 pub use request::{Request, WatchAsk};
 pub use watch::{Change, Event, WatchItem};
-
-#[cfg(test)]
-mod tests;
