@@ -1,17 +1,17 @@
 -- Turns at a body, among all the bytes ahead.
-use Rattle.std.proofs.Common.{◌≡◌, ℕ, zero, suc, ◌+◌, ◌-◌, ◌<◌, ◌≤◌, Bool, true, false, refl, List, [], ◌∷◌, ◌++◌, length, take, drop, sym, ap, ◌∙◌, subst, arith, Option, Some, None, Ok, Err, length-append, length-take, append_assoc, append-nil}
+use Rattle.std.proofs.Common.{◌≡◌, ℕ, zero, suc, ◌-◌, ◌<◌, ◌≤◌, true, false, refl, List, [], ◌++◌, length, take, drop, sym, ap, ◌∙◌, subst, arith, Option, Some, None, Ok, Err, length-append, length-take, append_assoc, append-nil}
 use Rattle.std.proofs.lemmas.Bool.{ltb-false, le-ltb, lt-ltb}
 use Rattle.std.proofs.lemmas.List.{take-append-le, drop-append-le}
-use Rattle.std.specs.Io.KnownBytes.{Keeps, prepend_known}
+use Rattle.std.specs.Io.KnownBytes.{prepend_known}
 use Rattle.http_wire.specs.declared.fault.WireFault.{WireFault}
 use Rattle.http_wire.specs.declared.fault.WireFault.TheVariants.{BodyTooLong}
 use Rattle.http_wire.specs.declared.limits.TheConstants.{BODY_LIMIT}
 use Rattle.http_wire.specs.declared.message.Framing.{Framing}
 use Rattle.http_wire.specs.declared.body.Next.{Next}
 use Rattle.http_wire.specs.declared.body.Next.TheVariants as next
-use Rattle.http_wire.specs.Bodies.{Content, End, Ended, Broken, only, after, exceeds, lessened, content, IsEnd, IsBroken, BodyRead}
+use Rattle.http_wire.specs.Bodies.{Content, Ended, Broken, only, after, exceeds, lessened, content, IsEnd, IsBroken, BodyRead}
 use Rattle.http_wire.specs.Held.{ReadsAhead}
-use Rattle.http_wire.specs.Steps.{going, over, spent, Claims, Readied, NextRead, KnownAhead, BodyTurn, Pends}
+use Rattle.http_wire.specs.Steps.{over, spent, Claims, Readied, NextRead, KnownAhead, BodyTurn, Pends}
 
 -- ---- at the end
 

@@ -1,14 +1,13 @@
 -- A body's bytes are taken some at a time as they are all at once.
-use Rattle.std.proofs.Common.{◌≡◌, ℕ, zero, suc, ◌+◌, ◌-◌, ◌<◌, ◌≤◌, Bool, true, false, nat_lt, if◌then◌else◌, refl, List, [], ◌∷◌, ◌++◌, length, take, drop, sym, ap, ◌∙◌, subst, arith, Option, Some, None, Ok, Err, length-drop}
+use Rattle.std.proofs.Common.{◌≡◌, ℕ, zero, suc, ◌-◌, ◌<◌, ◌≤◌, Bool, true, false, nat_lt, if◌then◌else◌, refl, List, [], ◌∷◌, length, take, drop, sym, ap, ◌∙◌, subst, arith, Option, Some, None, Ok, Err, length-drop}
 use Rattle.std.proofs.Math.Nat.{sub-zero}
 use Rattle.std.proofs.lemmas.Bool.{ltb-false, ltb-true, le-ltb, lt-ltb}
 use Rattle.std.proofs.lemmas.List.{take-append-drop}
 use Rattle.http_wire.specs.declared.fault.WireFault.TheVariants.{BodyTooLong, EndedEarly}
 use Rattle.http_wire.specs.declared.message.Framing.TheVariants.{Length, Chunks, ToEnd}
-use Rattle.http_wire.specs.declared.body.Next.{Next}
 use Rattle.http_wire.specs.declared.body.Next.TheVariants as next
-use Rattle.http_wire.specs.Bodies.{Content, End, Ended, Broken, only, after, exceeds, lessened, counted, chunked, InLine, InData, content}
-use Rattle.http_wire.specs.Steps.{going, over, spent, Readied, Breaks}
+use Rattle.http_wire.specs.Bodies.{Ended, Broken, only, after, exceeds, lessened, counted, chunked, InData, content}
+use Rattle.http_wire.specs.Steps.{going, Readied}
 use Rattle.http_wire.proofs.Sizes.{broken_only}
 
 -- ---- limits

@@ -1,5 +1,5 @@
 -- Turns at a line, one after the other.
-use Rattle.std.proofs.Common.{◌≡◌, ℕ, zero, suc, ◌+◌, ◌-◌, ◌<◌, ◌≤◌, IsTrue, refl, List, [], ◌∷◌, ◌++◌, length, take, sym, ap, ◌∙◌, subst, arith, Option, Some, None, Ok, Err, length-append, append_assoc, append-nil, inl, inr}
+use Rattle.std.proofs.Common.{◌≡◌, ℕ, ◌+◌, ◌-◌, ◌<◌, ◌≤◌, IsTrue, refl, List, [], ◌∷◌, ◌++◌, length, take, sym, ap, ◌∙◌, subst, arith, Option, Some, None, Ok, Err, length-append, append_assoc, append-nil, inl, inr}
 use Rattle.std.proofs.lemmas.List.{take-append-le, nil_from_length}
 use Rattle.std.proofs.Math.Seq.{take-append-add}
 use Rattle.httparse.specs.Ascii.{line_feed}
@@ -8,10 +8,10 @@ use Rattle.http_wire.specs.declared.fault.WireFault.TheVariants.{BadHead, HeadTo
 use Rattle.http_wire.specs.declared.limits.TheConstants.{LINE_LIMIT}
 use Rattle.http_wire.specs.declared.message.Framing.{Framing}
 use Rattle.http_wire.specs.declared.lines.Turn.TheVariants as turn
-use Rattle.http_wire.specs.Bodies.{Content, after, content, IsEnd, IsBroken, is_of_bytes, is_unfinished, IsLine, IsLast, LineRead}
+use Rattle.http_wire.specs.Bodies.{Content, after, content, IsEnd, IsBroken, is_of_bytes, is_unfinished, IsLine, IsLast}
 use Rattle.http_wire.specs.Held.{ReadsAhead}
 use Rattle.http_wire.specs.Steps.{Breaks, LineTurn, LinePends, NextLine}
-use Rattle.http_wire.proofs.LineTurns.{unfinished_append, unfinished_take}
+use Rattle.http_wire.proofs.LineTurns.{unfinished_append}
 
 after_after : (xs ys : List ℕ) (c : Content) → after xs (after ys c) ≡ after (xs ++ ys) c
 after_after xs ys c = λ i. record { bytes = sym (append_assoc xs ys c.bytes) i; end = c.end }

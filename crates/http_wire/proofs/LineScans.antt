@@ -1,6 +1,6 @@
 -- A size line is read byte by byte as it is read whole.
-use Rattle.std.proofs.Common.{◌≡◌, ℕ, zero, suc, ◌+◌, ◌<◌, ◌≤◌, Bool, true, false, nat_lt, nat_le, ◌==◌, if◌then◌else◌, refl, List, [], ◌∷◌, ◌++◌, length, take, drop, sym, ap, ◌∙◌, arith, zero-add, append_assoc, length-append, Option, Some, None}
-use Rattle.std.proofs.lemmas.Bool.{eqb-true, eqb-false, ltb-true, le-ltb, lt-ltb, le-leb, lt-leb, cases_lt}
+use Rattle.std.proofs.Common.{◌≡◌, ℕ, suc, ◌+◌, ◌<◌, ◌≤◌, Bool, true, false, nat_lt, nat_le, ◌==◌, if◌then◌else◌, refl, List, [], ◌∷◌, ◌++◌, length, take, drop, ap, ◌∙◌, arith, zero-add, append_assoc, length-append, Option, Some, None}
+use Rattle.std.proofs.lemmas.Bool.{eqb-true, eqb-false, le-ltb, lt-ltb, le-leb, lt-leb}
 use Rattle.httparse.specs.Ascii.{line_feed}
 use Rattle.http_wire.specs.declared.fault.WireFault.TheVariants.{BadChunk, EndedEarly}
 use Rattle.http_wire.specs.declared.limits.TheConstants.{HEAD_LIMIT}

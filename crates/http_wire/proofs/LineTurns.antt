@@ -1,7 +1,6 @@
 -- Turns at a line, among all the bytes ahead.
-use Rattle.std.proofs.Common.{◌≡◌, ℕ, zero, suc, ◌+◌, ◌-◌, ◌<◌, ◌≤◌, Bool, true, false, not, ◌||◌, ◌==◌, IsTrue, refl, List, [], ◌∷◌, ◌++◌, length, take, drop, sym, ap, ◌∙◌, subst, arith, Option, Some, None, Ok, Err, length-append, length-take}
+use Rattle.std.proofs.Common.{◌≡◌, ℕ, zero, suc, ◌-◌, ◌<◌, ◌≤◌, Bool, true, false, ◌==◌, IsTrue, refl, List, [], ◌∷◌, ◌++◌, length, take, drop, sym, ap, ◌∙◌, subst, arith, Option, Some, None, Ok, Err, length-append, length-take}
 use Rattle.std.proofs.lemmas.List.{take-append-le, drop-append-le, take-take}
-use Rattle.std.specs.List.{list_any}
 use Rattle.std.specs.Io.KnownBytes.{prepend_known}
 use Rattle.httparse.specs.Ascii.{line_feed}
 use Rattle.http_wire.specs.declared.fault.WireFault.{WireFault}
@@ -12,9 +11,9 @@ use Rattle.http_wire.specs.declared.body.Next.{Next}
 use Rattle.http_wire.specs.declared.body.Next.TheVariants as next
 use Rattle.http_wire.specs.declared.lines.Turn.{Turn}
 use Rattle.http_wire.specs.declared.lines.Turn.TheVariants as turn
-use Rattle.http_wire.specs.Bodies.{Content, End, Ended, only, after, content, lessened, IsEnd, IsBroken, is_of_bytes, is_unfinished, IsLine, IsLast}
+use Rattle.http_wire.specs.Bodies.{Content, Ended, only, after, content, IsEnd, is_unfinished}
 use Rattle.http_wire.specs.Held.{ReadsAhead}
-use Rattle.http_wire.specs.Steps.{going, over, spent, ended, Breaks, IsShort, Claims, Readied, NextRead, KnownAhead, LineIn, IsPiece, LineTurn}
+use Rattle.http_wire.specs.Steps.{over, spent, ended, Breaks, IsShort, Claims, Readied, NextRead, KnownAhead, LineIn, IsPiece, LineTurn}
 use Rattle.http_wire.proofs.BodyTurns.{more_content}
 
 -- ---- bytes without a line feed

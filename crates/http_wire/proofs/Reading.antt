@@ -1,7 +1,7 @@
 -- What a parser found in the bytes is what they say.
-use Rattle.std.proofs.Common.{◌≡◌, ℕ, ◌≤◌, List, [], map, take, length, drop, refl, sym, ap, ◌∙◌, subst, Result, Ok, Err, arith, length-take}
+use Rattle.std.proofs.Common.{◌≡◌, ℕ, ◌≤◌, List, [], map, take, length, drop, ap, ◌∙◌, subst, Result, Ok, Err, arith, length-take}
 use Rattle.std.proofs.lemmas.List.{length-map}
-use Rattle.httparse.specs.Grammar.{ResponseHead, ReadsResponse, Field}
+use Rattle.httparse.specs.Grammar.{ResponseHead, ReadsResponse}
 use Rattle.httparse.proofs.GrammarLemmas.{response_unique}
 use Rattle.http_wire.specs.declared.fault.WireFault.{WireFault}
 use Rattle.http_wire.specs.declared.fault.WireFault.TheVariants.{BadHead, HeadTooLong, BodyTooLong, BadChunk, EndedEarly, ReadFault, WriteFault, NoMemory}

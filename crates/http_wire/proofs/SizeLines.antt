@@ -1,10 +1,10 @@
 -- The size lines that `size_of` reads are those of `httparse`'s grammar.
-use Rattle.std.proofs.Common.{◌≡◌, ℕ, ◌+◌, ◌<◌, ◌≤◌, Bool, true, false, cond, ◌&&◌, ◌||◌, not, IsTrue, ⊎_elim, nat_lt, nat_le, ◌==◌, refl, subst, List, [], ◌∷◌, ◌++◌, length, drop, length-drop, length-append, sym, ap, ◌∙◌, arith, append_assoc, append-nil, Option, Some, None}
-use Rattle.std.proofs.lemmas.Bool.{cond-true, cond-false, eqb-true, eqb-false, ltb-true, leb-true, lt-ltb, le-leb, both_ways, not-true, not-false, and_parts, and_from, or_cases}
+use Rattle.std.proofs.Common.{◌≡◌, ℕ, ◌≤◌, Bool, true, false, ◌&&◌, ◌||◌, not, IsTrue, ⊎_elim, nat_lt, nat_le, ◌==◌, refl, subst, List, [], ◌∷◌, ◌++◌, length, drop, length-drop, length-append, sym, ap, ◌∙◌, arith, append_assoc, append-nil, Option, Some, None}
+use Rattle.std.proofs.lemmas.Bool.{eqb-true, ltb-true, leb-true, lt-ltb, le-leb, both_ways, not-true, and_parts, or_cases}
 use Rattle.std.proofs.lemmas.List.Elements.{All-nil, All-cons, All-head, All-tail}
 use Rattle.std.specs.Char.{is_ascii_hexdigit}
 use Rattle.std.specs.Str.Parse.{digits_value}
-use Rattle.httparse.specs.Grammar.{AllPass, is_ows, skip_ows, is_extension_byte, IsExtension, print_extension, ChunkLine, IsChunkLine, print_chunk_line, ReadsChunkLine, HasNoChunkLine, NeverHasChunkLine, chunk_size}
+use Rattle.httparse.specs.Grammar.{AllPass, is_ows, skip_ows, is_extension_byte, IsExtension, print_extension, ChunkLine, print_chunk_line, ReadsChunkLine, HasNoChunkLine, NeverHasChunkLine, chunk_size}
 use Rattle.httparse.specs.Spans.{IsChunkLineAt}
 use Rattle.httparse.proofs.ChunkLemmas.{chunk_line_unique}
 use Rattle.std.proofs.Math.ListN.{drop_of_length-le}

@@ -1,5 +1,5 @@
 -- What a size line makes of a chunked body.
-use Rattle.std.proofs.Common.{◌≡◌, ℕ, ◌+◌, List, [], ◌++◌, length, take, drop, refl, sym, ap, ◌∙◌, subst, Option, Some, None, Ok, Err, IfSome, ◌≤◌}
+use Rattle.std.proofs.Common.{◌≡◌, ℕ, List, [], ◌++◌, length, take, drop, refl, sym, ap, ◌∙◌, subst, Option, Some, None, Ok, Err, IfSome, ◌≤◌}
 use Rattle.std.proofs.lemmas.List.{take-append-le, drop-append-le}
 use Rattle.std.specs.Io.KnownBytes.{Keeps, prepend_known}
 use Rattle.http_wire.specs.declared.fault.WireFault.{WireFault}

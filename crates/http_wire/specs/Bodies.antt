@@ -1,10 +1,10 @@
 -- What a body's bytes are, in any framing, among all the bytes that come, and what follows it.
-use Rattle.std.specs.Prelude.{◌≡◌, ℕ, zero, suc, ◌+◌, ◌-◌, ◌<◌, ◌≤◌, Bool, true, false, not, ◌&&◌, List, [], ◌∷◌, ◌++◌, length, take, drop, Option, None, Some, Result, Ok, Err, if◌then◌else◌, ◌==◌, nat_lt, IsTrue, ◌⊎◌}
+use Rattle.std.specs.Prelude.{◌≡◌, ℕ, zero, suc, ◌-◌, ◌<◌, ◌≤◌, Bool, true, false, not, List, [], ◌∷◌, ◌++◌, length, take, drop, Option, None, Some, Result, Ok, Err, if◌then◌else◌, ◌==◌, nat_lt, IsTrue, ◌⊎◌}
 use Rattle.std.specs.List.{list_any}
 use Rattle.std.specs.Option.{option_map}
 use Rattle.httparse.specs.Ascii.{line_feed, carriage_return}
 use Rattle.http_wire.specs.declared.fault.WireFault.{WireFault}
-use Rattle.http_wire.specs.declared.fault.WireFault.TheVariants.{BadHead, HeadTooLong, BodyTooLong, BadChunk, EndedEarly, ReadFault, WriteFault, NoMemory}
+use Rattle.http_wire.specs.declared.fault.WireFault.TheVariants.{BadHead, HeadTooLong, BodyTooLong, BadChunk, EndedEarly, ReadFault, NoMemory}
 use Rattle.http_wire.specs.declared.message.Framing.{Framing}
 use Rattle.http_wire.specs.declared.message.Framing.TheVariants.{Length, Chunks, ToEnd}
 use Rattle.http_wire.specs.declared.scan.Ending.{Ending}
@@ -101,7 +101,7 @@ IsBroken (Ended rest) fault = ⊥
 IsBroken (Trailed trailer rest) fault = (fault ≡ BadHead) × (IsTrailer trailer → ⊥)
 IsBroken (Broken cause) fault = fault ≡ cause
 
--- faults that aren't about the bytes
+-- faults that are about the bytes
 abbrev pub is_of_bytes : WireFault → Bool
 is_of_bytes ReadFault = false
 is_of_bytes NoMemory = false

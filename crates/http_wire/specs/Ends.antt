@@ -1,5 +1,5 @@
 -- Where a head, a trailer or a size line ends, among all the bytes that come.
-use Rattle.std.specs.Prelude.{ℕ, ◌+◌, Bool, List, [], ◌∷◌, length, Option, None, Some, if◌then◌else◌, ◌==◌, nat_lt, nat_le}
+use Rattle.std.specs.Prelude.{ℕ, ◌+◌, List, [], ◌∷◌, length, Option, None, Some, if◌then◌else◌, ◌==◌, nat_lt, nat_le}
 use Rattle.std.specs.Option.{option_map}
 use Rattle.httparse.specs.Ascii.{line_feed, carriage_return}
 use Rattle.http_wire.specs.declared.scan.Ending.{Ending}

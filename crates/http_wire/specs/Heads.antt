@@ -1,5 +1,5 @@
 -- What a head says: of a request, and of an answer.
-use Rattle.std.specs.Prelude.{◌≡◌, ℕ, ◌<◌, ◌≤◌, Bool, false, not, ◌&&◌, ◌||◌, List, [], ◌∷◌, length, take, drop, map, Option, None, Some, Result, Ok, Err, if◌then◌else◌, ◌==◌, nat_lt, nat_le, unwrap_or, codes, ⊤}
+use Rattle.std.specs.Prelude.{◌≡◌, ℕ, ◌<◌, ◌≤◌, Bool, false, not, ◌&&◌, ◌||◌, List, [], length, take, drop, map, Option, None, Some, Result, Ok, Err, if◌then◌else◌, ◌==◌, nat_lt, nat_le, unwrap_or, codes, ⊤}
 use Rattle.std.specs.List.{list_any}
 use Rattle.httparse.specs.Grammar.{RequestHead, ReadsRequest, ResponseHead, ReadsResponse, status_code, Field, LineEnd, ReadsSection}
 use Rattle.httparse.specs.Spans.{name_and_value}
@@ -11,7 +11,7 @@ use Rattle.http1.specs.declared.fields.ContentLength.TheVariants as size
 use Rattle.http1.specs.declared.fields.TransferEncoding.{TransferEncoding}
 use Rattle.http1.specs.declared.fields.TransferEncoding.TheVariants as coding
 use Rattle.http_wire.specs.declared.fault.WireFault.{WireFault}
-use Rattle.http_wire.specs.declared.fault.WireFault.TheVariants.{BadHead, HeadTooLong, BodyTooLong, BadChunk, EndedEarly, ReadFault, WriteFault, NoMemory}
+use Rattle.http_wire.specs.declared.fault.WireFault.TheVariants.{BadHead, HeadTooLong, EndedEarly, ReadFault, NoMemory}
 use Rattle.http_wire.specs.declared.message.Framing.{Framing}
 use Rattle.http_wire.specs.declared.message.Framing.TheVariants as framing
 use Rattle.http_wire.specs.declared.message.Head.{Head}

@@ -1,17 +1,16 @@
 -- How a body is read, a piece at a time.
 use Rattle.std.specs.Prelude.{◌≡◌, ℕ, zero, suc, ◌+◌, ◌-◌, ◌<◌, ◌≤◌, Bool, true, false, List, [], ◌∷◌, ◌++◌, length, take, drop, Option, None, Some, Result, Ok, Err, IsTrue, ⊤}
 use Rattle.http_wire.specs.declared.fault.WireFault.{WireFault}
-use Rattle.http_wire.specs.declared.fault.WireFault.TheVariants.{BadHead, HeadTooLong, BodyTooLong, BadChunk, EndedEarly, ReadFault, WriteFault, NoMemory}
+use Rattle.http_wire.specs.declared.fault.WireFault.TheVariants.{BodyTooLong, BadChunk, EndedEarly, ReadFault, WriteFault, NoMemory}
 use Rattle.http_wire.specs.declared.message.Framing.{Framing}
 use Rattle.http_wire.specs.declared.message.Framing.TheVariants.{Length, Chunks, ToEnd}
 use Rattle.http_wire.specs.declared.body.Next.{Next}
 use Rattle.http_wire.specs.declared.body.Next.TheVariants as next
 use Rattle.http_wire.specs.declared.lines.Turn.{Turn}
 use Rattle.http_wire.specs.declared.lines.Turn.TheVariants as turn
-use Rattle.http_wire.specs.Bodies.{Content, End, Ended, Trailed, Broken, only, after, exceeds, content, lessened, chunked, InLine, InData, AtFeed, sized, trailed, IsEnd, IsBroken, is_of_bytes, is_unfinished, IsLine, IsLast, LineRead}
+use Rattle.http_wire.specs.Bodies.{Content, Ended, only, after, exceeds, content, lessened, chunked, InLine, InData, sized, trailed, IsEnd, IsBroken, is_of_bytes, is_unfinished, IsLine, IsLast, LineRead}
 use Rattle.http_wire.specs.declared.limits.TheConstants.{BODY_LIMIT, LINE_LIMIT}
 use Rattle.http_wire.specs.Ends.{trailer_end}
-use Rattle.http_wire.specs.Sizes.{size_of}
 
 -- what a body that goes on so is
 abbrev pub going : Option ℕ → Next → List ℕ → Content

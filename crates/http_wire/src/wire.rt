@@ -69,13 +69,8 @@ impl Wire {
         if let Some(fault) = self.fault {
             return Err(fault);
         }
-        match next_head(self.alloc, &mut self.buffer, source) {
-            Ok(head) => Ok(head),
-            Err(fault) => {
-                self.fault = Some(fault);
-                Err(fault)
-            }
-        }
+        let head = next_head(self.alloc, &mut self.buffer, source);
+        self.remember(head)
     }
 
     /// The body that follows a request's head.
@@ -94,13 +89,8 @@ impl Wire {
         if let Some(fault) = self.fault {
             return Err(fault);
         }
-        match whole_body(self.alloc, &mut self.buffer, source, head.framing) {
-            Ok(body) => Ok(body),
-            Err(fault) => {
-                self.fault = Some(fault);
-                Err(fault)
-            }
-        }
+        let body = whole_body(self.alloc, &mut self.buffer, source, head.framing);
+        self.remember(body)
     }
 
     /// The head of the next answer: its status, and its body's framing. A status of 1xx is given like any other.
@@ -118,13 +108,8 @@ impl Wire {
         if let Some(fault) = self.fault {
             return Err(fault);
         }
-        match next_answer(&mut self.buffer, source) {
-            Ok(answer) => Ok(answer),
-            Err(fault) => {
-                self.fault = Some(fault);
-                Err(fault)
-            }
-        }
+        let answer = next_answer(&mut self.buffer, source);
+        self.remember(answer)
     }
 
     /// The next line of a body, with its line feed where it has one, or none at the body's end. The framing says how the
@@ -147,8 +132,19 @@ impl Wire {
         if let Some(fault) = self.fault {
             return Err(fault);
         }
-        match whole_line(self.alloc, &mut self.buffer, source, framing) {
-            Ok(line) => Ok(line),
+        let line = whole_line(self.alloc, &mut self.buffer, source, framing);
+        self.remember(line)
+    }
+
+    /// Gives the outcome on, and keeps its fault.
+    fn remember<T>(&mut self, outcome: Result<T, WireFault>) -> Result<T, WireFault>
+        requires { self.old.fault ≡ None }
+        ensures given { result ≡ outcome }
+        ensures held { self.new.held ≡ self.old.held }
+        ensures fault { self.new.fault ≡ fault_after outcome }
+    {
+        match outcome {
+            Ok(value) => Ok(value),
             Err(fault) => {
                 self.fault = Some(fault);
                 Err(fault)

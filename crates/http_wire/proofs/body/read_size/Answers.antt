@@ -1,7 +1,6 @@
 -- The line is held.
-use Rattle.std.proofs.Common.{◌≡◌, ℕ, List, Option, Some, None, Ok, take, drop, subst, ap, sym, ◌∙◌, rules}
+use Rattle.std.proofs.Common.{ℕ, List, Ok, subst, sym, rules}
 use Rattle.std.specs.Io.KnownBytes.{prepend_known}
-use Rattle.http_wire.specs.Sizes.{size_of}
 use Rattle.http_wire.specs.Held.{held, ahead, ReadsAhead}
 use Rattle.http_wire.specs.Steps.{SizeRead}
 use Rattle.http_wire.proofs.Sizes.{held_bad, held_good}

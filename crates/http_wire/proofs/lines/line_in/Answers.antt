@@ -1,4 +1,4 @@
-use Rattle.std.proofs.Common.{◌≡◌, ◌<◌, ◌≤◌, ◌+◌, ℕ, List, IsTrue, length, refl, sym, subst, arith}
+use Rattle.std.proofs.Common.{ℕ, List, IsTrue, length, refl, sym, subst, arith}
 use Rattle.std.proofs.lemmas.List.{take_all}
 use Rattle.http_wire.specs.Bodies.{is_unfinished}
 use Rattle.http_wire.proofs.Feeds.{first_line, unfinished}

@@ -1,10 +1,10 @@
-use Rattle.std.proofs.Common.{◌≡◌, ◌-◌, ◌<◌, ◌≤◌, ℕ, List, Option, Ok, Err, length, ◌++◌, take, drop, subst, sym, rules}
+use Rattle.std.proofs.Common.{ℕ, List, Ok, take, subst, sym, rules}
 use Rattle.std.proofs.lemmas.Result.{err_from_is_err_and}
 use Rattle.std.specs.Io.KnownBytes.{prepend_known}
 use Rattle.http_wire.specs.declared.message.Framing.{Framing}
 use Rattle.http_wire.specs.declared.lines.Turn.TheVariants as turn
 use Rattle.http_wire.specs.Held.{held, ahead, ReadsAhead}
-use Rattle.http_wire.specs.Steps.{LineIn, LineTurn, spent, ended}
+use Rattle.http_wire.specs.Steps.{LineIn, LineTurn, spent}
 use Rattle.http_wire.proofs.LineTurns.{turn_cut, turn_last, turn_long, turn_piece}
 use Rattle.http_wire.proofs.lines.line_turn.Goals as goal
 

@@ -1,4 +1,4 @@
-use Rattle.std.proofs.Common.{◌≡◌, ◌-◌, ◌<◌, ◌≤◌, ℕ, List, Option, Bool, false, true, Ok, length, ◌++◌, take, drop, subst, sym, rules, ap, ◌∙◌, arith, vec_len}
+use Rattle.std.proofs.Common.{ℕ, List, true, Ok, subst, sym, rules}
 use Rattle.std.specs.Io.KnownBytes.{prepend_known}
 use Rattle.http_wire.specs.Held.{held, ahead, ReadsAhead}
 use Rattle.http_wire.specs.Steps.{BodyTurn, spent}

@@ -1,5 +1,5 @@
 -- What was read stands behind what was held.
-use Rattle.std.proofs.Common.{◌≡◌, ◌+◌, ◌-◌, ◌≤◌, length, arith, length-take, length-drop, ℕ, ap, ◌∙◌, ◌++◌, take, drop, List, slice_range}
+use Rattle.std.proofs.Common.{◌≡◌, ◌+◌, length, arith, length-take, length-drop, ℕ, ap, ◌∙◌, ◌++◌, take, drop, List, slice_range}
 use Rattle.http_wire.specs.Held.{held}
 use Rattle.http_wire.proofs.Ahead.{grown_keeps, same_keeps}
 use Rattle.http_wire.proofs.Ranges.{range_more, range_kept}

@@ -1,4 +1,4 @@
-use Rattle.std.proofs.Common.{◌≡◌, ◌+◌, ◌-◌, ◌≤◌, length, arith, length-take, length-drop, ℕ}
+use Rattle.std.proofs.Common.{arith, length-take, length-drop, ℕ}
 use Rattle.http_wire.proofs.Ranges.{range_later}
 use Rattle.http_wire.proofs.buffer.Buffer.let_go.Goals as goal
 
