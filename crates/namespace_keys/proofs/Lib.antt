@@ -1,5 +1,3 @@
-pub mod Order
-pub mod Ends
 pub mod Ranges
 pub mod Nested
 pub mod Keys

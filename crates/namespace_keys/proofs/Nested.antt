@@ -1,5 +1,5 @@
 -- Operations and bodies within transactions: what is done along a row is done along the list.
-use Rattle.std.proofs.Common.{◌≡◌, ℕ, Bool, List, [], ◌∷◌, map, refl, ◌∙◌, ap, Ok}
+use Rattle.std.proofs.Common.{◌≡◌, ℕ, Bool, List, ◌∷◌, map, refl, ◌∙◌, ap, Ok}
 use Rattle.etcd_types.specs.declared.operation.TxnAsk.{TxnAsk}
 use Rattle.etcd_types.specs.declared.operation.Op.{Op, Row_of-Op, end_of-Op, more_of-Op, items-the_row-Op}
 use Rattle.etcd_types.specs.declared.operation.Op.TheVariants as operation
@@ -11,7 +11,7 @@ use Rattle.namespace_keys.specs.declared.fault.KeyFault.{KeyFault}
 use Rattle.namespace_keys.specs.declared.fault.KeyFault.TheVariants.{ForeignKey, NoMemory}
 use Rattle.namespace_keys.specs.Returned.{Fails}
 use Rattle.proxy_model.specs.Wrapped.{compare_under, operation_under, row_under, transaction_under}
-use Rattle.proxy_model.specs.Unwrapped.{Unwrapped, ◌>>=◌, each, body_without, row_without, bodies_without}
+use Rattle.proxy_model.specs.Unwrapped.{Unwrapped, ◌>>=◌, body_without, row_without, bodies_without}
 
 row_under-items : {m : _} (p : List ℕ) (row : Row_of-Op m) → row_under p row ≡ map (operation_under p) (items-the_row-Op m row)
 row_under-items p end_of-Op = refl

@@ -1,37 +1,37 @@
 -- A range under a prefix has the keys of the range, each with the prefix.
-use Rattle.std.proofs.Common.{◌≡◌, ℕ, Bool, true, false, not, cond, ◌&&◌, ◌||◌, List, [], ◌∷◌, ◌++◌, length, drop, refl, sym, ◌∙◌, ap, subst, ◌⊎◌, inl, inr}
+use Rattle.std.proofs.Common.{◌≡◌, ℕ, ◌+◌, Bool, true, false, cond, ◌&&◌, ◌||◌, ◌==◌, List, [], ◌∷◌, ◌++◌, length, drop, None, Some, unwrap_or, refl, sym, ◌∙◌, ap, subst, inl, inr, arith}
+use Rattle.std.proofs.lemmas.Bool.Decides.{nat_tests}
 use Rattle.etcd_types.specs.declared.key_range.KeyRange.{KeyRange}
 use Rattle.etcd_types.specs.Keys.{up_to, before, same, is_empty, is_zero}
 use Rattle.etcd_types.specs.Ranges.{contains}
-use Rattle.etcd_types.proofs.KeyOrder.{up_to-along, up_to-nothing, same-equal, same-itself}
-use Rattle.proxy_model.specs.Prefixes.{prefix_end, end_under, under}
-use Rattle.namespace_keys.specs.Laws.{are_bytes, is_left_out, WrappedKeysAreAsked, AskedKeysAreWrapped}
-use Rattle.namespace_keys.proofs.Order.{up_to_under, same_under, prefix_first, zero_up_to, behind}
-use Rattle.namespace_keys.proofs.Ends.{end_under-not_empty, ends_same, within_end, no_prefix}
+use Rattle.etcd_types.proofs.Bools.{and_both, and_first, and_second, or_either, or_left, or_right}
+use Rattle.etcd_types.proofs.KeyOrder.{same-equal, up_to-along, zero_up_to}
+use Rattle.proxy_model.specs.Prefixes.{are_bytes, prefix_end, end_under, under}
+use Rattle.proxy_model.proofs.Prefixed.{up_to_under, same_under, prefix_first, behind}
+use Rattle.proxy_model.proofs.PrefixEnds.{end_under-not_empty, ends_same, within_end, longer_not_zero, one_has, one_under}
+use Rattle.namespace_keys.specs.Laws.{is_left_out, WrappedKeysAreAsked, AskedKeysAreWrapped}
 
-and_first : (a b : Bool) → a && b ≡ true → a ≡ true
-and_first true b e = refl
-and_first false b e = e
+-- The end of a prefix of one zero byte isn't endless.
 
-and_second : (a b : Bool) → a && b ≡ true → b ≡ true
-and_second true b e = e
-and_second false b e = absurd (cc)
+zero_raised : (b : ℕ) → (b == 0) ≡ true → is_zero (unwrap_or (cond (b == 255) None (Some ((b + 1) ∷ []))) (0 ∷ [])) ≡ false
+zero_raised b e =
+    let none : b ≡ 0 = grind (arith, nat_tests) in
+    subst (λ (n : ℕ). is_zero (unwrap_or (cond (n == 255) None (Some ((n + 1) ∷ []))) (0 ∷ [])) ≡ false) (sym none) refl
 
-and_both : (a b : Bool) → a ≡ true → b ≡ true → a && b ≡ true
-and_both true b e f = f
-and_both false b e f = e
+zero_ends : (b : ℕ) (e : List ℕ) → (b == 0) ≡ true → is_empty e ≡ false → is_zero (end_under (b ∷ []) e) ≡ false
+zero_ends b e z f =
+    ap (λ t. is_zero (cond t [] (cond (is_zero e) (prefix_end (b ∷ [])) (b ∷ e)))) f ∙ by_zero (is_zero e)
+  where
+    by_zero : (t : Bool) → is_zero (cond t (prefix_end (b ∷ [])) (b ∷ e)) ≡ false
+    by_zero true = zero_raised b z
+    by_zero false = longer_not_zero b e f
 
-or_either : (a b : Bool) → a || b ≡ true → (a ≡ true) ⊎ (b ≡ true)
-or_either true b e = inl refl
-or_either false b e = inr e
-
-or_left : (a b : Bool) → a ≡ true → a || b ≡ true
-or_left true b e = refl
-or_left false b e = absurd (cc)
-
-or_right : (a b : Bool) → b ≡ true → a || b ≡ true
-or_right true b e = refl
-or_right false b e = e
+-- the range under a prefix has all keys only where there is no prefix
+no_prefix : (p key e : List ℕ) → is_empty e ≡ false → is_zero (end_under p e) ≡ true → is_zero (p ++ key) ≡ true → is_empty p ≡ true
+no_prefix [] key e f z w = refl
+no_prefix (b ∷ []) [] e f z w = absurd (let n = zero_ends b e w f in cc)
+no_prefix (b ∷ []) (k ∷ ks) e f z w = absurd (cc)
+no_prefix (b ∷ c ∷ bs) key e f z w = absurd (cc)
 
 -- A range that isn't of one key has what it reaches from below, up to its end.
 
@@ -51,13 +51,6 @@ parts_by false false all low high rest e = refl
 
 range_parts : (r : KeyRange) (k : List ℕ) → is_empty r.end ≡ false → contains r k ≡ reaches r k && ends_behind r k
 range_parts r k e = parts_by (is_empty r.end) (is_zero r.end) (is_zero r.key) (up_to r.key k) (before k r.end) (same k r.key) e
-
-one_has : (one : Bool) (k key : List ℕ) (rest : Bool) → one ≡ true → cond one (same k key) rest ≡ same k key
-one_has true k key rest e = refl
-one_has false k key rest e = absurd (cc)
-
-one_under : (p e : List ℕ) → is_empty e ≡ true → is_empty (end_under p e) ≡ true
-one_under p e f = ap (λ t. is_empty (cond t [] (cond (is_zero e) (prefix_end p) (p ++ e)))) f
 
 -- What the range asked for reaches.
 

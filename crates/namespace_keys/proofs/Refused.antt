@@ -1,5 +1,5 @@
 -- What is refused is refused by the first foreign key.
-use Rattle.std.proofs.Common.{◌≡◌, ℕ, Bool, true, false, cond, List, [], ◌∷◌, ◌++◌, Option, None, Some, is_some, Ok, Err, refl, sym, ◌∙◌, ap, map}
+use Rattle.std.proofs.Common.{◌≡◌, ℕ, Bool, true, false, cond, List, [], ◌∷◌, ◌++◌, Option, None, Some, is_some, Ok, Err, refl, sym, ◌∙◌, map}
 use Rattle.std.specs.Prelude.{flat_map, filter, ok_or}
 use Rattle.std.specs.List.{cons_option}
 use Rattle.etcd_types.specs.declared.record.Kv.{Kv}
@@ -8,11 +8,10 @@ use Rattle.etcd_types.specs.declared.answer.Body.TheVariants as body
 use Rattle.etcd_types.specs.declared.watch.Change.{Change}
 use Rattle.etcd_types.specs.declared.watch.Change.TheVariants as change
 use Rattle.etcd_types.specs.declared.watch.Event.{Event}
-use Rattle.etcd_types.specs.declared.watch.WatchItem.{WatchItem}
 use Rattle.etcd_types.specs.declared.watch.WatchItem.TheVariants as item
 use Rattle.proxy_model.specs.Prefixes.{without}
-use Rattle.proxy_model.specs.Unwrapped.{Unwrapped, ◌>>=◌, each, key_without, record_without, prev_without, records_without, own_keys, body_without, row_without, reply_without, change_without, event_without, events_without, item_without}
-use Rattle.namespace_keys.specs.Foreign.{first_foreign, refused, record_keys, prev_keys, body_keys, row_keys, change_keys, event_keys, item_keys}
+use Rattle.proxy_model.specs.Unwrapped.{Unwrapped, ◌>>=◌, each, key_without, record_without, prev_without, records_without, own_keys, body_without, row_without, change_without, event_without, events_without}
+use Rattle.namespace_keys.specs.Foreign.{first_foreign, refused, record_keys, prev_keys, body_keys, row_keys, change_keys, event_keys}
 use Rattle.namespace_keys.specs.Laws.{RepliesAreRefusedByName, ItemsAreRefusedByName, ForeignLeaseKeysAreLeftOut}
 use Rattle.namespace_keys.proofs.Keys.{unwrapped_keys_were_wrapped}
 

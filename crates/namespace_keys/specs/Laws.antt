@@ -1,18 +1,14 @@
 -- Why a namespace is safe, in laws over its definitions. A variable in them is any list of numbers, so that a key is made of
 -- bytes is a premise where it is needed.
-use Rattle.std.specs.Prelude.{◌≡◌, ℕ, Bool, false, IsTrue, ◌&&◌, nat_lt, List, [], ◌∷◌, ◌++◌, Some, is_some, map, filter}
-use Rattle.std.specs.List.{list_all}
+use Rattle.std.specs.Prelude.{◌≡◌, ℕ, Bool, false, IsTrue, ◌&&◌, List, [], ◌∷◌, ◌++◌, Some, is_some, map, filter}
 use Rattle.etcd_types.specs.declared.key_range.KeyRange.{KeyRange}
 use Rattle.etcd_types.specs.declared.answer.Reply.{Reply}
 use Rattle.etcd_types.specs.declared.watch.WatchItem.{WatchItem}
 use Rattle.etcd_types.specs.Keys.{is_empty, is_zero}
 use Rattle.etcd_types.specs.Ranges.{contains}
-use Rattle.proxy_model.specs.Prefixes.{without, prefix_end, under}
+use Rattle.proxy_model.specs.Prefixes.{are_bytes, without, prefix_end, under}
 use Rattle.proxy_model.specs.Unwrapped.{own_keys, reply_without, item_without}
 use Rattle.namespace_keys.specs.Foreign.{first_foreign, refused, body_keys, item_keys}
-
-abbrev pub are_bytes : List ℕ → Bool
-are_bytes k = list_all (λ b. nat_lt b 256) k
 
 -- every key in a wrapped range has the prefix and, without it, is in the range asked for
 abbrev pub WrappedKeysAreAsked : Type 0

@@ -1,5 +1,5 @@
 -- What a call that unwraps returns.
-use Rattle.std.specs.Prelude.{◌≡◌, ℕ, List, Result, Ok, Err}
+use Rattle.std.specs.Prelude.{◌≡◌, Result, Ok, Err}
 use Rattle.namespace_keys.specs.declared.fault.KeyFault.{KeyFault}
 use Rattle.namespace_keys.specs.declared.fault.KeyFault.TheVariants.{ForeignKey, NoMemory}
 use Rattle.proxy_model.specs.Unwrapped.{Unwrapped}

@@ -1,5 +1,5 @@
 -- What an operation is answered is a body that it can have.
-use Rattle.std.proofs.Common.{◌≡◌, ℕ, zero, suc, ◌+◌, ◌<◌, ◌≤◌, Bool, true, false, not, cond, ◌&&◌, ◌||◌, ◌==◌, nat_lt, nat_le, List, [], ◌∷◌, ◌++◌, length, take, map, Option, None, Some, Result, Ok, Err, refl, sym, ◌∙◌, ap, subst, arith}
+use Rattle.std.proofs.Common.{◌≡◌, ℕ, zero, suc, ◌≤◌, Bool, true, false, not, cond, ◌&&◌, ◌||◌, ◌==◌, nat_lt, nat_le, List, [], ◌∷◌, ◌++◌, length, take, map, Option, None, Some, Result, Ok, Err, refl, sym, ◌∙◌, ap, subst, arith}
 use Rattle.std.specs.List.{list_all}
 use Rattle.std.specs.Option.{option_to_list}
 use Rattle.std.proofs.lemmas.Bool.Decides.{nat_tests}
@@ -14,6 +14,7 @@ use Rattle.etcd_types.specs.declared.answer.Body.{Body}
 use Rattle.etcd_types.specs.declared.answer.Body.TheVariants as body
 use Rattle.etcd_types.specs.declared.answer.Refusal.{Refusal}
 use Rattle.etcd_types.specs.Ranges.{is_one, contains}
+use Rattle.etcd_types.proofs.Bools.{and_both, and_first, and_second}
 use Rattle.store_model.specs.declared.history.KeyChange.{KeyChange}
 use Rattle.store_model.specs.declared.history.KeyChange.TheVariants as change
 use Rattle.store_model.specs.History.{History, newest}
@@ -24,24 +25,12 @@ use Rattle.store_model.specs.Refusals.{future_revision, compacted_revision, unsu
 use Rattle.store_model.specs.Reads.{read, range_body, shown, limited, without_value, asked_history, is_unsupported}
 use Rattle.store_model.specs.State.{State}
 use Rattle.store_model.specs.Compares.{all_hold}
-use Rattle.store_model.specs.Transactions.{Ran, RanAll, seen, run, run_row, run_all, run_range, run_put, run_delete, put_on, has_lease, unchanged, answered, first_then}
+use Rattle.store_model.specs.Transactions.{Ran, RanAll, seen, run, run_row, run_put, run_delete, put_on, has_lease, unchanged, answered}
+use Rattle.store_model.proofs.RunLemmas.{same_ok, answered_ok, first_then_ok}
 use Rattle.store_laws.proofs.RangeProofs.{records-within}
-use Rattle.proxy_model.specs.Fits.{fits, fits_row, fits_all, fits_range, are_records_of, is_put, is_delete, fits_first, fits_branch, branch_of, is_nothing}
+use Rattle.proxy_model.specs.Fits.{fits, fits_row, fits_range, are_records_of, is_put, is_delete, fits_first, fits_branch, branch_of, is_nothing}
 use Rattle.proxy_model.proofs.FitsLaws.{branch_of-Txn}
 use Rattle.proxy_laws.proofs.OneKey.{records_one}
-use Rattle.proxy_laws.proofs.Ran.{same_ok, answered_ok, first_then_ok}
-
-and_both : (a b : Bool) → a ≡ true → b ≡ true → a && b ≡ true
-and_both true b e f = f
-and_both false b e f = e
-
-pub and_first : (a b : Bool) → a && b ≡ true → a ≡ true
-and_first true b e = refl
-and_first false b e = e
-
-pub and_second : (a b : Bool) → a && b ≡ true → b ≡ true
-and_second true b e = e
-and_second false b e = absurd (cc)
 
 -- Records of a range.
 

@@ -1,6 +1,6 @@
 pub mod Fit
 pub mod OneKey
-pub mod Prefixed
+pub mod Owners
 pub mod Ran
 pub mod SnapshotProofs
 pub mod Split

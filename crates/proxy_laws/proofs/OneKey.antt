@@ -1,12 +1,12 @@
 -- The range of one key shows that key's record, if there is one, and nothing else.
-use Rattle.std.proofs.Common.{◌≡◌, ℕ, ◌<◌, Bool, true, false, not, ◌&&◌, List, [], ◌∷◌, length, map, Option, None, Some, Contains, IsTrue, refl, sym, ◌∙◌, ap, subst, arith}
-use Rattle.std.specs.List.{list_all}
+use Rattle.std.proofs.Common.{◌≡◌, ℕ, true, List, [], ◌∷◌, map, Option, None, Some, Contains, refl, sym, ◌∙◌, ap, subst, arith}
 use Rattle.std.specs.Option.{option_to_list}
 use Rattle.etcd_types.specs.declared.record.Kv.{Kv}
 use Rattle.etcd_types.specs.declared.key_range.KeyRange.{KeyRange}
-use Rattle.etcd_types.specs.Keys.{up_to, before, same, is_empty}
+use Rattle.etcd_types.specs.Keys.{before, same}
 use Rattle.etcd_types.specs.Ranges.{is_one, contains}
-use Rattle.etcd_types.proofs.KeyOrder.{up_to-itself, same-equal, same-itself}
+use Rattle.etcd_types.proofs.Bools.{and_first}
+use Rattle.etcd_types.proofs.KeyOrder.{not_before_itself, same-equal, same-itself}
 use Rattle.store_model.specs.History.{History}
 use Rattle.store_model.specs.Records.{record_now}
 use Rattle.store_model.specs.Ranges.{records_now}
@@ -29,13 +29,6 @@ second_there kv other kvs = (1, omega arith, refl)
 
 nothing_there : (kv : Kv) → Contains [] kv → ⊥
 nothing_there kv c = omega arith
-
-not_before_itself : (k : List ℕ) → before k k ≡ true → ⊥
-not_before_itself k b = let u : up_to k k ≡ true = up_to-itself k in cc
-
-and_first : (a b : Bool) → a && b ≡ true → a ≡ true
-and_first true b e = refl
-and_first false b e = e
 
 shown : (h : History) (r : KeyRange) (kvs : List Kv) (o : Option Kv) → is_one r ≡ true → records_now h r ≡ kvs → record_now h r.key ≡ o → kvs ≡ option_to_list o
 shown h r [] None e is found = refl

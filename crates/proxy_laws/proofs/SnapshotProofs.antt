@@ -1,5 +1,5 @@
 -- A transaction answered from held records has the body that the store gives, where these are its records.
-use Rattle.std.proofs.Common.{◌≡◌, ℕ, zero, suc, ◌<◌, ◌≤◌, Bool, true, false, not, cond, ◌&&◌, ◌==◌, nat_lt, List, [], ◌∷◌, length, take, map, Option, None, Some, is_some, unwrap_or, Result, Ok, refl, sym, ◌∙◌, ap, subst, arith}
+use Rattle.std.proofs.Common.{◌≡◌, ℕ, ◌≤◌, Bool, true, false, not, cond, ◌&&◌, ◌==◌, nat_lt, List, [], ◌∷◌, length, take, map, Option, None, Some, is_some, unwrap_or, Ok, refl, sym, ◌∙◌, ap, arith}
 use Rattle.std.specs.List.{list_all}
 use Rattle.std.specs.Option.{option_to_list}
 use Rattle.std.proofs.lemmas.List.{take_all}
@@ -13,24 +13,21 @@ use Rattle.etcd_types.specs.declared.operation.Op.TheVariants as op
 use Rattle.etcd_types.specs.declared.answer.Body.{Body}
 use Rattle.etcd_types.specs.declared.answer.Body.TheVariants as body
 use Rattle.etcd_types.specs.Ranges.{is_one}
+use Rattle.etcd_types.proofs.Bools.{and_first, and_second, not_true}
 use Rattle.store_model.specs.declared.history.KeyChange.{KeyChange}
 use Rattle.store_model.specs.History.{newest, up_to_revision}
 use Rattle.store_model.specs.Records.{record_now}
 use Rattle.store_model.specs.Ranges.{records_now}
-use Rattle.store_model.specs.Reads.{read, range_body, shown, limited, without_value, asked_history}
+use Rattle.store_model.specs.Reads.{read, range_body, limited, without_value, asked_history}
 use Rattle.store_model.specs.State.{State}
 use Rattle.store_model.specs.Compares.{holds_of, compare_holds, all_hold}
 use Rattle.store_model.specs.Transactions.{seen, run_all, run_range}
-use Rattle.proxy_model.specs.Snapshot.{Held, record_held, is_plain, is_unsorted, is_plain_read, compares_one, is_snapshot, names_nothing, is_compare_held, is_read_held, all_held, has_room, snapshot_holds, snapshot_body, snapshot_by, plain_body, snapshot}
+use Rattle.store_model.proofs.RunLemmas.{same_ok, unchanged_ok, first_then_ok}
+use Rattle.proxy_model.specs.Snapshot.{Held, record_held, is_plain, is_unsorted, is_plain_read, compares_one, is_snapshot, names_nothing, is_compare_held, is_read_held, all_held, snapshot_holds, snapshot_body, snapshot_by, plain_body, snapshot}
 use Rattle.proxy_laws.specs.Answers.{SnapshotsAreTrue, AreRecordsOf, holds_now}
-use Rattle.proxy_laws.proofs.Fit.{read_is, and_first, and_second}
+use Rattle.proxy_laws.proofs.Fit.{read_is}
 use Rattle.proxy_laws.proofs.OneKey.{records_one}
-use Rattle.proxy_laws.proofs.Ran.{same_ok, answer_branch, first_then_ok}
-use Rattle.proxy_laws.proofs.Told.{unchanged_ok}
-
-not_true : (b : Bool) → not b ≡ true → b ≡ false
-not_true true e = absurd (cc)
-not_true false e = refl
+use Rattle.proxy_laws.proofs.Ran.{answer_branch}
 
 -- a held key has the store's record
 held_is : (s : State) (held : Held) (k : List ℕ) → AreRecordsOf held s → is_some (held k) ≡ true → record_held held k ≡ record_now s.history k

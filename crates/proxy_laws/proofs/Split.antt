@@ -1,136 +1,18 @@
 -- The parts of a range delete are the range without the leasing range, each key once.
-use Rattle.std.proofs.Common.{◌≡◌, ℕ, zero, suc, ◌+◌, ◌<◌, ◌≤◌, Bool, true, false, not, cond, ◌&&◌, ◌||◌, ◌==◌, List, [], ◌∷◌, ◌++◌, Option, None, Some, unwrap_or, refl, sym, ◌∙◌, ap, subst, ◌⊎◌, inl, inr, arith}
-use Rattle.std.specs.Ordering.{nat_cmp, is_le, ordering_then}
-use Rattle.std.specs.declared.cmp.Ordering.{Ordering}
-use Rattle.std.specs.declared.cmp.Ordering.TheVariants.{Less, Equal, Greater}
-use Rattle.std.specs.Cmp.{nat_cmp_is}
-use Rattle.std.specs.Cmp.Lexicographic.{slice_cmp}
-use Rattle.std.proofs.lemmas.Bool.Decides.{nat_tests}
-use Rattle.std.proofs.lemmas.Cmp.{tied_itself, nat_cmp_total}
+use Rattle.std.proofs.Common.{◌≡◌, ℕ, ◌+◌, Bool, true, false, not, cond, ◌&&◌, ◌||◌, ◌==◌, List, [], ◌∷◌, ◌++◌, Option, None, Some, unwrap_or, refl, sym, ◌∙◌, ap, subst, arith}
 use Rattle.etcd_types.specs.declared.key_range.KeyRange.{KeyRange}
-use Rattle.etcd_types.specs.Keys.{up_to, before, same, is_empty, is_zero}
-use Rattle.etcd_types.specs.Ranges.{is_one, contains, overlaps}
-use Rattle.etcd_types.proofs.KeyOrder.{up_to-along, up_to-either, up_to-nothing, up_to-itself}
+use Rattle.etcd_types.specs.Keys.{up_to, before, is_empty, is_zero}
+use Rattle.etcd_types.specs.Ranges.{contains, overlaps}
 use Rattle.etcd_types.proofs.Overlaps.{overlap_in_a_key}
+use Rattle.etcd_types.proofs.Bools.{and_both, and_not_both, and_true, false_not, not_true, same_tests}
+use Rattle.etcd_types.proofs.KeyOrder.{before-along, head_below, head_same, not_up_to, up_to-along, up_to-before, zero_up_to}
+use Rattle.store_model.proofs.RangeLemmas.{range_has}
 use Rattle.proxy_model.specs.Prefixes.{raised, raised_last, prefix_end, leasing_range}
 use Rattle.proxy_model.specs.SeveralKeys.{end_before, part_before, start_behind, part_behind, parts}
+use Rattle.proxy_model.proofs.PrefixEnds.{end_not_empty}
 use Rattle.proxy_laws.specs.Split.{one_if, times, PartsGoRound}
 
--- Tests.
-
-or_true : (a : Bool) → a || true ≡ true
-or_true true = refl
-or_true false = refl
-
-or_false : (a : Bool) → a || false ≡ a
-or_false true = refl
-or_false false = refl
-
-pub and_true : (a : Bool) → a && true ≡ a
-and_true true = refl
-and_true false = refl
-
-and_false : (a : Bool) → a && false ≡ false
-and_false true = refl
-and_false false = refl
-
-pub and_both : (a b : Bool) → a ≡ true → b ≡ true → a && b ≡ true
-and_both true b e f = f
-and_both false b e f = e
-
-not_both : (a b : Bool) → (a ≡ true → b ≡ true → ⊥) → a && b ≡ false
-not_both true true n = absurd (n refl refl)
-not_both true false n = refl
-not_both false b n = refl
-
-same_tests : (a b : Bool) → (a ≡ true → b ≡ true) → (b ≡ true → a ≡ true) → a ≡ b
-same_tests true true f g = refl
-same_tests true false f g = sym (f refl)
-same_tests false true f g = g refl
-same_tests false false f g = refl
-
-true_or_false : (a : Bool) → (a ≡ true) ⊎ (a ≡ false)
-true_or_false true = inl refl
-true_or_false false = inr refl
-
-pub not_false : (a : Bool) → not a ≡ true → a ≡ false
-not_false true e = absurd (cc)
-not_false false e = refl
-
-pub not_true : (a : Bool) → a ≡ false → not a ≡ true
-not_true true e = absurd (cc)
-not_true false e = refl
-
--- The order of keys.
-
-pub head_below : (a b : ℕ) (xs ys : List ℕ) → a < b → up_to (a ∷ xs) (b ∷ ys) ≡ true
-head_below a b xs ys l = ap (λ o. is_le (ordering_then o (slice_cmp nat_cmp xs ys))) (sym (nat_cmp_is a b Less l))
-
-pub head_same : (a : ℕ) (xs ys : List ℕ) → up_to (a ∷ xs) (a ∷ ys) ≡ up_to xs ys
-head_same a xs ys = ap (λ o. is_le (ordering_then o (slice_cmp nat_cmp xs ys))) (tied_itself nat_cmp_total a)
-
-below_back : (a b : List ℕ) → before a b ≡ true → up_to a b ≡ true
-below_back a b l =
-    elim (up_to-either a b) [ inl u ↦ u | inr v ↦ absurd (let w : up_to b a ≡ false = not_false (up_to b a) l in cc) ]
-
-not_up_to : (a b : List ℕ) → up_to a b ≡ false → up_to b a ≡ true
-not_up_to a b n = elim (up_to-either a b) [ inl u ↦ absurd (cc) | inr v ↦ v ]
-
-before_along : (a b c : List ℕ) → before a b ≡ true → up_to b c ≡ true → before a c ≡ true
-before_along a b c l u =
-    not_true (up_to c a) (by_test (up_to c a) refl)
-  where
-    by_test : (t : Bool) → up_to c a ≡ t → up_to c a ≡ false
-    by_test true e = absurd (let v : up_to b a ≡ true = up_to-along b c a u e in let w : up_to b a ≡ false = not_false (up_to b a) l in cc)
-    by_test false e = e
-
-up_to_before : (a b c : List ℕ) → up_to a b ≡ true → before b c ≡ true → before a c ≡ true
-up_to_before a b c u l =
-    not_true (up_to c a) (by_test (up_to c a) refl)
-  where
-    by_test : (t : Bool) → up_to c a ≡ t → up_to c a ≡ false
-    by_test true e = absurd (let v : up_to c b ≡ true = up_to-along c a b e u in let w : up_to c b ≡ false = not_false (up_to c b) l in cc)
-    by_test false e = e
-
--- one zero byte is up to every key but the empty one
-zero_first : (b : ℕ) (xs : List ℕ) (x : ℕ) → (b == 0) ≡ true → up_to (b ∷ []) (x ∷ xs) ≡ true
-zero_first b xs x e =
-    let none : b ≡ 0 = grind (arith, nat_tests) in
-    elim (zero_or_more x) [
-      | inl z ↦ subst (λ (y : ℕ). up_to (b ∷ []) (y ∷ xs) ≡ true) (none ∙ sym z) (head_same b [] xs ∙ up_to-nothing xs)
-      | inr l ↦ head_below b x [] xs (omega arith)
-    ]
-  where
-    zero_or_more : (x : ℕ) → (x ≡ 0) ⊎ (0 < x)
-    zero_or_more zero = inl refl
-    zero_or_more (suc x) = inr (omega arith)
-
-pub zero_up_to : (z k : List ℕ) → is_zero z ≡ true → is_empty k ≡ false → up_to z k ≡ true
-zero_up_to [] k e f = absurd (cc)
-zero_up_to (b ∷ []) [] e f = absurd (cc)
-zero_up_to (b ∷ []) (x ∷ xs) e f = zero_first b xs x e
-zero_up_to (b ∷ c ∷ bs) k e f = absurd (cc)
-
-pub or_up_to : (z k : List ℕ) → is_empty k ≡ false → is_zero z || up_to z k ≡ up_to z k
-or_up_to z k f = by_test (is_zero z) refl
-  where
-    by_test : (t : Bool) → is_zero z ≡ t → t || up_to z k ≡ up_to z k
-    by_test true e = sym (zero_up_to z k e f)
-    by_test false e = refl
-
 -- The end of a prefix.
-
-not_empty_raised : (o : Option (List ℕ)) (b : ℕ) → is_empty (unwrap_or (raised_last b o) (0 ∷ [])) ≡ false
-not_empty_raised None b = by_test (b == 255)
-  where
-    by_test : (t : Bool) → is_empty (unwrap_or (cond t None (Some ((b + 1) ∷ []))) (0 ∷ [])) ≡ false
-    by_test true = refl
-    by_test false = refl
-not_empty_raised (Some bs) b = refl
-
-pub end_not_empty : (p : List ℕ) → is_empty (prefix_end p) ≡ false
-end_not_empty [] = refl
-end_not_empty (b ∷ bs) = not_empty_raised (raised bs) b
 
 -- a raised prefix is above it
 raised_above : (p x : List ℕ) → raised p ≡ Some x → up_to p x ≡ true
@@ -156,34 +38,6 @@ end_above p e = by_raised (raised p) refl e
     by_raised None f z = absurd (cc)
     by_raised (Some x) f z = raised_above p x f
 
--- a prefix of one zero byte isn't one of FF alone
-zero_raised : (b : ℕ) → (b == 0) ≡ true → is_zero (unwrap_or (cond (b == 255) None (Some ((b + 1) ∷ []))) (0 ∷ [])) ≡ false
-zero_raised b e =
-    let none : b ≡ 0 = grind (arith, nat_tests) in
-    subst (λ (n : ℕ). is_zero (unwrap_or (cond (n == 255) None (Some ((n + 1) ∷ []))) (0 ∷ [])) ≡ false) (sym none) refl
-
-zero_ends : (p : List ℕ) → is_zero p ≡ true → is_zero (prefix_end p) ≡ false
-zero_ends [] e = absurd (cc)
-zero_ends (b ∷ []) e = zero_raised b e
-zero_ends (b ∷ c ∷ bs) e = absurd (cc)
-
--- What a range has.
-
-range_by : (one endless all : Bool) (key end k : List ℕ) → one ≡ false
-    → cond one (same k key) (cond endless (all || up_to key k) (up_to key k && before k end)) ≡ cond endless (all || up_to key k) (up_to key k && before k end)
-range_by true endless all key end k e = absurd (cc)
-range_by false endless all key end k e = refl
-
--- a range that isn't of one key has the keys from its key on, up to its end, if that isn't endless
-pub range_has : (r : KeyRange) (k : List ℕ) → is_empty r.end ≡ false → is_empty k ≡ false → contains r k ≡ up_to r.key k && (is_zero r.end || before k r.end)
-range_has r k e f =
-    range_by (is_empty r.end) (is_zero r.end) (is_zero r.key) r.key r.end k e ∙ ap (λ t. cond (is_zero r.end) t (up_to r.key k && before k r.end)) (or_up_to r.key k f)
-    ∙ by_test (is_zero r.end)
-  where
-    by_test : (z : Bool) → cond z (up_to r.key k) (up_to r.key k && before k r.end) ≡ up_to r.key k && (z || before k r.end)
-    by_test true = sym (and_true (up_to r.key k))
-    by_test false = refl
-
 leasing_has : (p k : List ℕ) → is_empty k ≡ false → contains (leasing_range p) k ≡ up_to p k && (is_zero (prefix_end p) || before k (prefix_end p))
 leasing_has p k f = range_has (leasing_range p) k (end_not_empty p) f
 
@@ -203,12 +57,12 @@ end_is_lesser p k r = by_zero (is_zero r.end)
   where
     lesser : (u : Bool) → up_to r.end p ≡ u → before k (cond u r.end p) ≡ before k p && before k r.end
     lesser true e =
-        same_tests (before k r.end) (before k p && before k r.end) (λ l. and_both (before k p) _ (before_along k r.end p l e) l) (λ l. second l)
+        same_tests (before k r.end) (before k p && before k r.end) (λ l. and_both (before k p) _ (before-along k r.end p l e) l) (λ l. second l)
       where
         second : before k p && before k r.end ≡ true → before k r.end ≡ true
         second l = grind arith
     lesser false e =
-        same_tests (before k p) (before k p && before k r.end) (λ l. and_both (before k p) _ l (before_along k p r.end l (not_up_to r.end p e))) (λ l. first l)
+        same_tests (before k p) (before k p && before k r.end) (λ l. and_both (before k p) _ l (before-along k p r.end l (not_up_to r.end p e))) (λ l. first l)
       where
         first : before k p && before k r.end ≡ true → before k p ≡ true
         first l = grind arith
@@ -233,8 +87,8 @@ before_has : (p k : List ℕ) (r : KeyRange) → is_empty p ≡ false → is_emp
 before_has p k r e f g =
     one_by (before r.key end && not (is_zero end)) (record { key = r.key; end = end }) k (up_to r.key k && before k end)
     (λ c. range_has (record { key = r.key; end = end }) k (end_before-not_empty p r e g) f
-    ∙ ap (λ z. up_to r.key k && (z || before k end)) (not_false (is_zero end) (second c)))
-    (λ c. not_both (up_to r.key k) (before k end) (λ u l. by_zero (is_zero end) refl u l c))
+    ∙ ap (λ z. up_to r.key k && (z || before k end)) (not_true (is_zero end) (second c)))
+    (λ c. and_not_both (up_to r.key k) (before k end) (λ u l. by_zero (is_zero end) refl u l c))
   where
     end : List ℕ
     end = end_before p r
@@ -245,7 +99,7 @@ before_has p k r e f g =
     by_zero : (z : Bool) → is_zero end ≡ z → up_to r.key k ≡ true → before k end ≡ true → before r.key end && not (is_zero end) ≡ false → ⊥
     by_zero true z u l c = let n : before k end ≡ false = nothing_below_zero end k z f in cc
     by_zero false z u l c =
-        let all : before r.key end && not (is_zero end) ≡ true = and_both (before r.key end) (not (is_zero end)) (up_to_before r.key k end u l) (not_true (is_zero end) z) in
+        let all : before r.key end && not (is_zero end) ≡ true = and_both (before r.key end) (not (is_zero end)) (up_to-before r.key k end u l) (false_not (is_zero end) z) in
         cc
 
 -- The part behind.
@@ -273,7 +127,7 @@ behind_has pe k r f g =
     (not (is_zero pe) && ((up_to r.key k && up_to pe k) && (is_zero r.end || before k r.end)))
     (λ c. range_has (record { key = start; end = r.end }) k g f ∙ ap (λ t. t && (is_zero r.end || before k r.end)) (start_is_greater pe k r)
     ∙ ap (λ z. z && ((up_to r.key k && up_to pe k) && (is_zero r.end || before k r.end))) (sym (first c)))
-    (λ c. not_both (not (is_zero pe)) _ (λ nz all. reach (is_zero r.end) refl nz all c))
+    (λ c. and_not_both (not (is_zero pe)) _ (λ nz all. reach (is_zero r.end) refl nz all c))
   where
     start : List ℕ
     start = start_behind pe r
@@ -291,7 +145,7 @@ behind_has pe k r f g =
         → not (is_zero pe) && (is_zero r.end || before start r.end) ≡ false → ⊥
     reach true z nz all c = grind arith
     reach false z nz all c =
-        let l : before start r.end ≡ true = up_to_before start k r.end (from_start all) (to_end z all) in
+        let l : before start r.end ≡ true = up_to-before start k r.end (from_start all) (to_end z all) in
         grind arith
 
 -- Together.

@@ -1,43 +1,38 @@
 -- What the answers to the proxy's own transactions tell.
-use Rattle.std.proofs.Common.{◌≡◌, ℕ, Bool, true, false, cond, ◌&&◌, ◌||◌, List, [], ◌∷◌, ◌++◌, map, Option, None, Some, Result, Ok, Err, refl, sym, ◌∙◌, ap, subst}
+use Rattle.std.proofs.Common.{◌≡◌, ℕ, Bool, true, false, cond, ◌&&◌, ◌||◌, List, [], ◌∷◌, ◌++◌, map, Option, None, Some, Ok, refl, sym, ◌∙◌, ap, subst}
 use Rattle.std.specs.List.{flat_map}
-use Rattle.std.specs.Option.{option_to_list}
+use Rattle.std.specs.Option.{option_to_list, option_map}
 use Rattle.etcd_types.specs.declared.record.Kv.{Kv}
-use Rattle.etcd_types.specs.declared.record.Header.{Header}
 use Rattle.etcd_types.specs.declared.key_range.KeyRange.{KeyRange}
-use Rattle.etcd_types.specs.declared.operation.TxnAsk.{TxnAsk}
 use Rattle.etcd_types.specs.declared.operation.Op.{Op}
 use Rattle.etcd_types.specs.declared.operation.Op.TheVariants.{Txn}
-use Rattle.etcd_types.specs.declared.request.Request.{Request}
 use Rattle.etcd_types.specs.declared.answer.Body.{Body}
-use Rattle.etcd_types.specs.declared.answer.Refusal.{Refusal}
+use Rattle.etcd_types.proofs.Bools.{and_first, or_left, or_right}
 use Rattle.store_model.specs.declared.history.KeyChange.{KeyChange}
-use Rattle.store_model.specs.History.{History, newest}
+use Rattle.store_model.specs.History.{newest}
 use Rattle.store_model.specs.Records.{record_now}
 use Rattle.store_model.specs.Ranges.{records_now}
-use Rattle.store_model.specs.Reads.{read, range_body}
+use Rattle.store_model.specs.Reads.{read}
 use Rattle.store_model.specs.State.{State}
-use Rattle.store_model.specs.Transactions.{Ran, seen, run, run_all, run_range, unchanged}
+use Rattle.store_model.specs.Transactions.{seen, run_all, run_range}
+use Rattle.store_model.proofs.RunLemmas.{same_ok, unchanged_ok, first_then_ok}
 use Rattle.store_model.proofs.TransactionLemmas.{run_is_txn}
-use Rattle.proxy_model.specs.declared.ownership.Claim.{Claim}
 use Rattle.proxy_model.specs.declared.ownership.Claim.TheVariants.{Acquired, OwnedBy}
-use Rattle.proxy_model.specs.declared.ownership.Written.{Written}
 use Rattle.proxy_model.specs.declared.ownership.Written.TheVariants.{Wrote, Blocked}
-use Rattle.proxy_model.specs.Acquire.{acquire, claim_of, claimed}
+use Rattle.proxy_model.specs.Acquire.{acquire, claim_of}
 use Rattle.proxy_model.specs.Asks.{range_ask, read_op, put_op}
 use Rattle.proxy_model.specs.Fits.{branch_of, fits_all, fits_txn, fits_first, fits_branch, is_put, is_delete}
 use Rattle.proxy_model.specs.Foreign.{owner_of, ask_revoke}
-use Rattle.proxy_model.specs.Guarded.{guarded, write_ops, answer_of, owners_in, written_of, written, read_owners}
-use Rattle.proxy_model.specs.Keyed.{option_map}
-use Rattle.proxy_model.specs.Leaving.{rescind, held_by, held_in, guard_held}
+use Rattle.proxy_model.specs.Guarded.{guarded, write_ops, answer_of, written_of, read_owners}
+use Rattle.proxy_model.specs.Leaving.{rescind, held_by, held_in}
 use Rattle.proxy_model.specs.Prefixes.{only, under}
 use Rattle.proxy_model.specs.Readings.{records_of, first_of, record_of, reading}
 use Rattle.proxy_model.specs.SeveralKeys.{written_ranges}
 use Rattle.proxy_model.proofs.FitsLaws.{fits_is_txn}
-use Rattle.proxy_laws.specs.Answers.{AnswersFit, ClaimsAreTrue, WritesAreTrue, RescindsAreTrue, RevokesAreTrue, holds_now, claim_now, written_now, bodies_in, owned_now, owners_now}
+use Rattle.proxy_laws.specs.Answers.{AnswersFit, ClaimsAreTrue, WritesAreTrue, RescindsAreTrue, RevokesAreTrue, holds_now, bodies_in, owned_now, owners_now}
 use Rattle.proxy_laws.proofs.Fit.{run_fits, read_is}
 use Rattle.proxy_laws.proofs.OneKey.{records_one}
-use Rattle.proxy_laws.proofs.Ran.{same_ok, answer_ran, answer_branch, first_then_ok}
+use Rattle.proxy_laws.proofs.Ran.{answer_ran, answer_branch}
 
 pub answers_fit : AnswersFit
 answers_fit s member t reply e =
@@ -45,12 +40,6 @@ answers_fit s member t reply e =
     sym (fits_is_txn t reply.body) ∙ run_fits s (Txn t) [] made reply.body (run_is_txn s t [] ∙ ran)
 
 -- A read within a transaction shows the records of its range, and changes nothing.
-
-pub unchanged_ok : (made : List KeyChange) (r : Result Body Refusal) (next : List KeyChange) (b : Body) → unchanged made r ≡ Ok (next, b) → (made ≡ next) × (r ≡ Ok b)
-unchanged_ok made (Ok x) next b e =
-    let same = same_ok (made, x) (next, b) e in
-    (ap (λ (y : List KeyChange × Body). y.0) same, ap (λ (y : List KeyChange × Body). Ok y.1) same)
-unchanged_ok made (Err refusal) next b e = absurd (cc)
 
 read_shows : (s : State) (r : KeyRange) (made next : List KeyChange) (b : Body) → run_range s (range_ask r) made ≡ Ok (next, b)
     → (made ≡ next) × (records_of b ≡ records_now (seen s made) r)
@@ -126,28 +115,16 @@ writes_are_true s member p write created reply e =
 
 -- Guards.
 
-or_right : (a b : Bool) → b ≡ true → a || b ≡ true
-or_right true b e = refl
-or_right false b e = e
-
-or_left : (a b : Bool) → a ≡ true → a || b ≡ true
-or_left true b e = refl
-or_left false b e = absurd (cc)
-
-and_first : (a b : Bool) → a && b ≡ true → a ≡ true
-and_first true b e = refl
-and_first false b e = e
-
-and_false : (a : Bool) → a && false ≡ true → ⊥
-and_false true e = cc
-and_false false e = cc
+never_and_false : (a : Bool) → a && false ≡ true → ⊥
+never_and_false true e = cc
+never_and_false false e = cc
 
 -- a success has one body that passes the test, a failure none
 held_told : (test : Body → Bool) → ((b : Body) → test b ≡ true → is_put b || is_delete b ≡ true) → (h : Bool) (bodies : List Body)
     → cond h (fits_first bodies test (fits_all [])) (fits_all [] bodies) ≡ true → held_by h bodies ≡ Some h
 held_told test known true [] e = absurd (cc)
 held_told test known true (b ∷ []) e = ap (λ c. cond (true && c) (Some true) None) (known b (and_first (test b) _ e))
-held_told test known true (b ∷ c ∷ bs) e = absurd (and_false (test b) e)
+held_told test known true (b ∷ c ∷ bs) e = absurd (never_and_false (test b) e)
 held_told test known false [] e = refl
 held_told test known false (b ∷ []) e = absurd (cc)
 held_told test known false (b ∷ c ∷ bs) e = absurd (cc)

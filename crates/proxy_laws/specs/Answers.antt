@@ -1,6 +1,7 @@
 -- What the store's answers to a proxy's own transactions tell, whatever the store holds.
-use Rattle.std.specs.Prelude.{◌≡◌, ℕ, Bool, true, if◌then◌else◌, List, [], ◌++◌, map, Option, None, Some, Result, Ok, Err}
+use Rattle.std.specs.Prelude.{◌≡◌, ℕ, Bool, true, if◌then◌else◌, List, [], ◌++◌, map, Option, Some, Ok, Err}
 use Rattle.std.specs.List.{flat_map}
+use Rattle.std.specs.Option.{option_map}
 use Rattle.etcd_types.specs.declared.key_range.KeyRange.{KeyRange}
 use Rattle.etcd_types.specs.declared.record.Kv.{Kv}
 use Rattle.etcd_types.specs.declared.record.Header.{Header}
@@ -26,7 +27,6 @@ use Rattle.proxy_model.specs.Acquire.{acquire, claimed}
 use Rattle.proxy_model.specs.Fits.{fits_txn}
 use Rattle.proxy_model.specs.Foreign.{owner_of, ask_revoke}
 use Rattle.proxy_model.specs.Guarded.{guarded, write_ops, answer_of, written}
-use Rattle.proxy_model.specs.Keyed.{option_map}
 use Rattle.proxy_model.specs.Leaving.{rescind, guard_held}
 use Rattle.proxy_model.specs.Prefixes.{under}
 use Rattle.proxy_model.specs.SeveralKeys.{written_ranges}

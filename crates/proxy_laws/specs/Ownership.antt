@@ -1,15 +1,11 @@
 -- The keys of a range, under a prefix.
-use Rattle.std.specs.Prelude.{◌≡◌, ℕ, Bool, true, false, nat_lt, List, ◌++◌}
-use Rattle.std.specs.List.{list_all}
+use Rattle.std.specs.Prelude.{◌≡◌, ℕ, true, false, List, ◌++◌}
 use Rattle.etcd_types.specs.declared.record.Kv.{Kv}
 use Rattle.etcd_types.specs.declared.key_range.KeyRange.{KeyRange}
 use Rattle.etcd_types.specs.Keys.{is_empty}
 use Rattle.etcd_types.specs.Ranges.{contains}
 use Rattle.proxy_model.specs.Foreign.{owner_of}
-use Rattle.proxy_model.specs.Prefixes.{under}
-
-abbrev pub are_bytes : List ℕ → Bool
-are_bytes k = list_all (λ b. nat_lt b 256) k
+use Rattle.proxy_model.specs.Prefixes.{are_bytes, under}
 
 -- a key is in a range exactly where, with the prefix, it is in the range under the prefix
 abbrev pub RangesStayUnderPrefix : Type 0

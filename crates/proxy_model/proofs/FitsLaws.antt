@@ -1,5 +1,5 @@
 -- A body of a transaction by the lists of its operations and bodies.
-use Rattle.std.proofs.Common.{◌≡◌, Bool, List, [], ◌∷◌, Option, None, Some, refl, ◌∙◌, ap}
+use Rattle.std.proofs.Common.{◌≡◌, Bool, List, Some, refl, ◌∙◌, ap}
 use Rattle.etcd_types.specs.declared.operation.TxnAsk.{TxnAsk}
 use Rattle.etcd_types.specs.declared.operation.Op.{Op, Row_of-Op, end_of-Op, more_of-Op}
 use Rattle.etcd_types.specs.declared.operation.Op.TheVariants.{Txn}

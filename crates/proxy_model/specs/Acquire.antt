@@ -1,14 +1,12 @@
 -- Acquire: a proxy takes the ownership of a key, and reads its record with it.
-use Rattle.std.specs.Prelude.{ℕ, Bool, false, List, [], ◌∷◌, ◌++◌, Option, None, Some, if◌then◌else◌}
+use Rattle.std.specs.Prelude.{ℕ, Bool, false, List, [], ◌∷◌, ◌++◌, Option, if◌then◌else◌}
+use Rattle.std.specs.Option.{option_map}
 use Rattle.etcd_types.specs.declared.operation.Target.TheVariants as target
 use Rattle.etcd_types.specs.declared.operation.TxnAsk.{TxnAsk}
-use Rattle.etcd_types.specs.declared.record.Kv.{Kv}
 use Rattle.etcd_types.specs.declared.answer.Body.{Body}
 use Rattle.etcd_types.specs.declared.answer.Reply.{Reply}
-use Rattle.proxy_model.specs.declared.ownership.Owner.{Owner}
 use Rattle.proxy_model.specs.declared.ownership.Claim.{Claim}
 use Rattle.proxy_model.specs.declared.ownership.Claim.TheVariants.{Acquired, OwnedBy}
-use Rattle.proxy_model.specs.Keyed.{option_map}
 use Rattle.proxy_model.specs.Prefixes.{only}
 use Rattle.proxy_model.specs.Asks.{read_op, put_op, equals, created_at}
 use Rattle.proxy_model.specs.Fits.{branch_of, fits_txn}

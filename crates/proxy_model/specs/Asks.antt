@@ -1,10 +1,8 @@
 -- The compares and operations of which a proxy's own transactions consist.
-use Rattle.std.specs.Prelude.{ℕ, Bool, true, false, List, []}
+use Rattle.std.specs.Prelude.{ℕ, Bool, false, List, []}
 use Rattle.etcd_types.specs.declared.key_range.KeyRange.{KeyRange}
 use Rattle.etcd_types.specs.declared.operation.Sort.{Sort}
 use Rattle.etcd_types.specs.declared.operation.RangeAsk.{RangeAsk}
-use Rattle.etcd_types.specs.declared.operation.PutAsk.{PutAsk}
-use Rattle.etcd_types.specs.declared.operation.DeleteAsk.{DeleteAsk}
 use Rattle.etcd_types.specs.declared.operation.Compare.{Compare}
 use Rattle.etcd_types.specs.declared.operation.Target.{Target}
 use Rattle.etcd_types.specs.declared.operation.Target.TheVariants as target

@@ -1,7 +1,7 @@
 -- Which bodies an answer to a transaction can have: as many as the branch that ran has operations, each of its operation's
 -- kind, those of a transaction within it likewise. Each record of a range lies in it, and a range of one key has at most one.
 -- Headers, counts and previous records are not looked at.
-use Rattle.std.specs.Prelude.{ℕ, Bool, true, false, not, ◌&&◌, ◌||◌, nat_le, if◌then◌else◌, List, [], ◌∷◌, length, Option, None, Some}
+use Rattle.std.specs.Prelude.{Bool, true, false, not, ◌&&◌, ◌||◌, nat_le, if◌then◌else◌, List, [], ◌∷◌, length, Option, None, Some}
 use Rattle.std.specs.List.{list_all}
 use Rattle.etcd_types.specs.declared.key_range.KeyRange.{KeyRange}
 use Rattle.etcd_types.specs.declared.record.Kv.{Kv}

@@ -1,9 +1,8 @@
 -- A write behind the ownership keys of all that it writes: it is done where each of these is as the proxy knows it, and else
 -- shows the ones that are there. An owner write, a guest write, and a write of several keys are of this form.
-use Rattle.std.specs.Prelude.{ℕ, Bool, true, false, List, [], ◌∷◌, map, if◌then◌else◌, Option, None, Some}
+use Rattle.std.specs.Prelude.{ℕ, Bool, true, false, List, [], ◌∷◌, map, if◌then◌else◌, Option}
 use Rattle.std.specs.List.{flat_map}
 use Rattle.etcd_types.specs.declared.key_range.KeyRange.{KeyRange}
-use Rattle.etcd_types.specs.declared.record.Kv.{Kv}
 use Rattle.etcd_types.specs.declared.operation.Op.{Op}
 use Rattle.etcd_types.specs.declared.operation.Op.TheVariants as op
 use Rattle.etcd_types.specs.declared.operation.TxnAsk.{TxnAsk}

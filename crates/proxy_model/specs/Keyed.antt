@@ -4,6 +4,7 @@ use Rattle.std.specs.Prelude.{ℕ, Bool, not, List, filter, Option, None, Some}
 use Rattle.std.specs.Ordering.{nat_cmp}
 use Rattle.std.specs.Cmp.Lexicographic.{slice_cmp}
 use Rattle.std.specs.FinMap.{find, put, is_sorted}
+use Rattle.std.specs.Option.{option_map}
 use Rattle.etcd_types.specs.Keys.{same}
 
 abbrev pub Keyed : Type 0 → Type 0
@@ -17,10 +18,6 @@ at es k = find (slice_cmp nat_cmp) k es
 abbrev pub with_at : {A : Type 0} → Keyed A → List ℕ → Option A → Keyed A
 with_at es k None = filter (λ e. not (same k e.0)) es
 with_at es k (Some x) = put (slice_cmp nat_cmp) k x es
-
-abbrev pub option_map : {A B : Type 0} → (A → B) → Option A → Option B
-option_map f None = None
-option_map f (Some x) = Some (f x)
 
 -- the list with what stands at the key changed, where there is any
 abbrev pub changed_at : {A : Type 0} → Keyed A → List ℕ → (A → A) → Keyed A

@@ -1,5 +1,5 @@
 -- Passing on: the call that a request becomes, and the reply that the call's answer becomes.
-use Rattle.std.specs.Prelude.{ℕ, ◌+◌, ◌%◌, ◌==◌, if◌then◌else◌, List, Result, Ok, Err, codes}
+use Rattle.std.specs.Prelude.{ℕ, ◌+◌, ◌%◌, ◌==◌, if◌then◌else◌, List, Ok, Err, codes}
 use Rattle.etcd_types.specs.declared.answer.Answer.{Answer}
 use Rattle.etcd_types.specs.declared.answer.Answer.TheVariants.{Done, Refused}
 use Rattle.etcd_types.specs.declared.answer.Refusal.{Refusal}

@@ -1,8 +1,13 @@
 -- Keys and ranges under a prefix, which is a list of bytes (etcd's documentation of clientv3's package `namespace`, and of
 -- `range_end` in the API reference): a namespace puts one before every key, and the leasing range before ownership keys.
-use Rattle.std.specs.Prelude.{ℕ, ◌+◌, ◌==◌, List, [], ◌∷◌, ◌++◌, Option, None, Some, unwrap_or, if◌then◌else◌}
+use Rattle.std.specs.Prelude.{ℕ, Bool, ◌+◌, ◌==◌, nat_lt, List, [], ◌∷◌, ◌++◌, Option, None, Some, unwrap_or, if◌then◌else◌}
+use Rattle.std.specs.List.{list_all}
 use Rattle.etcd_types.specs.declared.key_range.KeyRange.{KeyRange}
 use Rattle.etcd_types.specs.Keys.{is_empty, is_zero}
+
+-- in a definition a key is any list of numbers
+abbrev pub are_bytes : List ℕ → Bool
+are_bytes k = list_all (λ b. nat_lt b 256) k
 
 -- what stands behind the prefix in a key, which may have another beginning
 abbrev pub without : List ℕ → List ℕ → Option (List ℕ)

@@ -1,5 +1,5 @@
 -- A transaction without writes that a proxy answers by itself: it reads and compares single keys, and all of them are held.
-use Rattle.std.specs.Prelude.{ℕ, Bool, true, false, not, ◌&&◌, ◌||◌, ◌==◌, nat_le, is_some, unwrap_or, if◌then◌else◌, List, [], ◌∷◌, length, map, Option, None, Some}
+use Rattle.std.specs.Prelude.{ℕ, Bool, false, not, ◌&&◌, ◌==◌, nat_le, is_some, unwrap_or, if◌then◌else◌, List, length, map, Option, None, Some}
 use Rattle.std.specs.List.{list_all}
 use Rattle.std.specs.Option.{option_to_list}
 use Rattle.etcd_types.specs.declared.record.Kv.{Kv}

@@ -1,6 +1,6 @@
 -- The reply and the watch message without the namespace: the prefix is off each key, and all else is as it was. Where a key
 -- lacks the prefix, there is none: the first such key is foreign.
-use Rattle.std.specs.Prelude.{◌≡◌, ℕ, List, [], ◌∷◌, Option, None, Some, Result, Ok, Err, ok_or, filter_map}
+use Rattle.std.specs.Prelude.{ℕ, List, [], ◌∷◌, Option, None, Some, Result, Ok, Err, ok_or, filter_map}
 use Rattle.etcd_types.specs.declared.record.Kv.{Kv}
 use Rattle.etcd_types.specs.declared.answer.Body.{Body, Row_of-Body, end_of-Body, more_of-Body}
 use Rattle.etcd_types.specs.declared.answer.Body.TheVariants as body

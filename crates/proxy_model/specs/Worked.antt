@@ -1,8 +1,6 @@
 -- Worked transactions, under the leasing prefix L/ and session 4611686018427387908, written out operation by operation.
 use Rattle.std.specs.Prelude.{◌≡◌, ℕ, Bool, true, false, codes, List, [], ◌∷◌, ◌++◌, None, Some}
-use Rattle.etcd_types.specs.declared.key_range.KeyRange.{KeyRange}
 use Rattle.etcd_types.specs.declared.record.Kv.{Kv}
-use Rattle.etcd_types.specs.declared.operation.Sort.{Sort}
 use Rattle.etcd_types.specs.declared.operation.Compare.{Compare}
 use Rattle.etcd_types.specs.declared.operation.Target.{Target}
 use Rattle.etcd_types.specs.declared.operation.Target.TheVariants as target
@@ -15,8 +13,6 @@ use Rattle.etcd_types.specs.declared.request.Request.TheVariants as request
 use Rattle.etcd_types.specs.declared.answer.Body.{Body}
 use Rattle.etcd_types.specs.declared.answer.Body.TheVariants as body
 use Rattle.etcd_types.specs.declared.answer.Reply.{Reply}
-use Rattle.proxy_model.specs.declared.ownership.Owner.{Owner}
-use Rattle.proxy_model.specs.declared.ownership.Owned.{Owned}
 use Rattle.proxy_model.specs.declared.ownership.Claim.TheVariants as claim
 use Rattle.proxy_model.specs.declared.ownership.Written.TheVariants as written_as
 use Rattle.proxy_model.specs.Acquire.{acquire, claimed}

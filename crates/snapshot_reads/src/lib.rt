@@ -5,7 +5,7 @@
 ghost use Rattle.std.specs.Prelude.{◌≡◌, map, IfOk, is_some};
 ghost use Rattle.std.specs.List.{list_all};
 ghost use Rattle.std.specs.Option.{option_copied, option_to_list};
-ghost use Rattle.proxy_model.specs.Keyed.{option_map};
+ghost use Rattle.std.specs.Option.{option_map};
 ghost use Rattle.proxy_model.specs.Snapshot.{Held, snapshot, all_held};
 ghost use Rattle.proxy_model.specs.Snapshot.{record_held, is_compare_held, is_read_held, snapshot_holds, snapshot_body, plain_body};
 

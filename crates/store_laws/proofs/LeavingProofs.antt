@@ -1,7 +1,6 @@
 -- What other steps leave to a watch: its place in the list, and a history that has only grown.
-use Rattle.std.proofs.Common.{◌≡◌, ℕ, suc, zero, ◌+◌, ◌-◌, ◌<◌, ◌==◌, nat_lt, max, not, Bool, true, false, cond, ◌||◌, List, [], ◌∷◌, ◌++◌, Option, None, Some, Result, Ok, Err, length, set, slice_get, map, refl, sym, ◌∙◌, ap, subst, ◌⊎◌, inl, inr, arith}
+use Rattle.std.proofs.Common.{◌≡◌, ℕ, suc, zero, ◌+◌, ◌-◌, ◌<◌, ◌==◌, nat_lt, max, not, Bool, true, false, cond, ◌||◌, List, [], ◌∷◌, ◌++◌, Option, None, Some, Ok, Err, set, slice_get, map, refl, sym, ap, subst, ◌⊎◌, inl, inr, arith}
 use Rattle.std.proofs.lemmas.List.{append-nil}
-use Rattle.etcd_types.specs.declared.record.Header.{Header}
 use Rattle.etcd_types.specs.declared.watch.Event.{Event}
 use Rattle.etcd_types.specs.declared.watch.WatchItem.{WatchItem}
 use Rattle.etcd_types.specs.declared.watch.WatchItem.TheVariants as item
@@ -18,7 +17,7 @@ use Rattle.store_model.specs.Watches.{watch_of, with_next, first_next, next_afte
 use Rattle.store_model.specs.Step.{exec}
 use Rattle.store_laws.specs.Requests.{GainsOneRevision}
 use Rattle.store_laws.specs.WatchRuns.{LeavesWatch, RequestsLeaveWatches, ExpiriesLeaveWatches, AppliesLeaveWatches, OpeningsLeaveWatches, MessagesLeaveOtherWatches}
-use Rattle.store_laws.proofs.RequestProofs.{IsWhole, whole-exec}
+use Rattle.store_laws.proofs.RequestProofs.{whole-exec}
 
 Grown : History → History → Type 0
 Grown h g = (more : History) × (g ≡ h ++ more)

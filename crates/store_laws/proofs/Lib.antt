@@ -4,3 +4,5 @@ pub mod NamedProofs
 pub mod EventProofs
 pub mod WatchProofs
 pub mod LeavingProofs
+pub mod Lifted
+pub mod Deletions

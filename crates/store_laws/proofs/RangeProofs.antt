@@ -1,5 +1,5 @@
 -- A range shows exactly the records of its keys, in the order of the keys.
-use Rattle.std.proofs.Common.{◌≡◌, ℕ, ◌+◌, Bool, true, false, cond, not, ◌&&◌, ◌||◌, List, [], ◌∷◌, Option, None, Some, map, filter_map, Contains, ◌⊎◌, inl, inr, refl, sym, ◌∙◌, ap, subst, arith}
+use Rattle.std.proofs.Common.{◌≡◌, ℕ, ◌+◌, Bool, true, false, cond, not, List, [], ◌∷◌, Option, None, Some, map, filter_map, Contains, ◌⊎◌, inl, inr, refl, sym, ◌∙◌, ap, subst, arith}
 use Rattle.std.specs.List.{list_any, list_all, cons_option}
 use Rattle.std.proofs.lemmas.List.Elements.{Contains-append_left, Contains-append_right, Contains-append_cases, Contains-push, Contains-push_cases}
 use Rattle.etcd_types.specs.declared.record.Kv.{Kv}
@@ -7,7 +7,8 @@ use Rattle.etcd_types.specs.declared.key_range.KeyRange.{KeyRange}
 use Rattle.etcd_types.specs.Keys.{up_to, before, same}
 use Rattle.etcd_types.specs.Ranges.{contains}
 use Rattle.etcd_types.specs.Records.{after_put}
-use Rattle.etcd_types.proofs.KeyOrder.{up_to-along, up_to-either, up_to-both, same-equal, same-itself}
+use Rattle.etcd_types.proofs.Bools.{and_both, and_first, and_second, false_not, or_either, or_left, or_right}
+use Rattle.etcd_types.proofs.KeyOrder.{not_up_to, same-equal, same-itself, up_to-before, up_to-both}
 use Rattle.store_model.specs.declared.history.KeyChange.{KeyChange}
 use Rattle.store_model.specs.declared.history.KeyChange.TheVariants.{Put, Delete}
 use Rattle.store_model.specs.History.{History, changed_key}
@@ -19,63 +20,20 @@ use Rattle.store_laws.specs.Ranges.{AreRising, RangesRise, RangesAreExact}
 abbrev Key : Type 0
 Key = List ℕ
 
--- tests
-
-or_left : (a b : Bool) → a ≡ true → a || b ≡ true
-or_left true b e = refl
-or_left false b e = absurd (cc)
-
-or_right : (a b : Bool) → b ≡ true → a || b ≡ true
-or_right true b e = refl
-or_right false b e = e
-
-or_cases : (a b : Bool) → a || b ≡ true → (a ≡ true) ⊎ (b ≡ true)
-or_cases true b e = inl refl
-or_cases false b e = inr e
-
-and_both : (a b : Bool) → a ≡ true → b ≡ true → a && b ≡ true
-and_both true b e f = f
-and_both false b e f = e
-
-and_first : (a b : Bool) → a && b ≡ true → a ≡ true
-and_first true b e = refl
-and_first false b e = e
-
-and_second : (a b : Bool) → a && b ≡ true → b ≡ true
-and_second true b e = e
-and_second false b e = absurd (cc)
-
 -- not b, where b would make c hold, and c doesn't
 not_from : (b c : Bool) → (b ≡ true → c ≡ true) → c ≡ false → not b ≡ true
 not_from true c i e = absurd (cc (i refl))
 not_from false c i e = refl
-
-not_false : (b : Bool) → not b ≡ true → b ≡ false
-not_false true e = absurd (cc)
-not_false false e = refl
-
-false_not : (b : Bool) → b ≡ false → not b ≡ true
-false_not true e = absurd (cc)
-false_not false e = refl
-
-or_true : (a b : Bool) → (a ≡ true) ⊎ (b ≡ true) → b ≡ false → a ≡ true
-or_true a b (inl e) f = e
-or_true a b (inr e) f = absurd (cc)
 
 -- the order of keys
 
 before_from : (l k : Key) → up_to l k ≡ true → same l k ≡ false → before l k ≡ true
 before_from l k u s = not_from (up_to k l) (same l k) (λ v. up_to-both l k u v) s
 
-before_along : (k l m : Key) → up_to l k ≡ false → before l m ≡ true → before k m ≡ true
-before_along k l m u b =
-    let k_l : up_to k l ≡ true = or_true (up_to k l) (up_to l k) (up_to-either k l) u in
-    not_from (up_to m k) (up_to m l) (λ v. up_to-along m k l v k_l) (not_false (up_to m l) b)
-
 all_along : (k l : Key) (ms : List Key) → up_to l k ≡ false → list_all (before l) ms ≡ true → list_all (before k) ms ≡ true
 all_along k l [] u a = refl
 all_along k l (m ∷ ms) u a =
-    and_both (before k m) _ (before_along k l m u (and_first (before l m) _ a)) (all_along k l ms u (and_second (before l m) _ a))
+    and_both (before k m) _ (up_to-before k l m (not_up_to l k u) (and_first (before l m) _ a)) (all_along k l ms u (and_second (before l m) _ a))
 
 -- keys put in their places
 
@@ -166,7 +124,7 @@ still-with_key x k [] e = absurd (cc)
 still-with_key x k (l ∷ ls) e =
     has_by x (same l k) (up_to l k) (l ∷ ls) (l ∷ with_key k ls) (k ∷ l ∷ ls)
     (λ s. e)
-    (elim (or_cases (same x l) _ e) [ inl s ↦ or_left (same x l) _ s | inr t ↦ or_right (same x l) _ (still-with_key x k ls t) ])
+    (elim (or_either (same x l) _ e) [ inl s ↦ or_left (same x l) _ s | inr t ↦ or_right (same x l) _ (still-with_key x k ls t) ])
     (or_right (same x k) _ e)
 
 has_either : (x : Key) (b : Bool) (xs ys : List Key) → has_key x xs ≡ true → has_key x ys ≡ true → has_key x (cond b xs ys) ≡ true
@@ -287,7 +245,7 @@ shown_there : (h : History) (ks : List Key) (k : Key) (kv : Kv) → has_key k ks
 unfolding has_key
 shown_there h [] k kv e r = absurd (cc)
 shown_there h (l ∷ ls) k kv e r =
-    elim (or_cases (same k l) _ e) [
+    elim (or_either (same k l) _ e) [
       | inl s ↦ contains_first (record_now h l) (filter_map (record_now h) ls) kv (ap (record_now h) (sym (same-equal k l s)) ∙ r)
       | inr t ↦ contains_later (record_now h l) (filter_map (record_now h) ls) kv (shown_there h ls k kv t r)
     ]

@@ -3,3 +3,5 @@ pub mod RefusalLemmas
 pub mod WatchLemmas
 pub mod StepLemmas
 pub mod HistoryLemmas
+pub mod RunLemmas
+pub mod RangeLemmas

@@ -13,3 +13,5 @@ pub mod Events
 pub mod Watches
 pub mod Step
 pub mod Worked
+pub mod LeftRecords
+pub mod Leaves

@@ -1,7 +1,7 @@
 -- The last byte below FF is raised; before it is found, the bytes left out are FF.
-use Rattle.std.proofs.Common.{◌≡◌, ◌+◌, ◌∷◌, [], ◌++◌, Option, Some, unwrap_or, sym, ap, ◌∙◌, arith, List, ℕ}
+use Rattle.std.proofs.Common.{◌≡◌, ◌∷◌, [], ◌++◌, Option, unwrap_or, sym, ap, ◌∙◌, arith, List, ℕ}
 use Rattle.proxy_model.specs.Prefixes.{raised}
-use Rattle.namespace_keys.proofs.Ends.{raised-full, raised-below}
+use Rattle.proxy_model.proofs.PrefixLaws.{raised-full, raised-below}
 use Rattle.namespace_keys.proofs.prefix.prefix_end.Goals as goal
 
 pub returns-then-last-lt255 : goal.returns-then-last-lt255

@@ -1,25 +1,15 @@
--- The end of a prefix: every key with the prefix is before it, and every key from the prefix to it has the prefix.
+-- The end of a prefix: every key with the prefix is before it, and every key from the prefix to it has the prefix; so a range
+-- has under the prefix the keys that it has.
 use Rattle.std.proofs.Common.{◌≡◌, ℕ, ◌+◌, ◌<◌, Bool, true, false, not, cond, ◌&&◌, ◌||◌, ◌==◌, List, [], ◌∷◌, ◌++◌, length, drop, Option, None, Some, unwrap_or, refl, sym, ◌∙◌, ap, subst, inl, inr, arith}
-use Rattle.std.specs.List.{list_all}
 use Rattle.std.proofs.lemmas.Bool.Decides.{nat_tests}
-use Rattle.etcd_types.specs.Keys.{up_to, before, is_empty, is_zero}
-use Rattle.etcd_types.proofs.KeyOrder.{up_to-nothing}
-use Rattle.proxy_model.specs.Prefixes.{raised, raised_last, prefix_end, end_under}
-use Rattle.namespace_keys.specs.Laws.{are_bytes}
-use Rattle.namespace_keys.proofs.Order.{not_false, head_below, head_same, head_above, compared, head_between, nothing_above, with_head, up_to_under, has_prefix}
-
--- how raising goes from the last byte on
-
-pub raised-full : (xs : List ℕ) → raised (xs ++ 255 ∷ []) ≡ raised xs
-raised-full [] = refl
-raised-full (x ∷ xs) = ap (raised_last x) (raised-full xs)
-
-last_below : (b : ℕ) → b < 255 → raised (b ∷ []) ≡ Some ((b + 1) ∷ [])
-last_below b l = grind (arith, nat_tests)
-
-pub raised-below : (xs : List ℕ) (b : ℕ) → b < 255 → raised (xs ++ b ∷ []) ≡ Some (xs ++ (b + 1) ∷ [])
-raised-below [] b l = last_below b l
-raised-below (x ∷ xs) b l = ap (raised_last x) (raised-below xs b l)
+use Rattle.etcd_types.specs.declared.key_range.KeyRange.{KeyRange}
+use Rattle.etcd_types.specs.Keys.{up_to, before, same, is_empty, is_zero}
+use Rattle.etcd_types.specs.Ranges.{contains}
+use Rattle.etcd_types.proofs.Bools.{not_true}
+use Rattle.etcd_types.proofs.KeyOrder.{head_above, head_below, head_same, up_to-nothing}
+use Rattle.proxy_model.specs.Prefixes.{are_bytes, raised, raised_last, prefix_end, end_under, under}
+use Rattle.store_model.proofs.RangeLemmas.{range_has}
+use Rattle.proxy_model.proofs.Prefixed.{compared, head_between, nothing_above, with_head, up_to_under, same_under, has_prefix}
 
 -- where all its bytes are FF, nothing but its keys is above it
 
@@ -74,10 +64,10 @@ raised_prefix (b ∷ bs) (x ∷ xs) end e a u l =
         past : (x : ℕ) → b < x → before (x ∷ xs) ((b + 1) ∷ []) ≡ true → ⊥
         past x less below =
             elim (compared (b + 1) x) [
-              | inl m ↦ let t : up_to ((b + 1) ∷ []) (x ∷ xs) ≡ true = head_below (b + 1) x [] xs m in let f : up_to ((b + 1) ∷ []) (x ∷ xs) ≡ false = not_false _ below in cc
+              | inl m ↦ let t : up_to ((b + 1) ∷ []) (x ∷ xs) ≡ true = head_below (b + 1) x [] xs m in let f : up_to ((b + 1) ∷ []) (x ∷ xs) ≡ false = not_true _ below in cc
               | inr (inl e) ↦
                   let t : up_to ((b + 1) ∷ []) (x ∷ xs) ≡ true = subst (λ (y : ℕ). up_to ((b + 1) ∷ []) (y ∷ xs) ≡ true) e (head_same (b + 1) [] xs ∙ up_to-nothing xs) in
-                  let f : up_to ((b + 1) ∷ []) (x ∷ xs) ≡ false = not_false _ below in cc
+                  let f : up_to ((b + 1) ∷ []) (x ∷ xs) ≡ false = not_true _ below in cc
               | inr (inr g) ↦ omega arith
             ]
 
@@ -99,7 +89,7 @@ not_empty_raised None b = by_test (b == 255)
     by_test false = refl
 not_empty_raised (Some bs) b = refl
 
-end_not_empty : (p : List ℕ) → is_empty (prefix_end p) ≡ false
+pub end_not_empty : (p : List ℕ) → is_empty (prefix_end p) ≡ false
 end_not_empty [] = refl
 end_not_empty (b ∷ bs) = not_empty_raised (raised bs) b
 
@@ -115,7 +105,7 @@ raised-not_empty : (p x : List ℕ) → raised p ≡ Some x → is_empty x ≡ f
 raised-not_empty [] x e = absurd (cc)
 raised-not_empty (b ∷ bs) x e = raised_by-not_empty b (raised bs) x e
 
-longer_not_zero : (b : ℕ) (cs : List ℕ) → is_empty cs ≡ false → is_zero (b ∷ cs) ≡ false
+pub longer_not_zero : (b : ℕ) (cs : List ℕ) → is_empty cs ≡ false → is_zero (b ∷ cs) ≡ false
 longer_not_zero b [] e = absurd (cc)
 longer_not_zero b (c ∷ cs) e = refl
 
@@ -204,24 +194,23 @@ within_end p j e a f u l =
     by_zero true g m = by_raised (raised p) refl m
     by_zero false g m = has_prefix p j e u (from_or (is_zero (p ++ e)) (before j (p ++ e)) (joined_not_zero p e f g) m)
 
--- the end of a prefix of one zero byte isn't endless
+-- The range under a prefix.
 
-zero_raised : (b : ℕ) → (b == 0) ≡ true → is_zero (unwrap_or (cond (b == 255) None (Some ((b + 1) ∷ []))) (0 ∷ [])) ≡ false
-zero_raised b e =
-    let none : b ≡ 0 = grind (arith, nat_tests) in
-    subst (λ (n : ℕ). is_zero (unwrap_or (cond (n == 255) None (Some ((n + 1) ∷ []))) (0 ∷ [])) ≡ false) (sym none) refl
+pub one_has : (one : Bool) (k key : List ℕ) (rest : Bool) → one ≡ true → cond one (same k key) rest ≡ same k key
+one_has true k key rest e = refl
+one_has false k key rest e = absurd (cc)
 
-zero_ends : (b : ℕ) (e : List ℕ) → (b == 0) ≡ true → is_empty e ≡ false → is_zero (end_under (b ∷ []) e) ≡ false
-zero_ends b e z f =
-    ap (λ t. is_zero (cond t [] (cond (is_zero e) (prefix_end (b ∷ [])) (b ∷ e)))) f ∙ by_zero (is_zero e)
+pub one_under : (p e : List ℕ) → is_empty e ≡ true → is_empty (end_under p e) ≡ true
+one_under p e f = ap (λ t. is_empty (cond t [] (cond (is_zero e) (prefix_end p) (p ++ e)))) f
+
+-- a key is in a range exactly where, with the prefix, it is in the range under the prefix
+pub ranges_stay : (p k : List ℕ) (r : KeyRange) → is_empty k ≡ false → contains (under p r) (p ++ k) ≡ contains r k
+ranges_stay p k r f = by_one (is_empty r.end) refl
   where
-    by_zero : (t : Bool) → is_zero (cond t (prefix_end (b ∷ [])) (b ∷ e)) ≡ false
-    by_zero true = zero_raised b z
-    by_zero false = longer_not_zero b e f
-
--- the range under a prefix has all keys only where there is no prefix
-pub no_prefix : (p key e : List ℕ) → is_empty e ≡ false → is_zero (end_under p e) ≡ true → is_zero (p ++ key) ≡ true → is_empty p ≡ true
-no_prefix [] key e f z w = refl
-no_prefix (b ∷ []) [] e f z w = absurd (let n = zero_ends b e w f in cc)
-no_prefix (b ∷ []) (k ∷ ks) e f z w = absurd (cc)
-no_prefix (b ∷ c ∷ bs) key e f z w = absurd (cc)
+    by_one : (t : Bool) → is_empty r.end ≡ t → contains (under p r) (p ++ k) ≡ contains r k
+    by_one true e =
+        one_has (is_empty (end_under p r.end)) (p ++ k) (p ++ r.key) _ (one_under p r.end e)
+        ∙ same_under p k r.key ∙ sym (one_has (is_empty r.end) k r.key _ e)
+    by_one false e =
+        range_has (under p r) (p ++ k) (end_under-not_empty p r.end e) (joined_not_empty p k f)
+        ∙ (λ i. up_to_under p r.key k i && ends_same p k r.end e i) ∙ sym (range_has r k e f)

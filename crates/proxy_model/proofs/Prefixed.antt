@@ -1,28 +1,12 @@
--- The order of keys under a prefix: they compare as without it, and what lies between two of them has it too.
-use Rattle.std.proofs.Common.{◌≡◌, ℕ, zero, suc, ◌+◌, ◌<◌, ◌≤◌, Bool, true, false, not, ◌&&◌, ◌||◌, ◌==◌, List, [], ◌∷◌, ◌++◌, length, drop, refl, sym, ◌∙◌, ap, subst, ◌⊎◌, inl, inr, arith}
+-- Keys under a prefix: they compare as without it, and what lies between two of them has it too.
+use Rattle.std.proofs.Common.{◌≡◌, ℕ, ◌<◌, ◌≤◌, true, false, not, List, [], ◌∷◌, ◌++◌, length, drop, refl, sym, ◌∙◌, ap, subst, ◌⊎◌, inl, inr, arith}
 use Rattle.std.specs.Ordering.{nat_cmp, is_le, is_eq, ordering_then}
-use Rattle.std.specs.declared.cmp.Ordering.{Ordering}
-use Rattle.std.specs.declared.cmp.Ordering.TheVariants.{Less, Equal, Greater}
-use Rattle.std.specs.Cmp.{nat_cmp_is}
 use Rattle.std.specs.Cmp.Lexicographic.{slice_cmp}
-use Rattle.std.proofs.lemmas.Bool.{cases_lt}
-use Rattle.std.proofs.lemmas.Bool.Decides.{nat_tests}
 use Rattle.std.proofs.lemmas.Cmp.{tied_itself, nat_cmp_total}
-use Rattle.etcd_types.specs.Keys.{up_to, before, same, is_empty, is_zero}
-use Rattle.etcd_types.proofs.KeyOrder.{up_to-nothing}
-
-pub not_false : (a : Bool) → not a ≡ true → a ≡ false
-not_false true e = absurd (cc)
-not_false false e = refl
-
-pub head_below : (a b : ℕ) (xs ys : List ℕ) → a < b → up_to (a ∷ xs) (b ∷ ys) ≡ true
-head_below a b xs ys l = ap (λ o. is_le (ordering_then o (slice_cmp nat_cmp xs ys))) (sym (nat_cmp_is a b Less l))
-
-pub head_same : (a : ℕ) (xs ys : List ℕ) → up_to (a ∷ xs) (a ∷ ys) ≡ up_to xs ys
-head_same a xs ys = ap (λ o. is_le (ordering_then o (slice_cmp nat_cmp xs ys))) (tied_itself nat_cmp_total a)
-
-pub head_above : (a b : ℕ) (xs ys : List ℕ) → b < a → up_to (a ∷ xs) (b ∷ ys) ≡ false
-head_above a b xs ys l = ap (λ o. is_le (ordering_then o (slice_cmp nat_cmp xs ys))) (sym (nat_cmp_is a b Greater l))
+use Rattle.std.proofs.lemmas.Bool.{cases_lt}
+use Rattle.etcd_types.specs.Keys.{up_to, before, same}
+use Rattle.etcd_types.proofs.Bools.{not_true}
+use Rattle.etcd_types.proofs.KeyOrder.{head_above, head_below, head_same, up_to-nothing}
 
 ordered_same : (p a b : List ℕ) → slice_cmp nat_cmp (p ++ a) (p ++ b) ≡ slice_cmp nat_cmp a b
 ordered_same [] a b = refl
@@ -39,25 +23,6 @@ pub prefix_first : (p a : List ℕ) → up_to p (p ++ a) ≡ true
 prefix_first [] a = up_to-nothing a
 prefix_first (x ∷ xs) a = head_same x xs (xs ++ a) ∙ prefix_first xs a
 
--- one zero byte is up to every key but the empty one
-zero_first : (b : ℕ) (xs : List ℕ) (x : ℕ) → (b == 0) ≡ true → up_to (b ∷ []) (x ∷ xs) ≡ true
-zero_first b xs x e =
-    let none : b ≡ 0 = grind (arith, nat_tests) in
-    elim (zero_or_more x) [
-      | inl z ↦ subst (λ (y : ℕ). up_to (b ∷ []) (y ∷ xs) ≡ true) (none ∙ sym z) (head_same b [] xs ∙ up_to-nothing xs)
-      | inr l ↦ head_below b x [] xs (omega arith)
-    ]
-  where
-    zero_or_more : (x : ℕ) → (x ≡ 0) ⊎ (0 < x)
-    zero_or_more zero = inl refl
-    zero_or_more (suc x) = inr (omega arith)
-
-pub zero_up_to : (z k : List ℕ) → is_zero z ≡ true → is_empty k ≡ false → up_to z k ≡ true
-zero_up_to [] k e f = absurd (cc)
-zero_up_to (b ∷ []) [] e f = absurd (cc)
-zero_up_to (b ∷ []) (x ∷ xs) e f = zero_first b xs x e
-zero_up_to (b ∷ c ∷ bs) k e f = absurd (cc)
-
 pub compared : (a b : ℕ) → (a < b) ⊎ (a ≡ b) ⊎ (b < a)
 compared a b = by_lt (cases_lt a b)
   where
@@ -70,7 +35,7 @@ pub head_between : (b x : ℕ) (bs xs es : List ℕ) → up_to (b ∷ bs) (x ∷
     → (b ≡ x) × (up_to bs xs ≡ true) × (before xs es ≡ true)
 head_between b x bs xs es u l =
     elim (compared b x) [
-      | inl less ↦ absurd (let t : up_to (b ∷ es) (x ∷ xs) ≡ true = head_below b x es xs less in let f : up_to (b ∷ es) (x ∷ xs) ≡ false = not_false _ l in cc)
+      | inl less ↦ absurd (let t : up_to (b ∷ es) (x ∷ xs) ≡ true = head_below b x es xs less in let f : up_to (b ∷ es) (x ∷ xs) ≡ false = not_true _ l in cc)
       | inr (inl e) ↦ (
         e,
         sym (head_same b bs xs) ∙ subst (λ (y : ℕ). up_to (b ∷ bs) (y ∷ xs) ≡ true) (sym e) u,
