@@ -1,5 +1,5 @@
 -- What a read of bytes in memory gives.
-use Rattle.std.proofs.Common.{◌≡◌, ◌≤◌, ◌<◌, ℕ, List, [], ◌++◌, sym, subst, ap, ◌∙◌, take, drop, length, ◌+◌, ◌-◌, arith, min, length-take, length-drop, length-append}
+use Rattle.std.proofs.Common.{◌≡◌, ◌≤◌, ◌<◌, ℕ, List, [], ◌++◌, sym, ap, ◌∙◌, take, drop, length, ◌+◌, ◌-◌, arith, min, length-take, length-drop, length-append}
 use Rattle.std.proofs.lemmas.List.{take-append-drop, take_rest, take_at, drop-drop}
 use Rattle.std.proofs.Math.ListN.{drop_of_length-le}
 

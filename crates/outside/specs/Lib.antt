@@ -1,3 +1,4 @@
+pub mod Clocks
 pub mod Draw
 pub mod Faults
 pub mod Memory

@@ -1,30 +1,46 @@
--- What the forms over memory hold.
-use Rattle.std.specs.Prelude.{◌≡◌, ℕ, max, List, drop}
-use Rattle.outside.specs.declared.memory_source.MemSource.{MemSource}
-use Rattle.outside.specs.declared.memory_sink.MemSink.{MemSink}
+-- What the forms over memory hold, and what their calls do. Counts end at the last number of 64 bits, where they stay.
+use Rattle.std.specs.Prelude.{◌==◌, ℕ, Bool, min, List, ◌++◌, drop, take, length}
+use Rattle.std.specs.List.{list_any}
+use Rattle.outside.specs.Faults.{one_more}
 
--- the bytes that weren't read yet
-abbrev pub unread : MemSource → List ℕ
-unread s = drop s.at s.bytes.items
+-- a source over memory: what wasn't read yet, how much a call gives at most, which calls fail (numbered from 1), how often
+-- it was called, and how often it has failed
+pub record Supply : Type 0 where
+  pub left : List ℕ
+  pub piece : ℕ
+  pub failing : List ℕ
+  pub calls : ℕ
+  pub faults : ℕ
 
--- the bytes that were written
-abbrev pub stored : MemSink → List ℕ
-stored s = s.bytes.items
+-- a sink over memory: what was written, how much a call takes at most, which calls fail (numbered from 1), how often it
+-- was called, and how often it has failed
+pub record Store : Type 0 where
+  pub stored : List ℕ
+  pub piece : ℕ
+  pub failing : List ℕ
+  pub calls : ℕ
+  pub faults : ℕ
 
--- how often it was called
-abbrev pub calls_of : MemSink → ℕ
-calls_of s = s.calls
+-- whether the next call is one of those that fail
+abbrev pub is_failing : List ℕ → ℕ → Bool
+is_failing failing calls = list_any (λ n. n == one_more calls) failing
 
--- a source that nobody called, of at most so many bytes a call, whose calls with these numbers fail
-pub record IsUncalledSource (s : MemSource) (size : ℕ) (numbers : List ℕ) : Type 0 where
-  pub piece : s.piece ≡ max size 1
-  pub failing : s.failing.items ≡ numbers
-  pub calls : s.calls ≡ 0
-  pub faults : s.faults ≡ 0
+-- how many bytes the next read gives into a room of this size
+abbrev pub given_to : Supply → ℕ → ℕ
+given_to s room = min (min (length s.left) room) s.piece
 
--- a sink that nobody called, of at most so many bytes a call, whose calls with these numbers fail
-pub record IsUncalledSink (s : MemSink) (size : ℕ) (numbers : List ℕ) : Type 0 where
-  pub piece : s.piece ≡ max size 1
-  pub failing : s.failing.items ≡ numbers
-  pub calls : s.calls ≡ 0
-  pub faults : s.faults ≡ 0
+-- a source after a read of so many bytes
+abbrev pub gave : Supply → ℕ → Supply
+gave s count = record s { left = drop count s.left; calls = one_more s.calls }
+
+-- a source after a read that failed
+abbrev pub gave_none : Supply → Supply
+gave_none s = record s { calls = one_more s.calls; faults = one_more s.faults }
+
+-- a sink after it took so many bytes of a piece
+abbrev pub took : Store → List ℕ → ℕ → Store
+took s bytes count = record s { stored = s.stored ++ take count bytes; calls = one_more s.calls }
+
+-- a sink after a write that failed
+abbrev pub took_none : Store → Store
+took_none s = record s { calls = one_more s.calls; faults = one_more s.faults }

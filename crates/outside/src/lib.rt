@@ -11,18 +11,24 @@ mod draw;
 mod machine;
 mod memory_sink;
 mod memory_source;
+mod seeded_draw;
 mod sink;
 mod source;
 mod streams;
+mod system_clock;
+mod system_draw;
 
-pub use clock::{Clock, MemClock, SystemClock};
-pub use draw::{Draw, MemDraw, SystemDraw};
+pub use clock::{Clock, MemClock};
+pub use draw::{Draw, MemDraw};
 pub use machine::{CREWS, LOT_WORDS, LOTS, Machine, Roused};
 pub use memory_sink::MemSink;
 pub use memory_source::MemSource;
+pub use seeded_draw::SeededDraw;
 pub use sink::{Sink, write_whole};
 pub use source::{Failed, Source};
 pub use streams::{Reading, Writing};
+pub use system_clock::SystemClock;
+pub use system_draw::SystemDraw;
 
 #[cfg(test)]
 mod tests;

@@ -1,5 +1,6 @@
 use super::*;
 use std::alloc::Global;
+use std::io;
 use std::test::Fail;
 
 /// Reads to the end, by a room of four bytes, and counts the failures on the way.
@@ -47,8 +48,65 @@ fn a_memory_sink_takes_pieces_and_fails_where_told(rt: HostRuntime) -> Result<()
 }
 
 #[test]
+fn the_clock_in_memory_stands_until_it_is_moved(rt: HostRuntime) -> Result<(), Fail> {
+    let mut clock = MemClock::new(5);
+    assert!(rt; clock.now() == 5 && clock.now() == 5);
+    clock.advance(2);
+    clock.pause(3);
+    assert!(rt; clock.now() == 10 && clock.readings == 3);
+    Ok(())
+}
+
+#[test]
+fn the_draw_in_memory_gives_its_words_and_then_zeros(rt: HostRuntime) -> Result<(), Fail> {
+    let mut draw = MemDraw::new(Vec::from_slice(rt.alloc(), &[7, 0, 9])?);
+    assert!(rt; [draw.word(), draw.word(), draw.word()] == [7, 0, 9] && !draw.dry);
+    assert!(rt; draw.word() == 0 && draw.word() == 0 && draw.at == 3 && draw.dry);
+    Ok(())
+}
+
+/// A stream whose first calls are interrupted, so many of them.
+#[derive(Drop)]
+struct Interrupted<S> {
+    left: u32,
+    stream: S,
+}
+
+impl<S> Interrupted<S> {
+    fn pass(&mut self) -> io::Result<()> {
+        if self.left == 0 {
+            return Ok(());
+        }
+        self.left -= 1;
+        Err(io::Error::from(io::ErrorKind::Interrupted))
+    }
+}
+
+impl<S: io::Read> io::Read for Interrupted<S> {
+    fn read(&mut self, room: &mut [u8]) -> io::Result<usize> {
+        self.pass()?;
+        self.stream.read(room)
+    }
+}
+
+impl<S: io::Write> io::Write for Interrupted<S> {
+    fn write(&mut self, piece: &[u8]) -> io::Result<usize> {
+        self.pass()?;
+        self.stream.write(piece)
+    }
+
+    fn flush(&mut self) -> io::Result<()> {
+        self.stream.flush()
+    }
+}
+
+#[test]
 fn a_reader_is_a_source(rt: HostRuntime) -> Result<(), Fail> {
-    let (bytes, failures) = drain(rt.alloc(), &mut Reading::new(b"seven..".as_slice()))?;
+    let reader = Interrupted {
+        left: 3,
+        stream: b"seven..".as_slice(),
+    };
+    let (bytes, failures) = drain(rt.alloc(), &mut Reading::new(reader))?;
     assert_eq!(rt; bytes.as_slice(), b"seven..".as_slice());
     assert_eq!(rt; failures, 0);
     Ok(())
@@ -56,8 +114,12 @@ fn a_reader_is_a_source(rt: HostRuntime) -> Result<(), Fail> {
 
 #[test]
 fn a_writer_is_a_sink(rt: HostRuntime) -> Result<(), Fail> {
+    let writer = Interrupted {
+        left: 3,
+        stream: rt.stdout(),
+    };
     assert_eq!(rt;
-        write_whole(&mut Writing::new(rt.stdout()), b"seven..\n"),
+        write_whole(&mut Writing::new(writer), b"seven..\n"),
         Ok(())
     );
     Ok(())

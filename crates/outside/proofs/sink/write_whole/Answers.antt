@@ -1,6 +1,6 @@
 -- A failed write took nothing, so what was written before it is a front of the bytes.
 use Rattle.std.proofs.Common.{ℕ, arith, take, drop, sym, length-take, length-drop}
-use Rattle.std.proofs.lemmas.List.{take-append-drop, take_rest}
+use Rattle.std.proofs.lemmas.List.{take-append-drop}
 use Rattle.std.proofs.KnownBytes.{Appends-kept}
 use Rattle.outside.proofs.Results.{on_err}
 use Rattle.outside.proofs.Writes.{wrote_more}
@@ -23,5 +23,5 @@ loop-done-preserved g c =
     record {
       within = omega (arith, c.in_ok-done.ensures.bound, length-take {A = ℕ}, length-drop {A = ℕ});
       written = wrote_more (written c.args.sink.now) (written c.loop-done.sink) (written c.write.new.self) c.loop-done.done c.in_ok-done.field-0 c.args.bytes.now c.loop-done.invariant.written c.in_ok-done.ensures.bytes;
-      kept = omega (arith, c.in_ok-done.ensures.cause.kept);
+      still = omega (arith, c.in_ok-done.ensures.cause.still);
     }

@@ -1,0 +1,244 @@
+ghost use Rattle.std.specs.Prelude.{◌≡◌, ℕ, ◌≤◌, IfOk};
+
+use crate::clock::Clock;
+use etcd_types::NoMemory;
+use std::alloc::Global;
+use std::marker::Model;
+use std::rt::Clock as Times;
+use std::sync::atomic::AtomicU64;
+use std::sync::atomic::Ordering::SeqCst;
+use std::sync::{Arc, Wait};
+use std::time::Duration;
+use std::{io, thread};
+
+// How many milliseconds to pause where the system tells no time.
+const PAUSE: u64 = 100;
+
+// What the clocks of a process share: where the system's two clocks stood at the start, where they told it; how many
+// milliseconds the wall clock has gained on the other at most; and the greatest reading.
+#[derive(Debug, Drop)]
+struct Shared {
+    monotonic: Option<Duration>,
+    wall: Option<Duration>,
+    gained: AtomicU64,
+    greatest: AtomicU64,
+}
+
+/// The system's time since the start of the process, in milliseconds. Each further clock of the process is a `copy` of its
+/// first one, and all of them together read one that never falls.
+///
+/// It goes on while the machine sleeps, as the leases of the store do. The system's monotonic clock stands then, and its
+/// wall clock doesn't; but the wall clock may be set. So a reading is the monotonic one plus what the wall clock has
+/// gained on it at most since the start: it is never below either of the two, and where the wall clock is set forward
+/// and back again, it still goes on. Where the system refuses one of the two, the other counts; where it refuses both,
+/// the clock pauses and reads again.
+#[derive(Debug, Drop)]
+pub struct SystemClock<R> {
+    rt: R,
+    shared: Arc<Shared, Global>,
+    last: u64,
+    faults: u64,
+}
+
+impl<R> Model for SystemClock<R> {
+    ghost use Rattle.outside.specs.Clocks.{Clocked};
+
+    ghost Value = { Clocked };
+
+    ghost view = { λ c. record { last = c.last; faults = c.faults } };
+}
+
+impl<R: Times + Wait + Drop> SystemClock<R> {
+    /// The first clock of the process, which reads 0 now. It may wait for a system that tells no time.
+    pub fn new(alloc: Global, rt: R) -> Result<SystemClock<R>, NoMemory>
+        ensures { IfOk result (λ c. c ≡ record { last = 0; faults = 0 }) }
+    {
+        let (monotonic, wall) = started(&rt);
+        let shared = Shared {
+            monotonic,
+            wall,
+            gained: AtomicU64::new(0),
+            greatest: AtomicU64::new(0),
+        };
+        let shared = Arc::new(alloc, shared)?;
+        Ok(SystemClock {
+            rt,
+            shared,
+            last: 0,
+            faults: 0,
+        })
+    }
+
+    /// A further clock of the process, which asks `rt`.
+    pub fn copy<Q: Times + Wait + Drop>(&self, rt: Q) -> Result<SystemClock<Q>, NoMemory>
+        ensures { IfOk result (λ c. c ≡ record { last = 0; faults = 0 }) }
+    {
+        let shared = Arc::try_clone(&self.shared)?;
+        Ok(SystemClock {
+            rt,
+            shared,
+            last: 0,
+            faults: 0,
+        })
+    }
+
+    /// How many readings the system refused this clock, or 2^64 - 1 where that is more.
+    pub fn faults(&self) -> u64
+        ensures { result ≡ self.now.faults }
+    {
+        self.faults
+    }
+}
+
+impl<R: Times + Wait> Clock for SystemClock<R> {
+    ghost last = { λ c. c.last };
+
+    fn now(&mut self) -> u64 {
+        for _ in self.rt.forever() {
+            let monotonic = since(self.shared.monotonic, self.rt.monotonic());
+            let wall = since(self.shared.wall, self.rt.since_1970());
+            if monotonic.is_none() || wall.is_none() {
+                self.faults = self.faults.saturating_add(1);
+            }
+            if let Some(time) = self.shared.reading(monotonic, wall) {
+                self.last = self.last.max(time);
+                return self.last;
+            }
+            thread::sleep(&self.rt, Duration::from_millis(PAUSE));
+        }
+        unreachable!()
+    }
+
+    fn pause(&mut self, millis: u64) {
+        thread::sleep(&self.rt, Duration::from_millis(millis));
+    }
+}
+
+impl Shared {
+    // What the time is by these two, and by all earlier readings of the process. There is none where both are refused.
+    fn reading(&self, monotonic: Option<u64>, wall: Option<u64>) -> Option<u64> {
+        let time = match (monotonic, wall) {
+            (Some(monotonic), Some(wall)) => {
+                let gained = raise(&self.gained, wall.saturating_sub(monotonic));
+                monotonic.saturating_add(gained)
+            }
+            (Some(monotonic), None) => monotonic.saturating_add(self.gained.load(SeqCst)),
+            (None, Some(wall)) => wall,
+            (None, None) => return None,
+        };
+        Some(raise(&self.greatest, time))
+    }
+}
+
+// What the system's two clocks read, one of them at the least.
+fn started<R: Times + Wait>(rt: &R) -> (Option<Duration>, Option<Duration>) {
+    for _ in rt.forever() {
+        let read = (rt.monotonic().ok(), rt.since_1970().ok());
+        if read.0.is_some() || read.1.is_some() {
+            return read;
+        }
+        thread::sleep(rt, Duration::from_millis(PAUSE));
+    }
+    unreachable!()
+}
+
+// How many milliseconds passed since the start, where both were told.
+fn since(start: Option<Duration>, time: io::Result<Duration>) -> Option<u64> {
+    let passed = time.ok()?.saturating_sub(start?);
+    Some(u64::try_from(passed.as_millis()).unwrap_or(u64::MAX))
+}
+
+// Raises the word to the number where it is below, and gives what it then is.
+fn raise(word: &AtomicU64, number: u64) -> u64
+    ensures { number ≤ result }
+{
+    match word.fetch_update(SeqCst, SeqCst, |held| (held < number).then_some(number)) {
+        Ok(_) => number,
+        Err(held) => held.max(number),
+    }
+}
+
+#[cfg(test)]
+mod tests {
+    use super::{Clock, SystemClock, Times};
+    use std::io;
+    use std::sync::Wait;
+    use std::sync::atomic::AtomicU64;
+    use std::sync::atomic::Ordering::SeqCst;
+    use std::test::Fail;
+    use std::time::Duration;
+
+    // A system whose clocks read what they are set to, in milliseconds, and refuse where that is 0. A sleep of it sets
+    // the first one.
+    #[derive(Drop)]
+    struct Set<R> {
+        rt: R,
+        monotonic: AtomicU64,
+        wall: AtomicU64,
+    }
+
+    impl<R: Wait> Wait for Set<R> {}
+
+    impl<R> Times for Set<R> {
+        fn monotonic(&self) -> io::Result<Duration> {
+            told(self.monotonic.load(SeqCst))
+        }
+
+        fn since_1970(&self) -> io::Result<Duration> {
+            told(self.wall.load(SeqCst))
+        }
+
+        fn sleep(&self, _duration: Duration) {
+            self.monotonic.store(1090, SeqCst);
+        }
+    }
+
+    fn told(millis: u64) -> io::Result<Duration> {
+        if millis == 0 {
+            return Err(io::Error::from_raw_os_error(5));
+        }
+        Ok(Duration::from_millis(millis))
+    }
+
+    #[test]
+    fn the_clock_of_the_system_goes_on(rt: HostRuntime) -> Result<(), Fail> {
+        let mut clock = SystemClock::new(rt.alloc(), &rt)?;
+        let before = clock.now();
+        clock.pause(20);
+        let after = clock.now();
+        assert!(rt; after >= before.saturating_add(20) && clock.faults() == 0);
+        Ok(())
+    }
+
+    #[test]
+    fn the_clocks_of_a_process_read_one_that_never_falls(rt: HostRuntime) -> Result<(), Fail> {
+        let system = Set {
+            rt: &rt,
+            monotonic: AtomicU64::new(1000),
+            wall: AtomicU64::new(5000),
+        };
+        let mut first = SystemClock::new(rt.alloc(), &system)?;
+        let mut second = first.copy(&system)?;
+        // what the two clocks of the system are set to, and what is read then
+        let rows = [
+            (1010, 5010, 10),
+            // the machine slept
+            (1011, 5100, 100),
+            // the wall clock was set back, refused, and set forward
+            (1020, 4000, 109),
+            (1030, 0, 119),
+            (1040, 6000, 1000),
+            (1050, 5050, 1010),
+            // the other one is refused, and then both
+            (0, 5900, 1010),
+            (0, 0, 1050),
+        ];
+        for (monotonic, wall, time) in rows {
+            system.monotonic.store(monotonic, SeqCst);
+            system.wall.store(wall, SeqCst);
+            assert_eq!(rt; first.now(), time, "{monotonic} and {wall}");
+            assert_eq!(rt; second.now(), time, "{monotonic} and {wall}");
+        }
+        Ok(())
+    }
+}
