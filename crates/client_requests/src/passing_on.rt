@@ -1,12 +1,14 @@
 ghost use Rattle.std.specs.Prelude.{◌≡◌, IfOk};
 ghost use Rattle.proxy_model.specs.PassingOn.{chosen_lease, passed_on, replied, call_lost};
 
+use etcd_types::code::UNAVAILABLE;
 use etcd_types::{Answer, Bytes, NoMemory, Refusal, Request};
 use namespace_keys::{KeyFault, Namespace};
+use proxy_model::FIRST_SESSION;
 use std::alloc::Global;
 
-/// How many numbers a lease may be given that are no session's: those from 1 to 2^62 - 1.
-const LEASE_NUMBERS: u64 = 4_611_686_018_427_387_903;
+/// How many numbers a lease may be given that are no session's: those below the first session's.
+const LEASE_NUMBERS: u64 = FIRST_SESSION - 1;
 
 /// The call that a request becomes: each key is under the namespace, and a grant that leaves its number open has one that the
 /// random `word` chooses. `NoMemory` where memory was wanting.
@@ -52,7 +54,7 @@ fn call_lost(alloc: Global) -> Result<Refusal, NoMemory>
     ensures { IfOk result (λ refusal. refusal ≡ call_lost) }
 {
     Ok(Refusal {
-        code: 14,
+        code: UNAVAILABLE,
         text: Bytes::from_slice(alloc, b"proxy: upstream call lost")?,
     })
 }

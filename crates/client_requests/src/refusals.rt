@@ -4,13 +4,11 @@ ghost use Rattle.proxy_model.specs.RequestRefusals.{unserved_op, unserved_ops, u
 ghost use Rattle.store_model.specs.FirstRefusals.{compare_lacks_key};
 ghost use Rattle.etcd_types.specs.declared.operation.Op.TheVariants as operation;
 
+use etcd_types::code::{PERMISSION_DENIED, UNIMPLEMENTED};
 use etcd_types::{Bytes, Compare, NoMemory, Op, PutAsk, Refusal, Request};
-use proxy_model::Unserved;
+use proxy_model::{FIRST_SESSION, Unserved};
 use std::alloc::Global;
 use store_refusals::key_not_provided;
-
-/// The first lease number that is a session's.
-const FIRST_SESSION: u64 = 4_611_686_018_427_387_904;
 
 /// Why the request is refused before anything else is done about it, if it is: a field that isn't served, an empty key, a
 /// lease number that is reserved for sessions, in this order. `NoMemory` where memory was wanting.
@@ -37,7 +35,7 @@ fn unsupported(alloc: Global, field: Unserved) -> Result<Refusal, NoMemory>
         Unserved::NestedTxn => b"proxy: unsupported: request_txn",
     };
     Ok(Refusal {
-        code: 12,
+        code: UNIMPLEMENTED,
         text: Bytes::from_slice(alloc, text)?,
     })
 }
@@ -46,7 +44,7 @@ fn reserved_lease(alloc: Global) -> Result<Refusal, NoMemory>
     ensures { IfOk result (λ refusal. refusal ≡ reserved_lease) }
 {
     Ok(Refusal {
-        code: 7,
+        code: PERMISSION_DENIED,
         text: Bytes::from_slice(alloc, b"proxy: lease number is reserved")?,
     })
 }

@@ -7,6 +7,7 @@
 
 mod answer;
 mod bytes;
+pub mod code;
 mod key_range;
 mod list;
 mod no_memory;

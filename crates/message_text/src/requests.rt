@@ -7,8 +7,8 @@ use crate::text::{Text, push_named};
 use etcd_types::{DeleteAsk, KeyRange, NoMemory, PutAsk, Request, TxnAsk, WatchAsk};
 use std::alloc::Global;
 use text_words::{
-    ReadError, Words, is_word, push_bytes, push_flag, push_number, push_word, read_bytes,
-    read_flag, read_number, read_watch_flags, watch_flags,
+    ReadError, Words, is_word, push_bytes, push_flag, push_flags, push_number, push_word,
+    read_bytes, read_flag, read_number, read_watch_flags,
 };
 
 /// How deep transactions nest within a transaction, so that it is 128 with itself.
@@ -55,9 +55,14 @@ impl Text for WatchAsk {
         push_bytes(out, &self.range.key)?;
         push_bytes(out, &self.range.end)?;
         push_number(out, self.start)?;
-        push_word(
+        push_flags(
             out,
-            watch_flags(self.prev_kv, self.no_put, self.no_delete, self.progress),
+            &[
+                (b'p', self.prev_kv),
+                (b'u', self.no_put),
+                (b'd', self.no_delete),
+                (b'n', self.progress),
+            ],
         )?;
         Ok(())
     }

@@ -5,7 +5,7 @@ ghost use Rattle.message_text.specs.Requests.{range, range_ask_words, plain, sor
 
 use etcd_types::{NoMemory, RangeAsk, Sort};
 use text_words::{
-    MAX_NUMBER, ReadError, Words, push_bytes, push_number, push_word, range_flags, read_number,
+    MAX_NUMBER, ReadError, Words, push_bytes, push_flags, push_number, push_word, read_number,
     read_number_within,
 };
 
@@ -77,9 +77,13 @@ fn push_plain(out: &mut String, ask: &RangeAsk) -> Result<(), NoMemory>
     push_bytes(out, &ask.range.end)?;
     push_number(out, ask.revision)?;
     push_number(out, ask.limit)?;
-    push_word(
+    push_flags(
         out,
-        range_flags(ask.serializable, ask.keys_only, ask.count_only),
+        &[
+            (b's', ask.serializable),
+            (b'k', ask.keys_only),
+            (b'c', ask.count_only),
+        ],
     )?;
     Ok(())
 }

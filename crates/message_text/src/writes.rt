@@ -4,8 +4,8 @@ use crate::text::Text;
 use etcd_types::{DeleteAsk, KeyRange, NoMemory, PutAsk};
 use std::alloc::Global;
 use text_words::{
-    ReadError, Words, push_bytes, push_flag, push_number, push_word, put_flags, read_bytes,
-    read_flag, read_number, read_put_flags,
+    ReadError, Words, push_bytes, push_flag, push_flags, push_number, read_bytes, read_flag,
+    read_number, read_put_flags,
 };
 
 /// `K V LEASE F`
@@ -32,7 +32,7 @@ impl Text for PutAsk {
         push_bytes(out, &self.key)?;
         push_bytes(out, &self.value)?;
         push_number(out, self.lease)?;
-        push_word(out, put_flags(self.prev_kv, self.ignore_lease))?;
+        push_flags(out, &[(b'p', self.prev_kv), (b'i', self.ignore_lease)])?;
         Ok(())
     }
 }

@@ -4,12 +4,14 @@ use Rattle.std.specs.List.{list_any}
 use Rattle.std.specs.Option.{option_map}
 use Rattle.etcd_types.specs.Keys.{is_empty}
 use Rattle.etcd_types.specs.declared.answer.Refusal.{Refusal}
+use Rattle.etcd_types.specs.declared.code.TheConstants.{PERMISSION_DENIED, UNIMPLEMENTED}
 use Rattle.etcd_types.specs.declared.operation.Op.{Op}
 use Rattle.etcd_types.specs.declared.operation.Op.TheVariants as op
 use Rattle.etcd_types.specs.declared.request.Request.{Request}
 use Rattle.etcd_types.specs.declared.request.Request.TheVariants.{Range, Put, Delete, Txn, Grant, Revoke, KeepAlive, TimeToLive}
 use Rattle.store_model.specs.FirstRefusals.{compare_lacks_key}
 use Rattle.store_model.specs.Refusals.{key_not_provided}
+use Rattle.proxy_model.specs.declared.session.TheConstants.{FIRST_SESSION}
 use Rattle.proxy_model.specs.declared.unserved.Unserved.{Unserved}
 use Rattle.proxy_model.specs.declared.unserved.Unserved.TheVariants.{IgnoreLease, NestedTxn}
 
@@ -40,7 +42,7 @@ field_name IgnoreLease = codes "ignore_lease"
 field_name NestedTxn = codes "request_txn"
 
 abbrev pub unsupported : Unserved → Refusal
-unsupported field = record { code = 12; text = codes "proxy: unsupported: " ++ field_name field }
+unsupported field = record { code = UNIMPLEMENTED; text = codes "proxy: unsupported: " ++ field_name field }
 
 -- an empty key of an operation; a transaction within a transaction is refused before
 abbrev pub op_lacks_key : Op → Bool
@@ -58,9 +60,9 @@ request_lacks_key (Txn txn) =
     list_any compare_lacks_key txn.compare || list_any op_lacks_key txn.success || list_any op_lacks_key txn.failure
 request_lacks_key _ = false
 
--- lease numbers from 2^62 on are sessions, which are the proxies' own
+-- lease numbers from the first session's on are sessions, which are the proxies' own
 abbrev pub is_session : ℕ → Bool
-is_session lease = nat_le 4611686018427387904 lease
+is_session lease = nat_le FIRST_SESSION lease
 
 abbrev pub op_names_session : Op → Bool
 op_names_session (op.Put ask) = is_session ask.lease
@@ -77,7 +79,7 @@ names_session (TimeToLive lease keys) = is_session lease
 names_session _ = false
 
 abbrev pub reserved_lease : Refusal
-reserved_lease = record { code = 7; text = codes "proxy: lease number is reserved" }
+reserved_lease = record { code = PERMISSION_DENIED; text = codes "proxy: lease number is reserved" }
 
 abbrev pub given : Bool → Refusal → Option Refusal
 given applies refusal = if applies then Some refusal else None

@@ -12,6 +12,6 @@ mod worked;
 
 pub use lease::{Entry, Phase};
 pub use ownership::{Claim, Owned, Owner, Written};
-pub use session::Standing;
+pub use session::{FIRST_SESSION, Standing, first_session_is_stated};
 pub use unserved::Unserved;
 pub use worked::worked_transactions;

@@ -1,3 +1,4 @@
 pub mod BytesWords
 pub mod Cuts
+pub mod FlagWords
 pub mod Numbers

@@ -1,6 +1,6 @@
 -- What parsing says of the digits of a number, and which number a word spells.
-use Rattle.std.proofs.Common.{◌≡◌, ℕ, ◌<◌, ◌≤◌, ◌^◌, Bool, true, List, Option, Some, None, Result, Ok, Err, refl, sym, ap, ◌∙◌, subst, arith, decimal}
-use Rattle.std.specs.Prelude.{bytes_eq, IsUtf8, nat_le}
+use Rattle.std.proofs.Common.{◌≡◌, ℕ, ◌<◌, ◌≤◌, ◌^◌, true, List, Some, Result, sym, ap, ◌∙◌, subst, decimal}
+use Rattle.std.specs.Prelude.{bytes_eq, IsUtf8}
 use Rattle.std.specs.Result.{result_ok}
 use Rattle.std.specs.Str.Parse.{ParsesUnsigned, digits_value}
 use Rattle.std.proofs.lemmas.Bool.{and_from, le-leb}
@@ -9,8 +9,7 @@ use Rattle.std.proofs.lemmas.Str.{IsUtf8-from_ascii}
 use Rattle.std.proofs.lemmas.Slice.Eq.{bytes_eq-Decides}
 use Rattle.text_model.specs.Forms.{respelled}
 use Rattle.text_model.specs.Words.{is_within}
-use Rattle.text_model.proofs.Laws.{respelled_found, respelled_missing}
-use Rattle.text_model.proofs.WordLaws.{within_parts}
+use Rattle.text_model.proofs.Laws.{respelled_found}
 
 pub decimal_is_text : (n : ℕ) (word : List ℕ) → n < 2 ^ 64 → word ≡ decimal n → IsUtf8 word
 decimal_is_text n word lt e = subst IsUtf8 (sym e) (IsUtf8-from_ascii (decimal n) (IsAscii-decimal n lt))

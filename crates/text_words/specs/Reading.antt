@@ -1,6 +1,5 @@
 -- What a function that reads words returns.
-use Rattle.std.specs.Prelude.{◌≡◌, ℕ, List, [], ◌∷◌, Result, Ok, Err}
-use Rattle.text_model.specs.Forms.{Word}
+use Rattle.std.specs.Prelude.{◌≡◌, ℕ, Result, Ok, Err}
 use Rattle.text_words.specs.declared.fault.ReadError.{ReadError}
 use Rattle.text_words.specs.declared.fault.ReadError.TheVariants.{NoMemory, Wrong}
 

@@ -1,6 +1,7 @@
-ghost use Rattle.std.specs.Prelude.{◌≡◌, ◌∷◌, [], ◌++◌, if◌then◌else◌, bytes_eq, OnOk, string_bytes};
+ghost use Rattle.std.specs.Prelude.{◌≡◌, ◌∷◌, [], ◌++◌, true, if◌then◌else◌, bytes_eq, nat_lt, OnOk, string_bytes};
+ghost use Rattle.std.specs.List.{list_any, list_all};
 ghost use Rattle.text_model.specs.Texts.{written};
-ghost use Rattle.text_model.specs.Words.{has, flag, two_flags, two_flags_word, three_flags, three_flags_word, four_flags, four_flags_word};
+ghost use Rattle.text_model.specs.Words.{has, flag, letters, flags_word, two_flags, three_flags, four_flags};
 ghost use Rattle.text_words.specs.Reading.{Gives};
 
 use crate::fault::ReadError;
@@ -35,47 +36,87 @@ pub fn push_flag(out: &mut String, letter: &str, on: bool) -> Result<(), NoMemor
     Ok(())
 }
 
-/// The word for the flags of a put: `p` and `i`.
-pub fn put_flags(prev_kv: bool, ignore_lease: bool) -> &'static str
-    ensures { result.now ≡ two_flags_word 112 105 (prev_kv, ignore_lease) }
+/// Appends the word of these flags, the letters of those that are set, in this order, or `-` where none is, and a space.
+pub fn push_flags(out: &mut String, flags: &[(u8, bool)]) -> Result<(), NoMemory>
+    requires { list_all (λ flag. nat_lt flag.0 128) flags.now ≡ true }
+    ensures { OnOk result (string_bytes out.new ≡ string_bytes out.old ++ written 32 (flags_word flags.now ∷ [])) }
 {
-    match (prev_kv, ignore_lease) {
-        (false, false) => "-",
-        (true, false) => "p",
-        (false, true) => "i",
-        (true, true) => "pi",
+    push_flags_word(out, flags)?;
+    out.push(' ')?;
+    Ok(())
+}
+
+#[tactic(auto, using(crate::proofs::FlagWords::worded))]
+fn push_flags_word(out: &mut String, flags: &[(u8, bool)]) -> Result<(), NoMemory>
+    requires { list_all (λ flag. nat_lt flag.0 128) flags.now ≡ true }
+    ensures { OnOk result (string_bytes out.new ≡ string_bytes out.old ++ flags_word flags.now) }
+{
+    if is_any_set(flags) {
+        Ok(push_letters(out, flags)?)
+    } else {
+        Ok(out.push('-')?)
     }
 }
 
+fn push_letters(out: &mut String, flags: &[(u8, bool)]) -> Result<(), NoMemory>
+    requires { list_all (λ flag. nat_lt flag.0 128) flags.now ≡ true }
+    ensures { OnOk result (string_bytes out.new ≡ string_bytes out.old ++ letters flags.now) }
+{
+    for (letter, on) in flags {
+        if *on {
+            out.push(char::from(*letter))?;
+        }
+    }
+    Ok(())
+}
+
+fn is_any_set(flags: &[(u8, bool)]) -> bool
+    ensures { result ≡ list_any (λ flag. flag.1) flags.now }
+{
+    flags.iter().any(|flag| flag.1)
+}
+
+/// Whether the word is the word of these flags.
+#[tactic(auto, using(crate::proofs::FlagWords::worded))]
+fn is_flags(word: &[u8], flags: &[(u8, bool)]) -> bool
+    ensures { result ≡ bytes_eq word.now (flags_word flags.now) }
+{
+    if is_any_set(flags) {
+        has_letters(word, flags)
+    } else {
+        word == b"-".as_slice()
+    }
+}
+
+/// Whether the word has just the letters of the flags that are set, in their order.
+fn has_letters(word: &[u8], flags: &[(u8, bool)]) -> bool
+    ensures { result ≡ bytes_eq word.now (letters flags.now) }
+{
+    match flags {
+        [] => word.is_empty(),
+        [(letter, true), rest @ ..] => match word {
+            [] => false,
+            [first, others @ ..] => first == letter && has_letters(others, rest),
+        },
+        [(_, false), rest @ ..] => has_letters(word, rest),
+    }
+}
+
+/// Reads the flags of a put: `p` and `i`.
 pub fn read_put_flags(words: &mut Words) -> Result<(bool, bool), ReadError>
     ensures { Gives (λ f. (f, words.new)) result ((two_flags 112 105).read words.old) }
 {
     let word = words.take()?;
     let prev_kv = has(word, b'p');
     let ignore_lease = has(word, b'i');
-    if is_word(word, put_flags(prev_kv, ignore_lease)) {
+    if is_flags(word, &[(b'p', prev_kv), (b'i', ignore_lease)]) {
         Ok((prev_kv, ignore_lease))
     } else {
         Err(words.wrong())
     }
 }
 
-/// The word for the flags of a range: `s`, `k` and `c`.
-pub fn range_flags(serializable: bool, keys_only: bool, count_only: bool) -> &'static str
-    ensures { result.now ≡ three_flags_word 115 107 99 (serializable, keys_only, count_only) }
-{
-    match (serializable, keys_only, count_only) {
-        (false, false, false) => "-",
-        (true, false, false) => "s",
-        (false, true, false) => "k",
-        (true, true, false) => "sk",
-        (false, false, true) => "c",
-        (true, false, true) => "sc",
-        (false, true, true) => "kc",
-        (true, true, true) => "skc",
-    }
-}
-
+/// Reads the flags of a range: `s`, `k` and `c`.
 pub fn read_range_flags(words: &mut Words) -> Result<(bool, bool, bool), ReadError>
     ensures { Gives (λ f. (f, words.new)) result ((three_flags 115 107 99).read words.old) }
 {
@@ -83,37 +124,17 @@ pub fn read_range_flags(words: &mut Words) -> Result<(bool, bool, bool), ReadErr
     let serializable = has(word, b's');
     let keys_only = has(word, b'k');
     let count_only = has(word, b'c');
-    if is_word(word, range_flags(serializable, keys_only, count_only)) {
+    if is_flags(
+        word,
+        &[(b's', serializable), (b'k', keys_only), (b'c', count_only)],
+    ) {
         Ok((serializable, keys_only, count_only))
     } else {
         Err(words.wrong())
     }
 }
 
-/// The word for the flags of a watch: `p`, `u`, `d` and `n`.
-pub fn watch_flags(prev_kv: bool, no_put: bool, no_delete: bool, progress: bool) -> &'static str
-    ensures { result.now ≡ four_flags_word 112 117 100 110 (prev_kv, no_put, no_delete, progress) }
-{
-    match (prev_kv, no_put, no_delete, progress) {
-        (false, false, false, false) => "-",
-        (true, false, false, false) => "p",
-        (false, true, false, false) => "u",
-        (true, true, false, false) => "pu",
-        (false, false, true, false) => "d",
-        (true, false, true, false) => "pd",
-        (false, true, true, false) => "ud",
-        (true, true, true, false) => "pud",
-        (false, false, false, true) => "n",
-        (true, false, false, true) => "pn",
-        (false, true, false, true) => "un",
-        (true, true, false, true) => "pun",
-        (false, false, true, true) => "dn",
-        (true, false, true, true) => "pdn",
-        (false, true, true, true) => "udn",
-        (true, true, true, true) => "pudn",
-    }
-}
-
+/// Reads the flags of a watch: `p`, `u`, `d` and `n`.
 pub fn read_watch_flags(words: &mut Words) -> Result<(bool, bool, bool, bool), ReadError>
     ensures { Gives (λ f. (f, words.new)) result ((four_flags 112 117 100 110).read words.old) }
 {
@@ -122,7 +143,15 @@ pub fn read_watch_flags(words: &mut Words) -> Result<(bool, bool, bool, bool), R
     let no_put = has(word, b'u');
     let no_delete = has(word, b'd');
     let progress = has(word, b'n');
-    if is_word(word, watch_flags(prev_kv, no_put, no_delete, progress)) {
+    if is_flags(
+        word,
+        &[
+            (b'p', prev_kv),
+            (b'u', no_put),
+            (b'd', no_delete),
+            (b'n', progress),
+        ],
+    ) {
         Ok((prev_kv, no_put, no_delete, progress))
     } else {
         Err(words.wrong())
