@@ -1,206 +1,210 @@
--- The names of the API's fields: the plain one, and the lowerCamelCase one (etcd API reference).
+-- The names of the API's fields (etcd API reference). Each has its plain name, and the lowerCamelCase one that is made from it.
 use Rattle.std.specs.Prelude.{ℕ, List, codes}
+use Rattle.json_model.specs.Names.{camel}
 
 abbrev pub FieldName : Type 0
 FieldName = List ℕ × List ℕ
 
+abbrev pub named : List ℕ → FieldName
+named plain = (plain, camel plain)
+
 abbrev pub key : FieldName
-key = (codes "key", codes "key")
+key = named (codes "key")
 
 abbrev pub range_end : FieldName
-range_end = (codes "range_end", codes "rangeEnd")
+range_end = named (codes "range_end")
 
 abbrev pub limit : FieldName
-limit = (codes "limit", codes "limit")
+limit = named (codes "limit")
 
 abbrev pub revision : FieldName
-revision = (codes "revision", codes "revision")
+revision = named (codes "revision")
 
 abbrev pub sort_order : FieldName
-sort_order = (codes "sort_order", codes "sortOrder")
+sort_order = named (codes "sort_order")
 
 abbrev pub sort_target : FieldName
-sort_target = (codes "sort_target", codes "sortTarget")
+sort_target = named (codes "sort_target")
 
 abbrev pub serializable : FieldName
-serializable = (codes "serializable", codes "serializable")
+serializable = named (codes "serializable")
 
 abbrev pub keys_only : FieldName
-keys_only = (codes "keys_only", codes "keysOnly")
+keys_only = named (codes "keys_only")
 
 abbrev pub count_only : FieldName
-count_only = (codes "count_only", codes "countOnly")
+count_only = named (codes "count_only")
 
 abbrev pub min_mod_revision : FieldName
-min_mod_revision = (codes "min_mod_revision", codes "minModRevision")
+min_mod_revision = named (codes "min_mod_revision")
 
 abbrev pub max_mod_revision : FieldName
-max_mod_revision = (codes "max_mod_revision", codes "maxModRevision")
+max_mod_revision = named (codes "max_mod_revision")
 
 abbrev pub min_create_revision : FieldName
-min_create_revision = (codes "min_create_revision", codes "minCreateRevision")
+min_create_revision = named (codes "min_create_revision")
 
 abbrev pub max_create_revision : FieldName
-max_create_revision = (codes "max_create_revision", codes "maxCreateRevision")
+max_create_revision = named (codes "max_create_revision")
 
 abbrev pub value : FieldName
-value = (codes "value", codes "value")
+value = named (codes "value")
 
 abbrev pub lease : FieldName
-lease = (codes "lease", codes "lease")
+lease = named (codes "lease")
 
 abbrev pub prev_kv : FieldName
-prev_kv = (codes "prev_kv", codes "prevKv")
+prev_kv = named (codes "prev_kv")
 
 abbrev pub ignore_value : FieldName
-ignore_value = (codes "ignore_value", codes "ignoreValue")
+ignore_value = named (codes "ignore_value")
 
 abbrev pub ignore_lease : FieldName
-ignore_lease = (codes "ignore_lease", codes "ignoreLease")
+ignore_lease = named (codes "ignore_lease")
 
 abbrev pub compare : FieldName
-compare = (codes "compare", codes "compare")
+compare = named (codes "compare")
 
 abbrev pub success : FieldName
-success = (codes "success", codes "success")
+success = named (codes "success")
 
 abbrev pub failure : FieldName
-failure = (codes "failure", codes "failure")
+failure = named (codes "failure")
 
 abbrev pub result : FieldName
-result = (codes "result", codes "result")
+result = named (codes "result")
 
 abbrev pub target : FieldName
-target = (codes "target", codes "target")
+target = named (codes "target")
 
 abbrev pub version : FieldName
-version = (codes "version", codes "version")
+version = named (codes "version")
 
 abbrev pub create_revision : FieldName
-create_revision = (codes "create_revision", codes "createRevision")
+create_revision = named (codes "create_revision")
 
 abbrev pub mod_revision : FieldName
-mod_revision = (codes "mod_revision", codes "modRevision")
+mod_revision = named (codes "mod_revision")
 
 abbrev pub request_range : FieldName
-request_range = (codes "request_range", codes "requestRange")
+request_range = named (codes "request_range")
 
 abbrev pub request_put : FieldName
-request_put = (codes "request_put", codes "requestPut")
+request_put = named (codes "request_put")
 
 abbrev pub request_delete_range : FieldName
-request_delete_range = (codes "request_delete_range", codes "requestDeleteRange")
+request_delete_range = named (codes "request_delete_range")
 
 abbrev pub request_txn : FieldName
-request_txn = (codes "request_txn", codes "requestTxn")
+request_txn = named (codes "request_txn")
 
 abbrev pub physical : FieldName
-physical = (codes "physical", codes "physical")
+physical = named (codes "physical")
 
 abbrev pub TTL : FieldName
-TTL = (codes "TTL", codes "TTL")
+TTL = named (codes "TTL")
 
 abbrev pub ID : FieldName
-ID = (codes "ID", codes "ID")
+ID = named (codes "ID")
 
 abbrev pub keys : FieldName
-keys = (codes "keys", codes "keys")
+keys = named (codes "keys")
 
 abbrev pub create_request : FieldName
-create_request = (codes "create_request", codes "createRequest")
+create_request = named (codes "create_request")
 
 abbrev pub cancel_request : FieldName
-cancel_request = (codes "cancel_request", codes "cancelRequest")
+cancel_request = named (codes "cancel_request")
 
 abbrev pub progress_request : FieldName
-progress_request = (codes "progress_request", codes "progressRequest")
+progress_request = named (codes "progress_request")
 
 abbrev pub start_revision : FieldName
-start_revision = (codes "start_revision", codes "startRevision")
+start_revision = named (codes "start_revision")
 
 abbrev pub progress_notify : FieldName
-progress_notify = (codes "progress_notify", codes "progressNotify")
+progress_notify = named (codes "progress_notify")
 
 abbrev pub filters : FieldName
-filters = (codes "filters", codes "filters")
+filters = named (codes "filters")
 
 abbrev pub watch_id : FieldName
-watch_id = (codes "watch_id", codes "watchId")
+watch_id = named (codes "watch_id")
 
 abbrev pub fragment : FieldName
-fragment = (codes "fragment", codes "fragment")
+fragment = named (codes "fragment")
 
 abbrev pub header : FieldName
-header = (codes "header", codes "header")
+header = named (codes "header")
 
 abbrev pub kvs : FieldName
-kvs = (codes "kvs", codes "kvs")
+kvs = named (codes "kvs")
 
 abbrev pub more : FieldName
-more = (codes "more", codes "more")
+more = named (codes "more")
 
 abbrev pub count : FieldName
-count = (codes "count", codes "count")
+count = named (codes "count")
 
 abbrev pub deleted : FieldName
-deleted = (codes "deleted", codes "deleted")
+deleted = named (codes "deleted")
 
 abbrev pub prev_kvs : FieldName
-prev_kvs = (codes "prev_kvs", codes "prevKvs")
+prev_kvs = named (codes "prev_kvs")
 
 abbrev pub succeeded : FieldName
-succeeded = (codes "succeeded", codes "succeeded")
+succeeded = named (codes "succeeded")
 
 abbrev pub responses : FieldName
-responses = (codes "responses", codes "responses")
+responses = named (codes "responses")
 
 abbrev pub grantedTTL : FieldName
-grantedTTL = (codes "grantedTTL", codes "grantedTTL")
+grantedTTL = named (codes "grantedTTL")
 
 abbrev pub leases : FieldName
-leases = (codes "leases", codes "leases")
+leases = named (codes "leases")
 
 abbrev pub response_range : FieldName
-response_range = (codes "response_range", codes "responseRange")
+response_range = named (codes "response_range")
 
 abbrev pub response_put : FieldName
-response_put = (codes "response_put", codes "responsePut")
+response_put = named (codes "response_put")
 
 abbrev pub response_delete_range : FieldName
-response_delete_range = (codes "response_delete_range", codes "responseDeleteRange")
+response_delete_range = named (codes "response_delete_range")
 
 abbrev pub response_txn : FieldName
-response_txn = (codes "response_txn", codes "responseTxn")
+response_txn = named (codes "response_txn")
 
 abbrev pub cluster_id : FieldName
-cluster_id = (codes "cluster_id", codes "clusterId")
+cluster_id = named (codes "cluster_id")
 
 abbrev pub member_id : FieldName
-member_id = (codes "member_id", codes "memberId")
+member_id = named (codes "member_id")
 
 abbrev pub raft_term : FieldName
-raft_term = (codes "raft_term", codes "raftTerm")
+raft_term = named (codes "raft_term")
 
 abbrev pub created : FieldName
-created = (codes "created", codes "created")
+created = named (codes "created")
 
 abbrev pub canceled : FieldName
-canceled = (codes "canceled", codes "canceled")
+canceled = named (codes "canceled")
 
 abbrev pub compact_revision : FieldName
-compact_revision = (codes "compact_revision", codes "compactRevision")
+compact_revision = named (codes "compact_revision")
 
 abbrev pub events : FieldName
-events = (codes "events", codes "events")
+events = named (codes "events")
 
 abbrev pub kind : FieldName
-kind = (codes "type", codes "type")
+kind = named (codes "type")
 
 abbrev pub kv : FieldName
-kv = (codes "kv", codes "kv")
+kv = named (codes "kv")
 
 abbrev pub code : FieldName
-code = (codes "code", codes "code")
+code = named (codes "code")
 
 abbrev pub message : FieldName
-message = (codes "message", codes "message")
+message = named (codes "message")
