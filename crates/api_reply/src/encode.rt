@@ -1,4 +1,4 @@
-ghost use Rattle.std.specs.Prelude.{◌≡◌, IfOk, ◌∷◌, [], false};
+ghost use Rattle.std.specs.Prelude.{◌≡◌, IfOk, ◌++◌, ◌∷◌, [], false};
 ghost use Rattle.serde_json.specs.Data.{object};
 ghost use Rattle.serde_json.specs.View.{members_view};
 ghost use Rattle.serde_json.specs.Written.{members_have_float, compact_text};
@@ -6,11 +6,10 @@ ghost use Rattle.json_model.specs.Written.{members_of, object_of};
 ghost use Rattle.json_model.specs.WrittenReplies as spec;
 
 use crate::events::item_object;
-use crate::objects::{object_line, put_object};
 use crate::records::put_header;
 use crate::responses::put_body_fields;
 use etcd_types::{Answer, Body, Bytes, NoMemory, Refusal, Reply, WatchItem};
-use json_fields::{object_text, put_value};
+use json_fields::{object_text, put_object, put_value};
 use serde_json::{Map, Value};
 use std::alloc::Global;
 
@@ -54,6 +53,16 @@ fn is_keep_alive(body: &Body) -> bool
     ensures { result ≡ spec.is_keep_alive body.now }
 {
     matches!(body, Body::KeepAlive { .. })
+}
+
+/// The object's text and a line feed.
+fn object_line(alloc: Global, fields: Map<String, Value>) -> Result<Bytes, NoMemory>
+    ensures { IfOk result (λ b. members_have_float (members_view fields.entries) ≡ false → b ≡ compact_text (object (members_view fields.entries)) ++ 10 ∷ []) }
+{
+    let value = Value::Object(fields);
+    let mut text = value.to_vec(alloc)?;
+    text.push(b'\n')?;
+    Ok(Bytes::from_vec(text))
 }
 
 /// The line of an object in `result`.

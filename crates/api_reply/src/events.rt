@@ -5,10 +5,9 @@ ghost use Rattle.serde_json.specs.View.{view, items_view, members_view};
 ghost use Rattle.json_model.specs.Written.{members_of, items_of, object_of};
 ghost use Rattle.json_model.specs.WrittenReplies as spec;
 
-use crate::objects::put_object;
 use crate::records::{put_header, put_prev, record_object};
 use etcd_types::{Bytes, Change, Event, Header, Kv, List, NoMemory, WatchItem};
-use json_fields::{put_bytes, put_flag, put_list, put_number, put_value};
+use json_fields::{put_bytes, put_flag, put_list, put_number, put_object, put_value};
 use serde_json::{Map, Value};
 use std::alloc::Global;
 

@@ -8,7 +8,6 @@ mod bodies;
 mod decode;
 mod encode;
 mod events;
-mod objects;
 mod records;
 mod responses;
 

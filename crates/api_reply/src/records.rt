@@ -5,9 +5,8 @@ ghost use Rattle.json_model.specs.FieldNames as names;
 ghost use Rattle.json_model.specs.Written.{with_field, with_fields, members_of, items_of};
 ghost use Rattle.json_model.specs.WrittenReplies as spec;
 
-use crate::objects::put_object;
 use etcd_types::{Header, Kv, List, NoMemory};
-use json_fields::{put_bytes, put_number};
+use json_fields::{put_bytes, put_number, put_object};
 use serde_json::{Map, Value};
 use std::alloc::Global;
 

@@ -9,9 +9,8 @@ use crate::bodies::{
     put_delete_fields, put_lease_fields, put_leases_fields, put_put_fields, put_range_fields,
     put_time_to_live_fields,
 };
-use crate::objects::put_object;
 use etcd_types::{Body, Kv, List, NoMemory};
-use json_fields::{put_flag, put_list};
+use json_fields::{object_within, put_flag, put_list};
 use serde_json::{Map, Value};
 use std::alloc::Global;
 
@@ -21,9 +20,7 @@ fn range_response(alloc: Global, count: u64, more: bool, kvs: &List<Kv>) -> Resu
 {
     let mut fields = Map::new(alloc);
     put_range_fields(alloc, &mut fields, count, more, kvs)?;
-    let mut response = Map::new(alloc);
-    put_object(alloc, &mut response, "response_range", fields)?;
-    Ok(Value::Object(response))
+    Ok(object_within(alloc, "response_range", fields)?)
 }
 
 #[tactic(auto, unfolding(json_model::specs::WrittenReplies::response_written))]
@@ -32,9 +29,7 @@ fn put_response(alloc: Global, prev: &Option<Kv>) -> Result<Value, NoMemory>
 {
     let mut fields = Map::new(alloc);
     put_put_fields(alloc, &mut fields, prev)?;
-    let mut response = Map::new(alloc);
-    put_object(alloc, &mut response, "response_put", fields)?;
-    Ok(Value::Object(response))
+    Ok(object_within(alloc, "response_put", fields)?)
 }
 
 #[tactic(auto, unfolding(json_model::specs::WrittenReplies::response_written))]
@@ -43,9 +38,7 @@ fn delete_response(alloc: Global, deleted: u64, prevs: &List<Kv>) -> Result<Valu
 {
     let mut fields = Map::new(alloc);
     put_delete_fields(alloc, &mut fields, deleted, prevs)?;
-    let mut response = Map::new(alloc);
-    put_object(alloc, &mut response, "response_delete_range", fields)?;
-    Ok(Value::Object(response))
+    Ok(object_within(alloc, "response_delete_range", fields)?)
 }
 
 #[tactic(auto, unfolding(json_model::specs::WrittenReplies::txn_fields_of))]
@@ -67,9 +60,7 @@ fn txn_response(alloc: Global, succeeded: bool, responses: Vec<Value>) -> Result
 {
     let mut fields = Map::new(alloc);
     put_txn_fields(alloc, &mut fields, succeeded, responses)?;
-    let mut response = Map::new(alloc);
-    put_object(alloc, &mut response, "response_txn", fields)?;
-    Ok(Value::Object(response))
+    Ok(object_within(alloc, "response_txn", fields)?)
 }
 
 /// A body within a transaction, without a header. What isn't a range, a put, a delete or a transaction stands in none.

@@ -1,31 +1,15 @@
 //! The fields of requests as they are written, but for transactions.
-ghost use Rattle.std.specs.Prelude.{◌≡◌, IfOk, OnOk, Some};
-ghost use Rattle.serde_json.specs.Data.{object};
+ghost use Rattle.std.specs.Prelude.{◌≡◌, IfOk, OnOk};
 ghost use Rattle.serde_json.specs.View.{items_view, members_view};
-ghost use Rattle.json_model.specs.Written.{with_field, with_fields, members_of};
+ghost use Rattle.json_model.specs.Written.{with_fields, members_of};
 ghost use Rattle.json_model.specs.WrittenRequests as spec;
 ghost use Rattle.api_request.specs.RangeParts as parts;
 
 use etcd_types::{DeleteAsk, NoMemory, PutAsk, RangeAsk, WatchAsk};
-use json_fields::{put_bytes, put_choice, put_flag, put_list, put_number, put_value};
+use json_fields::{put_bytes, put_choice, put_flag, put_list, put_number, put_object};
+use json_model::names::{SORT_ORDERS, SORT_TARGETS};
 use serde_json::{Map, Value};
 use std::alloc::Global;
-
-const SORT_ORDERS: &str = "NONE ASCEND DESCEND";
-
-const SORT_TARGETS: &str = "KEY VERSION CREATE MOD VALUE";
-
-/// Adds a field with this object, also an empty one.
-pub(crate) fn put_object(
-    alloc: Global,
-    within: &mut Map<String, Value>,
-    name: &'static str,
-    fields: Map<String, Value>,
-) -> Result<(), NoMemory>
-    ensures { OnOk result (members_view within.new.entries ≡ with_field name.now (Some (object (members_view fields.entries))) (members_view within.old.entries)) }
-{
-    Ok(put_value(alloc, within, name, Value::Object(fields))?)
-}
 
 /// The range, the limit and the revision.
 fn put_place(alloc: Global, fields: &mut Map<String, Value>, ask: &RangeAsk) -> Result<(), NoMemory>

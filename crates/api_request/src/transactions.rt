@@ -1,19 +1,15 @@
 //! Transactions as they are written. An operation may be a transaction.
-ghost use Rattle.std.specs.Prelude.{◌≡◌, IfOk, OnOk, Some};
-ghost use Rattle.serde_json.specs.Data.{object, no_members};
+ghost use Rattle.std.specs.Prelude.{◌≡◌, IfOk, OnOk};
 ghost use Rattle.serde_json.specs.View.{view, items_view, members_view};
 ghost use Rattle.json_model.specs.Written.{with_field, members_of, items_of};
 ghost use Rattle.json_model.specs.WrittenRequests as spec;
 
-use crate::fields::{delete_fields, put_fields, put_object, range_fields};
+use crate::fields::{delete_fields, put_fields, range_fields};
 use etcd_types::{Bytes, Compare, List, NoMemory, Op, Relation, Target, TxnAsk};
-use json_fields::{put_bytes, put_choice, put_list, put_number};
+use json_fields::{object_within, put_bytes, put_choice, put_list, put_number};
+use json_model::names::{RELATIONS, TARGETS};
 use serde_json::{Map, Value};
 use std::alloc::Global;
-
-const RELATIONS: &str = "EQUAL GREATER LESS NOT_EQUAL";
-
-const TARGETS: &str = "VERSION CREATE MOD VALUE LEASE";
 
 fn relation_number(relation: Relation) -> u8
     ensures { result ≡ spec.relation_number relation }
@@ -89,30 +85,18 @@ fn compare_values(alloc: Global, compares: &List<Compare>) -> Result<Vec<Value>,
 }
 
 /// An operation is an object of its one field.
-fn operation_written(
-    alloc: Global,
-    name: &'static str,
-    fields: Map<String, Value>,
-) -> Result<Value, NoMemory>
-    ensures { IfOk result (λ v. view v ≡ object (with_field name.now (Some (object (members_view fields.entries))) no_members)) }
-{
-    let mut operation = Map::new(alloc);
-    put_object(alloc, &mut operation, name, fields)?;
-    Ok(Value::Object(operation))
-}
-
 #[cycle(operation)]
 #[tactic(auto, unfolding(json_model::specs::WrittenRequests::operation_written), using(crate::proofs::Operations::txn_value))]
 fn operation_value(alloc: Global, operation: &Op) -> Result<Value, NoMemory>
     ensures { IfOk result (λ v. view v ≡ spec.operation_value operation.now) }
 {
     match operation {
-        Op::Range(ask) => Ok(operation_written(alloc, "request_range", range_fields(alloc, ask)?)?),
-        Op::Put(ask) => Ok(operation_written(alloc, "request_put", put_fields(alloc, ask)?)?),
+        Op::Range(ask) => Ok(object_within(alloc, "request_range", range_fields(alloc, ask)?)?),
+        Op::Put(ask) => Ok(object_within(alloc, "request_put", put_fields(alloc, ask)?)?),
         Op::Delete(ask) => {
-            Ok(operation_written(alloc, "request_delete_range", delete_fields(alloc, ask)?)?)
+            Ok(object_within(alloc, "request_delete_range", delete_fields(alloc, ask)?)?)
         }
-        Op::Txn(ask) => Ok(operation_written(alloc, "request_txn", txn_fields(alloc, ask)?)?),
+        Op::Txn(ask) => Ok(object_within(alloc, "request_txn", txn_fields(alloc, ask)?)?),
     }
 }
 

@@ -24,5 +24,6 @@ pub use readers::{
 pub use texts::{object_of, object_text};
 pub use values::{bytes_from, choice_from, members_from};
 pub use writers::{
-    bytes_text, put_bytes, put_choice, put_flag, put_list, put_number, put_signed, put_value,
+    bytes_text, object_within, put_bytes, put_choice, put_flag, put_list, put_number, put_object,
+    put_signed, put_value,
 };

@@ -1,5 +1,5 @@
 ghost use Rattle.std.specs.Prelude.{◌≡◌, Some, OnOk, OnErr, IfOk, option_map};
-ghost use Rattle.serde_json.specs.Data.{put};
+ghost use Rattle.serde_json.specs.Data.{object as object_data, no_members, put};
 ghost use Rattle.serde_json.specs.View.{view, items_view, members_view};
 ghost use Rattle.json_model.specs.Names.{name_at};
 ghost use Rattle.json_model.specs.Written as spec;
@@ -22,6 +22,32 @@ pub fn put_value(
 {
     serde_json::put(object, alloc, name, value)?;
     Ok(())
+}
+
+/// Adds a field with this object, also an empty one.
+pub fn put_object(
+    alloc: Global,
+    object: &mut Map<String, Value>,
+    name: &'static str,
+    fields: Map<String, Value>,
+) -> Result<(), NoMemory>
+    ensures ok { OnOk result (members_view object.new.entries ≡ spec.with_field name.now (Some (object_data (members_view fields.entries))) (members_view object.old.entries)) }
+    ensures err { OnErr result (members_view object.new.entries ≡ members_view object.old.entries) }
+{
+    Ok(put_value(alloc, object, name, Value::Object(fields))?)
+}
+
+/// An object of one field, which has this object, also an empty one.
+pub fn object_within(
+    alloc: Global,
+    name: &'static str,
+    fields: Map<String, Value>,
+) -> Result<Value, NoMemory>
+    ensures { IfOk result (λ v. view v ≡ object_data (spec.with_field name.now (Some (object_data (members_view fields.entries))) no_members)) }
+{
+    let mut object = Map::new(alloc);
+    put_object(alloc, &mut object, name, fields)?;
+    Ok(Value::Object(object))
 }
 
 /// The bytes as a base64 text in the standard alphabet, with padding.

@@ -10,3 +10,4 @@ pub mod RequestsBack
 pub mod WrittenTexts
 pub mod NoFloats
 pub mod ItemsSoFar
+pub mod Depths

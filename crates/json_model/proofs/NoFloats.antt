@@ -2,11 +2,12 @@
 use Rattle.std.proofs.Common.{◌≡◌, ℕ, zero, suc, ℤ, pos, negsuc, Bool, true, false, ◌||◌, List, [], ◌∷◌, Option, Some, None, Ordering, Less, Equal, Greater, nat_cmp, refl}
 use Rattle.std.specs.Ordering.{match_ordering}
 use Rattle.std.specs.Cmp.Lexicographic.{slice_cmp}
+use Rattle.std.proofs.lemmas.Bool.{or_parts}
+use Rattle.etcd_types.proofs.Bools.{or_none}
 use Rattle.serde_json.specs.Data.{Data, Items, no_items, item, Members, no_members, member, put}
 use Rattle.serde_json.specs.Written.{has_float, items_have_float, members_have_float}
 use Rattle.json_model.specs.Names.{name_at}
 use Rattle.json_model.specs.Written.{Field, number_value, signed_value, bytes_value, flag_value, named_or_number, choice_value, list_value, with_field, with_fields, members_of, items_of}
-use Rattle.json_model.proofs.WrittenObjects.{or_false, or_parts}
 
 -- ---- objects by their fields
 
@@ -19,10 +20,10 @@ fields_float [] = false
 fields_float (f ∷ fs) = field_float f.1 || fields_float fs
 
 put_float : (k : List ℕ) (d : Data) (ms : Members) → has_float d ≡ false → members_have_float ms ≡ false → members_have_float (put k d ms) ≡ false
-put_float k d no_members e h = or_false _ _ e h
+put_float k d no_members e h = or_none _ _ e h
 put_float k d (member l x ms) e h =
     let p = or_parts (has_float x) _ h in
-    placed (slice_cmp nat_cmp k l) _ _ _ (or_false _ _ e h) (or_false _ _ e p.1) (or_false _ _ p.0 (put_float k d ms e p.1))
+    placed (slice_cmp nat_cmp k l) _ _ _ (or_none _ _ e h) (or_none _ _ e p.1) (or_none _ _ p.0 (put_float k d ms e p.1))
   where
     placed : (o : Ordering) (a b c : Members) → members_have_float a ≡ false → members_have_float b ≡ false → members_have_float c ≡ false → members_have_float (match_ordering o a b c) ≡ false
     placed Less a b c x y z = x
@@ -73,4 +74,4 @@ list_float (item d ds) e = e
 
 pub items_float : {A : Type 0} (write : A → Data) (xs : List A) → ((x : A) → has_float (write x) ≡ false) → items_have_float (items_of write xs) ≡ false
 items_float write [] h = refl
-items_float write (x ∷ xs) h = or_false _ _ (h x) (items_float write xs h)
+items_float write (x ∷ xs) h = or_none _ _ (h x) (items_float write xs h)

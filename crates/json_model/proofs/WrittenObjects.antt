@@ -5,10 +5,12 @@ use Rattle.std.specs.Str.{bytes_eq}
 use Rattle.std.specs.List.{list_all}
 use Rattle.std.specs.Ordering.{match_ordering}
 use Rattle.std.specs.Cmp.Lexicographic.{slice_cmp}
+use Rattle.std.proofs.lemmas.Bool.{and_parts, or_parts}
 use Rattle.std.proofs.lemmas.Slice.Eq.{bytes_eq-Decides}
 use Rattle.serde_json.specs.Data.{Data, Members, no_members, member, put}
 use Rattle.serde_json.specs.Find.{get_member}
 use Rattle.serde_json.proofs.Views.{get_member-put, get_member-put_other}
+use Rattle.etcd_types.proofs.Bools.{or_none, not_true}
 use Rattle.json_model.specs.declared.fault.FieldFault.{FieldFault}
 use Rattle.json_model.specs.Faults.{◌>>=◌}
 use Rattle.json_model.specs.Base64.{or_else}
@@ -32,23 +34,7 @@ abbrev pub distinct : List Field → Bool
 distinct [] = true
 distinct (f ∷ fs) = not (has_name f.0 fs) && distinct fs
 
--- ---- tests
-
-and_parts : (a b : Bool) → a && b ≡ true → (a ≡ true) × (b ≡ true)
-and_parts true b e = (refl, e)
-and_parts false b e = absurd (cc)
-
-pub or_parts : (a b : Bool) → a || b ≡ false → (a ≡ false) × (b ≡ false)
-or_parts true b e = absurd (cc)
-or_parts false b e = (refl, e)
-
-pub or_false : (a b : Bool) → a ≡ false → b ≡ false → a || b ≡ false
-or_false true b e f = e
-or_false false b e f = f
-
-not_true : (b : Bool) → not b ≡ true → b ≡ false
-not_true true e = absurd (cc)
-not_true false e = refl
+-- ---- names
 
 is_same : (p q : List ℕ) → bytes_eq p q ≡ true → p ≡ q
 is_same p q e = (bytes_eq-Decides p q).0 e
@@ -58,9 +44,9 @@ is_other p q e s = true≢false (sym ((bytes_eq-Decides p q).1 s) ∙ e)
 
 -- ---- what is found
 
-or_none : {A : Type 0} (o : Option A) → or_else o None ≡ o
-or_none None = refl
-or_none (Some x) = refl
+else_none : {A : Type 0} (o : Option A) → or_else o None ≡ o
+else_none None = refl
+else_none (Some x) = refl
 
 -- what is found with other fields laid over what was there
 abbrev lookup_over : List ℕ → List Field → Option Data → Option Data
@@ -69,7 +55,7 @@ lookup_over q (f ∷ fs) under = cond (bytes_eq f.0 q) (or_else f.1 under) (look
 
 lookup_bare : (q : List ℕ) (fs : List Field) → lookup_over q fs None ≡ lookup q fs
 lookup_bare q [] = refl
-lookup_bare q (f ∷ fs) = ap₃ (bytes_eq f.0 q) (or_none f.1) (lookup_bare q fs)
+lookup_bare q (f ∷ fs) = ap₃ (bytes_eq f.0 q) (else_none f.1) (lookup_bare q fs)
   where
     ap₃ : (b : Bool) {x y u v : Option Data} → x ≡ y → u ≡ v → cond b x u ≡ cond b y v
     ap₃ true e f = e
@@ -116,15 +102,15 @@ one_name None = refl
 one_name (Some d) = refl
 
 pub two_names : (o : Option Data) → or_else o None ≡ o
-two_names o = or_none o
+two_names o = else_none o
 
 -- ---- which keys are there
 
 no_key_put : (q k : List ℕ) (d : Data) (ms : Members) → bytes_eq k q ≡ false → has_key q ms ≡ false → has_key q (put k d ms) ≡ false
-no_key_put q k d no_members e h = or_false _ _ e h
+no_key_put q k d no_members e h = or_none _ _ e h
 no_key_put q k d (member l x ms) e h =
     let p = or_parts (bytes_eq l q) _ h in
-    placed (slice_cmp nat_cmp k l) _ _ _ (or_false _ _ e h) (or_false _ _ p.0 p.1) (or_false _ _ p.0 (no_key_put q k d ms e p.1))
+    placed (slice_cmp nat_cmp k l) _ _ _ (or_none _ _ e h) (or_none _ _ p.0 p.1) (or_none _ _ p.0 (no_key_put q k d ms e p.1))
   where
     placed : (o : Ordering) (a b c : Members) → has_key q a ≡ false → has_key q b ≡ false → has_key q c ≡ false → has_key q (match_ordering o a b c) ≡ false
     placed Less a b c x y z = x

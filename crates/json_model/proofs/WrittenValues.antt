@@ -1,13 +1,14 @@
 -- What is written for a value is read back as the value.
-use Rattle.std.proofs.Common.{◌≡◌, ◌⊎◌, inl, inr, ℕ, zero, suc, ◌<◌, ◌^◌, ◌==◌, Bool, true, false, not, cond, ◌&&◌, List, [], ◌∷◌, length, get_or, lit<, Option, Some, None, Result, Ok, decimal, refl, ap, ◌∙◌, arith}
+use Rattle.std.proofs.Common.{◌≡◌, ◌⊎◌, inl, inr, ℕ, zero, suc, ◌<◌, ◌^◌, ◌==◌, Bool, true, false, not, List, [], ◌∷◌, length, get_or, lit<, Option, Some, None, Result, Ok, decimal, refl, ap, ◌∙◌, arith}
 use Rattle.std.specs.List.{AllByRecursion}
-use Rattle.std.proofs.lemmas.Bool.{lt-ltb}
+use Rattle.std.proofs.lemmas.Bool.{cond-true, lt-ltb}
 use Rattle.std.proofs.lemmas.Bool.Decides.{nat_tests}
 use Rattle.std.proofs.lemmas.Fmt.{digits_decimal, digits_value-decimal, first_decimal, decimal_nonempty, decimal_digit}
 use Rattle.base64.specs.Engines.{standard}
 use Rattle.base64.specs.GeneralPurpose.{encode_of, IsBytes}
 use Rattle.base64.proofs.EngineFacts.{decode_of-encode_of}
 use Rattle.serde_json.specs.Data.{Data, object, Items, no_items, item, Members}
+use Rattle.etcd_types.proofs.Bools.{and_both}
 use Rattle.json_model.specs.declared.fault.FieldFault.{FieldFault}
 use Rattle.json_model.specs.Faults.{◌>>=◌}
 use Rattle.json_model.specs.Base64.{or_else, decoded}
@@ -18,14 +19,6 @@ use Rattle.json_model.specs.Fields.{present, read_or, number_from, signed_from, 
 use Rattle.json_model.specs.Written.{Field, members_of, number_value, bytes_value, flag_value, choice_value, list_value, text_of, items_of}
 use Rattle.json_model.proofs.Decimals.{own}
 use Rattle.json_model.proofs.WrittenObjects.{lookup, distinct, found_written}
-
-where_true : {A : Type 0} (b : Bool) (x y : A) → b ≡ true → cond b x y ≡ x
-where_true true x y e = refl
-where_true false x y e = absurd (cc)
-
-both_true : (a b : Bool) → a ≡ true → b ≡ true → a && b ≡ true
-both_true true b e f = f
-both_true false b e f = e
 
 not_eq : (a : ℕ) → 48 < a → not (a == 48) ≡ true
 not_eq a h = grind (arith, nat_tests)
@@ -43,11 +36,11 @@ decimal_begins zero h = ap begins_well (decimal_digit 0 (lit< tt))
 decimal_begins (suc n) h = begins (decimal (suc n)) (decimal_nonempty (suc n) h) (inl (first_decimal (suc n) (omega arith) h))
 
 decimal_canonical : (n : ℕ) → n < 2 ^ 64 → is_canonical (decimal n) ≡ true
-decimal_canonical n h = both_true _ _ (decimal_begins n h) (digits_decimal own n h)
+decimal_canonical n h = and_both _ _ (decimal_begins n h) (digits_decimal own n h)
 
 pub decimal_back : (limit n : ℕ) → n < limit → n < 2 ^ 64 → decimal_of limit (decimal n) ≡ Some n
 decimal_back limit n within h =
-    where_true _ _ _ (decimal_canonical n h) ∙ ap (below limit) (digits_value-decimal own n h) ∙ where_true _ _ _ (lt-ltb n limit within)
+    cond-true _ _ _ (decimal_canonical n h) ∙ ap (below limit) (digits_value-decimal own n h) ∙ cond-true _ _ _ (lt-ltb n limit within)
 
 -- ---- each kind of value, as it is found
 

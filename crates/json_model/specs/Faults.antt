@@ -1,5 +1,5 @@
 -- Results that may be a fault, and what a body's result has to do with a definition's.
-use Rattle.std.specs.Prelude.{◌≡◌, Result, Ok, Err, ⊤}
+use Rattle.std.specs.Prelude.{◌≡◌, ℕ, List, codes, Result, Ok, Err, ⊤}
 use Rattle.json_model.specs.declared.fault.FieldFault.{FieldFault}
 use Rattle.json_model.specs.declared.fault.FieldFault.TheVariants as fields
 use Rattle.json_model.specs.declared.fault.ApiFault.{ApiFault}
@@ -84,3 +84,25 @@ of_request (Err e) = Err (as_api_fault e)
 abbrev pub of_reply : {A : Type 0} → Result A FieldFault → Result A NotReply
 of_reply (Ok x) = Ok x
 of_reply (Err e) = Err (as_not_reply e)
+
+-- ---- what a fault shows: its kind, without the field's name
+
+abbrev pub field_fault_text : FieldFault → List ℕ
+field_fault_text (fields.WrongKind n) = codes "wrong kind"
+field_fault_text (fields.BadNumber n) = codes "bad number"
+field_fault_text (fields.BadBase64 n) = codes "bad base64"
+field_fault_text (fields.UnknownField n) = codes "unknown field"
+field_fault_text (fields.TwiceNamed n) = codes "field named twice"
+field_fault_text (fields.BadEnum n) = codes "bad enum"
+field_fault_text fields.NoMemory = codes "no memory"
+
+abbrev pub api_fault_text : ApiFault → List ℕ
+api_fault_text api.NoSuchPath = codes "no such path"
+api_fault_text api.NotJson = codes "not JSON"
+api_fault_text (api.Unsupported n) = codes "unsupported"
+api_fault_text (api.Field fault) = field_fault_text fault
+api_fault_text api.NoMemory = codes "no memory"
+
+abbrev pub not_reply_text : NotReply → List ℕ
+not_reply_text replies.Unreadable = codes "unreadable"
+not_reply_text replies.NoMemory = codes "no memory"

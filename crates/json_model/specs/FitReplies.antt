@@ -1,7 +1,7 @@
 -- The answers and the messages of watches that are read back as they are written: numbers in the API's ranges, bytes that
 -- are bytes, refusals with a code above 0 and a text in UTF-8, and within a transaction ranges, puts, deletes and
 -- transactions alone.
-use Rattle.std.specs.Prelude.{◌≡◌, ◌<◌, ◌≤◌, ◌^◌, if◌then◌else◌, ℤ, pos, negsuc, [], ◌∷◌, Option, Some, None, ⊤, IsUtf8}
+use Rattle.std.specs.Prelude.{◌≡◌, ◌<◌, ◌≤◌, ◌^◌, if◌then◌else◌, ℤ, pos, negsuc, Option, Some, None, ⊤, IsUtf8}
 use Rattle.std.specs.List.{AllByRecursion}
 use Rattle.base64.specs.GeneralPurpose.{IsBytes}
 use Rattle.serde_json.specs.Data.{Data, depth}
@@ -22,11 +22,9 @@ use Rattle.etcd_types.specs.declared.watch.WatchItem.{WatchItem}
 use Rattle.etcd_types.specs.declared.watch.WatchItem.TheVariants.{Created, Events, Canceled}
 use Rattle.json_model.specs.declared.path.Path.{Path}
 use Rattle.json_model.specs.declared.path.Path.TheVariants as path
-use Rattle.json_model.specs.FieldNames as names
 use Rattle.json_model.specs.Fits.{IsNumber}
-use Rattle.json_model.specs.Written.{field, object_of}
 use Rattle.json_model.specs.WrittenRequests.{request_path}
-use Rattle.json_model.specs.WrittenReplies.{reply_value, item_written, is_keep_alive}
+use Rattle.json_model.specs.WrittenReplies.{in_result, reply_value, is_keep_alive}
 
 -- a number of 64 bits with a sign
 abbrev pub IsSigned : ℤ → Type 0
@@ -71,10 +69,10 @@ abbrev mutual
   ResponsesFit (more_of-Body first rest) = ResponseFits first × ResponsesFit rest
 
 abbrev pub BodyFits : Body → Type 0
-BodyFits (Range count more kvs) = IsNumber count × AllByRecursion RecordFits kvs
-BodyFits (Put prev) = PrevFits prev
-BodyFits (Delete deleted prevs) = IsNumber deleted × AllByRecursion RecordFits prevs
-BodyFits (Txn' succeeded m bodies) = ResponsesFit bodies
+BodyFits (Range count more kvs) = ResponseFits (Range count more kvs)
+BodyFits (Put prev) = ResponseFits (Put prev)
+BodyFits (Delete deleted prevs) = ResponseFits (Delete deleted prevs)
+BodyFits (Txn' succeeded m bodies) = ResponseFits (Txn' succeeded m bodies)
 BodyFits Compact = ⊤
 BodyFits (Grant lease ttl) = IsNumber lease × IsNumber ttl
 BodyFits Revoke = ⊤
@@ -94,10 +92,6 @@ reply_path Revoke = path.LeaseRevoke
 reply_path (KeepAlive lease ttl) = path.LeaseKeepAlive
 reply_path (TimeToLive lease ttl granted keys) = path.LeaseTimeToLive
 reply_path (Leases leases) = path.LeaseLeases
-
--- an object in `result`
-abbrev pub in_result : Data → Data
-in_result d = object_of (field names.result (Some d) ∷ [])
 
 -- the whole value of a reply's text
 abbrev pub reply_whole : Reply → Data
@@ -130,11 +124,7 @@ pub record EventFits (e : Event) : Type 0 where
   pub change : ChangeFits e.change
   pub prev : PrevFits e.prev
 
-abbrev pub MessageFits : WatchItem → Type 0
-MessageFits (Created h) = HeaderFits h
-MessageFits (Events h events) = HeaderFits h × AllByRecursion EventFits events
-MessageFits (Canceled h compact) = HeaderFits h × IsNumber compact
-
--- its text nests no deeper than JSON may
 abbrev pub ItemFits : WatchItem → Type 0
-ItemFits i = MessageFits i × (depth (in_result (object_of (item_written i))) ≤ max_depth)
+ItemFits (Created h) = HeaderFits h
+ItemFits (Events h events) = HeaderFits h × AllByRecursion EventFits events
+ItemFits (Canceled h compact) = HeaderFits h × IsNumber compact

@@ -134,9 +134,13 @@ refusal_written r = field names.code (Some (number (unsigned r.code))) ∷ field
 abbrev pub reply_value : Reply → Data
 reply_value r = object_of (header_field r.header ∷ body_fields r.body)
 
--- an object in `result`, and a line feed
+-- an object in `result`
+abbrev pub in_result : Data → Data
+in_result d = object_of (field names.result (Some d) ∷ [])
+
+-- and a line feed
 abbrev pub result_text : Data → List ℕ
-result_text d = compact_text (object_of (field names.result (Some d) ∷ [])) ++ 10 ∷ []
+result_text d = compact_text (in_result d) ++ 10 ∷ []
 
 abbrev pub is_keep_alive : Body → Bool
 is_keep_alive (Range count more kvs) = false

@@ -7,12 +7,15 @@
 
 mod extra;
 mod fault;
-mod names;
+pub mod names;
 mod path;
+pub mod reply_names;
 mod rows;
 
 pub use extra::{Extra, Reading};
 pub use fault::{ApiFault, FieldFault, NotReply};
 pub use names::Names;
 pub use path::Path;
-pub use rows::requests_by_example;
+pub use rows::{
+    camel_by_example, limits_are, replies_by_example, requests_by_example, written_by_example,
+};

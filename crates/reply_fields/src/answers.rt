@@ -10,9 +10,10 @@ use crate::leases::{grant_body, keep_alive_body, leases_body, time_to_live_body}
 use crate::records::header_in;
 use crate::refusals::refusal_in;
 use crate::responses::txn_body;
-use crate::tables::*;
 use etcd_types::{Answer, Body, Reply, Request};
 use json_fields::{FieldFault, child, wrong_kind};
+use json_model::names::*;
+use json_model::reply_names::*;
 use serde_json::{Map, Value};
 use std::alloc::Global;
 

@@ -5,9 +5,10 @@ ghost use Rattle.json_model.specs.Replies as spec;
 
 use crate::known::{once_delete_reply_fields, once_put_reply_fields};
 use crate::records::{prev_in, records_at};
-use crate::tables::*;
 use etcd_types::Body;
 use json_fields::{FieldFault, flag, number};
+use json_model::names::*;
+use json_model::reply_names::*;
 use serde_json::{Map, Value};
 use std::alloc::Global;
 

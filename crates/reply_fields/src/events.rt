@@ -8,9 +8,10 @@ ghost use Rattle.json_model.specs.WatchItems as spec;
 
 use crate::known::once_event_fields;
 use crate::records::{prev_in, record_from};
-use crate::tables::*;
 use etcd_types::{Change, Event, Kv, List};
 use json_fields::{FieldFault, child, choice, list, members_from};
+use json_model::names::*;
+use json_model::reply_names::*;
 use serde_json::{Map, Value};
 use std::alloc::Global;
 

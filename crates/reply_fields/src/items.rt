@@ -8,9 +8,10 @@ use crate::answers::result_in;
 use crate::events::events_in;
 use crate::known::once_message_fields;
 use crate::records::header_in;
-use crate::tables::*;
 use etcd_types::{Event, Header, List, WatchItem};
 use json_fields::{FieldFault, flag, number};
+use json_model::names::*;
+use json_model::reply_names::*;
 use serde_json::{Map, Value};
 use std::alloc::Global;
 

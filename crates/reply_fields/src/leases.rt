@@ -5,9 +5,10 @@ ghost use Rattle.json_model.specs.Fields.{each};
 ghost use Rattle.json_model.specs.Replies as spec;
 ghost use Rattle.reply_fields.specs.Keys.{key_of};
 
-use crate::tables::*;
 use etcd_types::{Body, Bytes, List};
 use json_fields::{FieldFault, bytes_from, list, members_from, number, signed};
+use json_model::names::*;
+use json_model::reply_names::*;
 use serde_json::{Map, Value};
 use std::alloc::Global;
 

@@ -13,7 +13,6 @@ mod leases;
 mod records;
 mod refusals;
 mod responses;
-mod tables;
 
 pub use answers::answer_in;
 pub use items::item_in;

@@ -6,9 +6,10 @@ ghost use Rattle.json_model.specs.Fields.{each};
 ghost use Rattle.json_model.specs.Replies as spec;
 
 use crate::known::{once_header_fields, once_record_fields};
-use crate::tables::*;
 use etcd_types::{Header, Kv, List};
 use json_fields::{FieldFault, Names, bytes, child, list, members_from, number, wide_number};
+use json_model::names::*;
+use json_model::reply_names::*;
 use serde_json::{Map, Value};
 use std::alloc::Global;
 

@@ -6,9 +6,10 @@ ghost use Rattle.json_model.specs.Faults.{Gives, IsFault};
 ghost use Rattle.json_model.specs.FieldNames as names;
 ghost use Rattle.json_model.specs.Answers as spec;
 
-use crate::tables::*;
 use etcd_types::{Bytes, Refusal};
 use json_fields::{FieldFault, found, number, wrong_kind};
+use json_model::names::*;
+use json_model::reply_names::*;
 use serde_json::{Map, Value};
 use std::alloc::Global;
 

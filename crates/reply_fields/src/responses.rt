@@ -9,9 +9,10 @@ ghost use Rattle.json_model.specs.Replies as spec;
 use crate::bodies::{delete_body, put_body, range_body};
 use crate::known::once_response_fields;
 use crate::records::header_in;
-use crate::tables::*;
 use etcd_types::{Body, List};
 use json_fields::{FieldFault, flag, found, list, members_from, wrong_kind};
+use json_model::names::*;
+use json_model::reply_names::*;
 use serde_json::{Map, Value};
 use std::alloc::Global;
 

@@ -7,11 +7,11 @@ ghost use Rattle.json_model.specs.Fields.{each};
 ghost use Rattle.json_model.specs.Compares as spec;
 
 use crate::known::only_compare_fields;
-use crate::tables::*;
 use etcd_types::{Bytes, Compare, KeyRange, List, Relation, Target};
 use json_fields::{
     FieldFault, Names, bytes, choice, is_there, list, members_from, number, wrong_kind,
 };
+use json_model::names::*;
 use serde_json::{Map, Value};
 use std::alloc::Global;
 

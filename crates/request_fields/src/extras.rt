@@ -4,8 +4,8 @@ ghost use Rattle.serde_json.specs.View.{view, items_view, members_view};
 ghost use Rattle.json_model.specs.Extras as spec;
 ghost use Rattle.json_model.specs.Fields.{found};
 
-use crate::tables::*;
 use json_fields::{Names, array_at, is_nonzero, is_set, is_there, object_at};
+use json_model::names::*;
 use json_model::{Extra, Path, Reading};
 use serde_json::{Map, Value};
 

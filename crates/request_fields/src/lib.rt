@@ -6,7 +6,6 @@ mod compares;
 mod extras;
 mod known;
 mod requests;
-mod tables;
 mod transactions;
 mod watches;
 

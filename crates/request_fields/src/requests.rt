@@ -7,9 +7,9 @@ use crate::known::{
     only_compaction_fields, only_delete_fields, only_grant_fields, only_lease_fields,
     only_no_fields, only_put_fields, only_range_fields, only_time_to_live_fields,
 };
-use crate::tables::*;
 use etcd_types::{DeleteAsk, KeyRange, PutAsk, RangeAsk, Request, Sort};
 use json_fields::{FieldFault, bytes, choice, flag, number};
+use json_model::names::*;
 use serde_json::{Map, Value};
 use std::alloc::Global;
 

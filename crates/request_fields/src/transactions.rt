@@ -8,9 +8,9 @@ ghost use Rattle.json_model.specs.Transactions as spec;
 use crate::compares::compares_in;
 use crate::known::{only_operation_fields, only_txn_fields};
 use crate::requests::{delete_in, put_in, range_in};
-use crate::tables::*;
 use etcd_types::{List, Op, TxnAsk};
 use json_fields::{FieldFault, Names, found, list, members_from, wrong_kind};
+use json_model::names::*;
 use serde_json::{Map, Value};
 use std::alloc::Global;
 

@@ -10,9 +10,9 @@ ghost use Rattle.json_model.specs.Watches as spec;
 
 use crate::known::{only_create_fields, only_watch_fields};
 use crate::requests::key_range_in;
-use crate::tables::*;
 use etcd_types::{Bytes, KeyRange, List, WatchAsk};
 use json_fields::{FieldFault, child, choice_from, flag, is_there, list, number, wrong_kind};
+use json_model::names::*;
 use serde_json::{Map, Value};
 use std::alloc::Global;
 
