@@ -16,16 +16,16 @@ use Rattle.etcd_types.specs.declared.watch.WatchItem.TheVariants.{Created, Event
 use Rattle.json_model.specs.FieldNames as names
 use Rattle.json_model.specs.Written.{Field, field, number_value, list_value, text_of, with_field, members_of, items_of}
 use Rattle.json_model.specs.WrittenReplies.{header_written, header_field, record_written, record_value, prev_value, range_fields_of, put_fields_of, delete_fields_of, lease_fields_of, time_to_live_fields_of, lease_value, leases_fields_of, txn_fields_of, response_written, response_value, row_responses, body_fields, refusal_written, put_event_written, deleted_written, delete_event_written, event_written, event_value, created_written, events_written, canceled_written, item_written}
-use Rattle.json_model.proofs.WrittenObjects.{or_false}
+use Rattle.etcd_types.proofs.Bools.{or_none}
 use Rattle.json_model.proofs.NoFloats.{field_float, fields_float, members_float, number_float, signed_float, bytes_float, flag_float, list_float, items_float}
 
 header_float : (h : Header) → fields_float (header_written h) ≡ false
 unfolding header_written
 header_float h =
-    or_false _ _ (number_float h.cluster)
-    (or_false _ _ (number_float h.member)
-    (or_false _ _ (number_float h.revision)
-    (or_false _ _ (number_float h.term) refl)))
+    or_none _ _ (number_float h.cluster)
+    (or_none _ _ (number_float h.member)
+    (or_none _ _ (number_float h.revision)
+    (or_none _ _ (number_float h.term) refl)))
 
 header_field_float : (h : Header) → field_float (header_field h).1 ≡ false
 header_field_float h = members_float (header_written h) (header_float h)
@@ -33,12 +33,12 @@ header_field_float h = members_float (header_written h) (header_float h)
 record_fields_float : (kv : Kv) → fields_float (record_written kv) ≡ false
 unfolding record_written
 record_fields_float kv =
-    or_false _ _ (bytes_float kv.key)
-    (or_false _ _ (number_float kv.create)
-    (or_false _ _ (number_float kv.modified)
-    (or_false _ _ (number_float kv.version)
-    (or_false _ _ (bytes_float kv.value)
-    (or_false _ _ (number_float kv.lease) refl)))))
+    or_none _ _ (bytes_float kv.key)
+    (or_none _ _ (number_float kv.create)
+    (or_none _ _ (number_float kv.modified)
+    (or_none _ _ (number_float kv.version)
+    (or_none _ _ (bytes_float kv.value)
+    (or_none _ _ (number_float kv.lease) refl)))))
 
 record_float : (kv : Kv) → has_float (record_value kv) ≡ false
 record_float kv = members_float (record_written kv) (record_fields_float kv)
@@ -52,19 +52,19 @@ prev_float (Some kv) = record_float kv
 
 range_float : (count : ℕ) (more : Bool) (kvs : List Kv) → fields_float (range_fields_of count more kvs) ≡ false
 unfolding range_fields_of
-range_float count more kvs = or_false _ _ (records_float kvs) (or_false _ _ (flag_float more) (or_false _ _ (number_float count) refl))
+range_float count more kvs = or_none _ _ (records_float kvs) (or_none _ _ (flag_float more) (or_none _ _ (number_float count) refl))
 
 put_fields_float : (prev : Option Kv) → fields_float (put_fields_of prev) ≡ false
 unfolding put_fields_of
-put_fields_float prev = or_false _ _ (prev_float prev) refl
+put_fields_float prev = or_none _ _ (prev_float prev) refl
 
 delete_float : (deleted : ℕ) (prevs : List Kv) → fields_float (delete_fields_of deleted prevs) ≡ false
 unfolding delete_fields_of
-delete_float deleted prevs = or_false _ _ (number_float deleted) (or_false _ _ (records_float prevs) refl)
+delete_float deleted prevs = or_none _ _ (number_float deleted) (or_none _ _ (records_float prevs) refl)
 
 lease_float : (lease ttl : ℕ) → fields_float (lease_fields_of lease ttl) ≡ false
 unfolding lease_fields_of
-lease_float lease ttl = or_false _ _ (number_float lease) (or_false _ _ (number_float ttl) refl)
+lease_float lease ttl = or_none _ _ (number_float lease) (or_none _ _ (number_float ttl) refl)
 
 key_float : (key : List ℕ) → has_float (text_of key) ≡ false
 key_float key = refl
@@ -72,25 +72,25 @@ key_float key = refl
 time_to_live_float : (lease : ℕ) (ttl : ℤ) (granted : ℕ) (keys : List (List ℕ)) → fields_float (time_to_live_fields_of lease ttl granted keys) ≡ false
 unfolding time_to_live_fields_of
 time_to_live_float lease ttl granted keys =
-    or_false _ _ (number_float lease)
-    (or_false _ _ (signed_float ttl)
-    (or_false _ _ (number_float granted)
-    (or_false _ _ (list_float (items_of text_of keys) (items_float text_of keys key_float)) refl)))
+    or_none _ _ (number_float lease)
+    (or_none _ _ (signed_float ttl)
+    (or_none _ _ (number_float granted)
+    (or_none _ _ (list_float (items_of text_of keys) (items_float text_of keys key_float)) refl)))
 
 lease_value_float : (lease : ℕ) → has_float (lease_value lease) ≡ false
-lease_value_float lease = members_float (field names.ID (number_value lease) ∷ []) (or_false _ _ (number_float lease) refl)
+lease_value_float lease = members_float (field names.ID (number_value lease) ∷ []) (or_none _ _ (number_float lease) refl)
 
 leases_float : (leases : List ℕ) → fields_float (leases_fields_of leases) ≡ false
 unfolding leases_fields_of
-leases_float leases = or_false _ _ (list_float (items_of lease_value leases) (items_float lease_value leases lease_value_float)) refl
+leases_float leases = or_none _ _ (list_float (items_of lease_value leases) (items_float lease_value leases lease_value_float)) refl
 
 txn_float : (succeeded : Bool) (responses : Items) → items_have_float responses ≡ false → fields_float (txn_fields_of succeeded responses) ≡ false
 unfolding txn_fields_of
-txn_float succeeded responses e = or_false _ _ (flag_float succeeded) (or_false _ _ (list_float responses e) refl)
+txn_float succeeded responses e = or_none _ _ (flag_float succeeded) (or_none _ _ (list_float responses e) refl)
 
 within_float : (name : names.FieldName) (fs : List Field) → fields_float fs ≡ false → has_float (response_written name fs) ≡ false
 unfolding response_written
-within_float name fs e = or_false _ _ (members_float fs e) refl
+within_float name fs e = or_none _ _ (members_float fs e) refl
 
 mutual
   response_float : (b : Body) → has_float (response_value b) ≡ false
@@ -107,7 +107,7 @@ mutual
 
   rows_float : {m : _} (row : Row_of-Body m) → items_have_float (row_responses row) ≡ false
   rows_float end_of-Body = refl
-  rows_float (more_of-Body first rest) = or_false _ _ (response_float first) (rows_float rest)
+  rows_float (more_of-Body first rest) = or_none _ _ (response_float first) (rows_float rest)
 
 body_float : (b : Body) → fields_float (body_fields b) ≡ false
 body_float (Range count more kvs) = range_float count more kvs
@@ -122,7 +122,7 @@ body_float (TimeToLive lease ttl granted keys) = time_to_live_float lease ttl gr
 body_float (Leases leases) = leases_float leases
 
 pub reply_no_float : (r : Reply) → members_have_float (members_of (header_field r.header ∷ body_fields r.body)) ≡ false
-reply_no_float r = members_float (header_field r.header ∷ body_fields r.body) (or_false _ _ (header_field_float r.header) (body_float r.body))
+reply_no_float r = members_float (header_field r.header ∷ body_fields r.body) (or_none _ _ (header_field_float r.header) (body_float r.body))
 
 pub refusal_no_float : (r : Refusal) → members_have_float (members_of (refusal_written r)) ≡ false
 unfolding refusal_written
@@ -132,18 +132,18 @@ refusal_no_float r = members_float (refusal_written r) refl
 
 event_fields_float : (c : Change) (prev : Option Kv) → fields_float (event_written c prev) ≡ false
 unfolding put_event_written delete_event_written deleted_written
-event_fields_float (change.Put kv) prev = or_false _ _ (record_float kv) (or_false _ _ (prev_float prev) refl)
+event_fields_float (change.Put kv) prev = or_none _ _ (record_float kv) (or_none _ _ (prev_float prev) refl)
 event_fields_float (change.Delete key modified) prev =
-    or_false _ _ (members_float (deleted_written key modified) (or_false _ _ (bytes_float key) (or_false _ _ (number_float modified) refl))) (or_false _ _ (prev_float prev) refl)
+    or_none _ _ (members_float (deleted_written key modified) (or_none _ _ (bytes_float key) (or_none _ _ (number_float modified) refl))) (or_none _ _ (prev_float prev) refl)
 
 event_float : (e : Event) → has_float (event_value e) ≡ false
 event_float e = members_float (event_written e.change e.prev) (event_fields_float e.change e.prev)
 
 item_float : (i : WatchItem) → fields_float (item_written i) ≡ false
 unfolding created_written events_written canceled_written
-item_float (Created h) = or_false _ _ (header_field_float h) refl
-item_float (Events h events) = or_false _ _ (header_field_float h) (or_false _ _ (list_float (items_of event_value events) (items_float event_value events event_float)) refl)
-item_float (Canceled h compact) = or_false _ _ (header_field_float h) (or_false _ _ (number_float compact) refl)
+item_float (Created h) = or_none _ _ (header_field_float h) refl
+item_float (Events h events) = or_none _ _ (header_field_float h) (or_none _ _ (list_float (items_of event_value events) (items_float event_value events event_float)) refl)
+item_float (Canceled h compact) = or_none _ _ (header_field_float h) (or_none _ _ (number_float compact) refl)
 
 pub item_no_float : (i : WatchItem) → members_have_float (members_of (item_written i)) ≡ false
 item_no_float i = members_float (item_written i) (item_float i)
@@ -151,4 +151,4 @@ item_no_float i = members_float (item_written i) (item_float i)
 -- ---- an object within another
 
 pub within_no_float : (name : List ℕ) (ms : Members) → members_have_float ms ≡ false → members_have_float (with_field name (Some (object ms)) no_members) ≡ false
-within_no_float name ms e = or_false _ _ e refl
+within_no_float name ms e = or_none _ _ e refl

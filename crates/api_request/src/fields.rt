@@ -3,7 +3,6 @@ ghost use Rattle.std.specs.Prelude.{◌≡◌, IfOk, OnOk};
 ghost use Rattle.serde_json.specs.View.{items_view, members_view};
 ghost use Rattle.json_model.specs.Written.{with_fields, members_of};
 ghost use Rattle.json_model.specs.WrittenRequests as spec;
-ghost use Rattle.api_request.specs.RangeParts as parts;
 
 use etcd_types::{DeleteAsk, NoMemory, PutAsk, RangeAsk, WatchAsk};
 use json_fields::{put_bytes, put_choice, put_flag, put_list, put_number, put_object};
@@ -13,7 +12,7 @@ use std::alloc::Global;
 
 /// The range, the limit and the revision.
 fn put_place(alloc: Global, fields: &mut Map<String, Value>, ask: &RangeAsk) -> Result<(), NoMemory>
-    ensures { OnOk result (members_view fields.new.entries ≡ with_fields (members_view fields.old.entries) (parts.place_written ask.now)) }
+    ensures { OnOk result (members_view fields.new.entries ≡ with_fields (members_view fields.old.entries) (spec.place_written ask.now)) }
 {
     put_bytes(alloc, fields, "key", &ask.range.key)?;
     put_bytes(alloc, fields, "range_end", &ask.range.end)?;
@@ -24,7 +23,7 @@ fn put_place(alloc: Global, fields: &mut Map<String, Value>, ask: &RangeAsk) -> 
 
 /// The order and the target of sorting.
 fn put_sort(alloc: Global, fields: &mut Map<String, Value>, ask: &RangeAsk) -> Result<(), NoMemory>
-    ensures { OnOk result (members_view fields.new.entries ≡ with_fields (members_view fields.old.entries) (parts.sort_written ask.now)) }
+    ensures { OnOk result (members_view fields.new.entries ≡ with_fields (members_view fields.old.entries) (spec.sort_written ask.now)) }
 {
     put_choice(alloc, fields, "sort_order", SORT_ORDERS, ask.sort.order)?;
     put_choice(alloc, fields, "sort_target", SORT_TARGETS, ask.sort.target)?;
@@ -37,7 +36,7 @@ fn put_range_flags(
     fields: &mut Map<String, Value>,
     ask: &RangeAsk,
 ) -> Result<(), NoMemory>
-    ensures { OnOk result (members_view fields.new.entries ≡ with_fields (members_view fields.old.entries) (parts.flags_written ask.now)) }
+    ensures { OnOk result (members_view fields.new.entries ≡ with_fields (members_view fields.old.entries) (spec.flags_written ask.now)) }
 {
     put_flag(alloc, fields, "serializable", ask.serializable)?;
     put_flag(alloc, fields, "keys_only", ask.keys_only)?;
@@ -51,7 +50,7 @@ fn put_bounds(
     fields: &mut Map<String, Value>,
     ask: &RangeAsk,
 ) -> Result<(), NoMemory>
-    ensures { OnOk result (members_view fields.new.entries ≡ with_fields (members_view fields.old.entries) (parts.bounds_written ask.now)) }
+    ensures { OnOk result (members_view fields.new.entries ≡ with_fields (members_view fields.old.entries) (spec.bounds_written ask.now)) }
 {
     put_number(alloc, fields, "min_mod_revision", ask.sort.min_mod)?;
     put_number(alloc, fields, "max_mod_revision", ask.sort.max_mod)?;

@@ -6,8 +6,6 @@ pub mod TextLemmas
 pub mod WrittenObjects
 pub mod WrittenValues
 pub mod Base64Forms
-pub mod RequestsBack
 pub mod WrittenTexts
 pub mod NoFloats
 pub mod ItemsSoFar
-pub mod Depths

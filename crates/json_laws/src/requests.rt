@@ -1,6 +1,4 @@
-//! A law of the JSON mapping: what is written for a request is read back as the same request.
-#![tactic(auto)]
-
+//! Of requests.
 ghost use Rattle.std.specs.Prelude.{◌≡◌, Ok};
 ghost use Rattle.etcd_types.specs.declared.request.Request.{Request};
 ghost use Rattle.json_model.specs.declared.extra.Reading.TheVariants.{Client, Call};

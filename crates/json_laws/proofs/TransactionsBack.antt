@@ -1,10 +1,7 @@
 -- A transaction is read back as it is written, with those within it.
-use Rattle.std.proofs.Common.{◌≡◌, ℕ, zero, suc, ◌≤◌, max, nat_cmp, List, [], ◌∷◌, Some, Result, Ok, Ordering, Less, Equal, Greater, refl, sym, ap, ◌∙◌, arith}
+use Rattle.std.proofs.Common.{◌≡◌, ℕ, zero, suc, ◌≤◌, List, [], ◌∷◌, Some, Result, Ok, refl, sym, ap, ◌∙◌, arith}
 use Rattle.std.specs.List.{AllByRecursion}
-use Rattle.std.specs.Ordering.{match_ordering}
-use Rattle.std.specs.Cmp.Lexicographic.{slice_cmp}
-use Rattle.serde_json.specs.Data.{Data, array, Items, no_items, item, Members, no_members, member, depth, items_depth, members_depth}
-use Rattle.serde_json.specs.Find.{get_member}
+use Rattle.serde_json.specs.Data.{Items, Members, depth, items_depth, members_depth}
 use Rattle.etcd_types.specs.declared.operation.RangeAsk.{RangeAsk}
 use Rattle.etcd_types.specs.declared.operation.PutAsk.{PutAsk}
 use Rattle.etcd_types.specs.declared.operation.DeleteAsk.{DeleteAsk}
@@ -17,40 +14,18 @@ use Rattle.json_model.specs.declared.fault.FieldFault.{FieldFault}
 use Rattle.json_model.specs.FieldNames as names
 use Rattle.json_model.specs.Tables.{txn_fields, operation_fields}
 use Rattle.json_model.specs.Fields.{each}
-use Rattle.json_model.specs.Written.{Field, members_of, object_of, list_value, items_of}
+use Rattle.json_model.specs.Written.{Field, members_of, object_of, items_of}
 use Rattle.json_model.specs.WrittenRequests.{range_written, put_written, delete_written, compare_value, lists_written, operation_written, operation_value, row_values, txn_written}
 use Rattle.json_model.specs.Compares.{compare_in}
 use Rattle.json_model.specs.Transactions.{operation_by, txn_by, txn_in}
 use Rattle.json_model.specs.Fits.{RangeFits, PutFits, DeleteFits, CompareFits, OperationFits, RowFits, TxnFits}
 use Rattle.json_model.proofs.WrittenObjects.{one_name, get_written, only_written}
 use Rattle.json_model.proofs.WrittenValues.{each_back, list_back}
-use Rattle.json_model.proofs.RequestsBack.{range_back, put_back, delete_back}
-use Rattle.request_laws.proofs.ComparesBack.{compare_back}
+use Rattle.json_laws.proofs.RequestsBack.{range_back, put_back, delete_back}
+use Rattle.json_laws.proofs.Depths.{left_of, right_of, list_depth}
+use Rattle.json_laws.proofs.ComparesBack.{compare_back}
 
 -- ---- how deep
-
-left_of : (a b n : ℕ) → max a b ≤ n → a ≤ n
-left_of a b n h = omega arith
-
-right_of : (a b n : ℕ) → max a b ≤ n → b ≤ n
-right_of a b n h = omega arith
-
--- what stands under a name nests no deeper than the members
-found_depth : (o : Ordering) (q : List ℕ) (d x : Data) (ms : Members) → match_ordering o (get_member q ms) (Some d) (get_member q ms) ≡ Some x → ((y : Data) → get_member q ms ≡ Some y → depth y ≤ members_depth ms) → depth x ≤ max (depth d) (members_depth ms)
-found_depth Less q d x ms e h = let deep : depth x ≤ members_depth ms = h x e in omega arith
-found_depth Equal q d x ms e h = let same : d ≡ x = cc in let deep : depth d ≡ depth x = ap depth same in omega arith
-found_depth Greater q d x ms e h = let deep : depth x ≤ members_depth ms = h x e in omega arith
-
-member_depth : (q : List ℕ) (ms : Members) (x : Data) → get_member q ms ≡ Some x → depth x ≤ members_depth ms
-member_depth q no_members x e = absurd (cc)
-member_depth q (member k d ms) x e = found_depth (slice_cmp nat_cmp q k) q d x ms e (λ y f. member_depth q ms y f)
-
--- a list of a transaction nests no deeper than the transaction
-list_depth : (q : List ℕ) (fs : List Field) (ds : Items) (n : ℕ) → get_member q (members_of fs) ≡ list_value ds → members_depth (members_of fs) ≤ n → items_depth ds ≤ n
-list_depth q fs no_items n e h = omega arith
-list_depth q fs (item d ds) n e h =
-    let within : depth (array (item d ds)) ≤ members_depth (members_of fs) = member_depth q (members_of fs) (array (item d ds)) e in
-    omega arith
 
 success_depth : (compare success failure : Items) (n : ℕ) → members_depth (members_of (lists_written compare success failure)) ≤ n → items_depth success ≤ n
 unfolding lists_written

@@ -1,6 +1,6 @@
-use Rattle.reply_laws.proofs.AnswersBack.{answer_back}
-use Rattle.reply_laws.proofs.ItemsBack.{item_back}
-use Rattle.reply_laws.proofs.what_is_written_is_read_back.Goals as goal
+use Rattle.json_laws.proofs.AnswersBack.{answer_back}
+use Rattle.json_laws.proofs.ItemsBack.{item_back}
+use Rattle.json_laws.proofs.replies.what_is_written_is_read_back.Goals as goal
 
 pub returns-clause-answers : goal.returns-clause-answers
 returns-clause-answers c = answer_back

@@ -1,10 +1,7 @@
 -- A transaction's reply is read back as it is written, with those within it.
-use Rattle.std.proofs.Common.{◌≡◌, ℕ, zero, suc, ◌≤◌, max, nat_cmp, Bool, true, List, [], ◌∷◌, Option, Some, None, Result, Ok, Ordering, Less, Equal, Greater, refl, sym, ap, ◌∙◌, arith}
+use Rattle.std.proofs.Common.{◌≡◌, ℕ, zero, suc, ◌≤◌, Bool, true, List, [], ◌∷◌, Option, Some, None, Result, Ok, refl, sym, ap, ◌∙◌, arith}
 use Rattle.std.specs.List.{AllByRecursion}
-use Rattle.std.specs.Ordering.{match_ordering}
-use Rattle.std.specs.Cmp.Lexicographic.{slice_cmp}
-use Rattle.serde_json.specs.Data.{Data, array, Items, no_items, item, Members, no_members, member, depth, items_depth, members_depth}
-use Rattle.serde_json.specs.Find.{get_member}
+use Rattle.serde_json.specs.Data.{Items, Members, no_members, depth, items_depth, members_depth}
 use Rattle.etcd_types.specs.declared.record.Header.{Header}
 use Rattle.etcd_types.specs.declared.record.Kv.{Kv}
 use Rattle.etcd_types.specs.declared.answer.Body.{Body, Row_of-Body, end_of-Body, more_of-Body, roll-Body, roll-out-Body, items-the_row-Body, items_shown-the_row-Body-0}
@@ -22,32 +19,10 @@ use Rattle.json_model.specs.Fits.{IsNumber}
 use Rattle.json_model.specs.FitReplies.{RecordFits, PrevFits, ResponseFits, ResponsesFit}
 use Rattle.json_model.proofs.WrittenObjects.{lookup, distinct, one_name, two_names, get_written, once_written}
 use Rattle.json_model.proofs.WrittenValues.{Found, flag_back, no_child, list_back}
-use Rattle.reply_laws.proofs.RepliesBack.{range_body_back, put_body_back, delete_body_back}
+use Rattle.json_laws.proofs.Depths.{left_of, right_of, list_depth}
+use Rattle.json_laws.proofs.RepliesBack.{range_body_back, put_body_back, delete_body_back}
 
 -- ---- how deep
-
-left_of : (a b n : ℕ) → max a b ≤ n → a ≤ n
-left_of a b n h = omega arith
-
-right_of : (a b n : ℕ) → max a b ≤ n → b ≤ n
-right_of a b n h = omega arith
-
--- what stands under a name nests no deeper than the members
-found_depth : (o : Ordering) (q : List ℕ) (d x : Data) (ms : Members) → match_ordering o (get_member q ms) (Some d) (get_member q ms) ≡ Some x → ((y : Data) → get_member q ms ≡ Some y → depth y ≤ members_depth ms) → depth x ≤ max (depth d) (members_depth ms)
-found_depth Less q d x ms e h = let deep : depth x ≤ members_depth ms = h x e in omega arith
-found_depth Equal q d x ms e h = let same : d ≡ x = cc in let deep : depth d ≡ depth x = ap depth same in omega arith
-found_depth Greater q d x ms e h = let deep : depth x ≤ members_depth ms = h x e in omega arith
-
-member_depth : (q : List ℕ) (ms : Members) (x : Data) → get_member q ms ≡ Some x → depth x ≤ members_depth ms
-member_depth q no_members x e = absurd (cc)
-member_depth q (member k d ms) x e = found_depth (slice_cmp nat_cmp q k) q d x ms e (λ y f. member_depth q ms y f)
-
--- a list nests no deeper than the object that has it
-list_depth : (q : List ℕ) (fs : List Field) (ds : Items) (n : ℕ) → get_member q (members_of fs) ≡ list_value ds → members_depth (members_of fs) ≤ n → items_depth ds ≤ n
-list_depth q fs no_items n e h = omega arith
-list_depth q fs (item d ds) n e h =
-    let within : depth (array (item d ds)) ≤ members_depth (members_of fs) = member_depth q (members_of fs) (array (item d ds)) e in
-    omega arith
 
 responses_depth : (fs : List Field) (responses : Items) (n : ℕ) → distinct fs ≡ true → lookup names.responses.0 fs ≡ list_value responses → members_depth (members_of fs) ≤ n → items_depth responses ≤ n
 responses_depth fs responses n e is h = list_depth names.responses.0 fs responses n (get_written names.responses.0 fs e ∙ is) h

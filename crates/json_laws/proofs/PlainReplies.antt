@@ -1,15 +1,11 @@
 -- What is written for answers and for messages of watches is plain: no fraction, and texts in UTF-8.
-use Rattle.std.proofs.Common.{◌≡◌, ℕ, zero, suc, ◌<◌, ◌^◌, ℤ, pos, negsuc, Bool, true, false, List, [], ◌∷◌, Option, Some, None, decimal, refl, subst, sym, arith}
-use Rattle.std.specs.Prelude.{⊤, IsUtf8, codes}
-use Rattle.std.specs.List.{list_all, AllByRecursion}
-use Rattle.std.proofs.lemmas.Bool.{and_parts}
-use Rattle.std.proofs.lemmas.Fmt.{IsAscii-decimal}
-use Rattle.std.proofs.lemmas.Str.{IsUtf8-from_ascii, IsUtf8-append, utf8_lossy-IsUtf8}
-use Rattle.json.proofs.Printed.Utf8.{are_ascii, IsUtf8-are_ascii}
-use Rattle.base64.specs.Engines.{standard}
-use Rattle.base64.specs.GeneralPurpose.{encode_of, IsBytes}
-use Rattle.base64.proofs.EngineFacts.{IsAscii-encode_of}
-use Rattle.serde_json.specs.Data.{Data, object, Items, no_items, item, Members}
+use Rattle.std.proofs.Common.{ℕ, ◌<◌, ◌^◌, ℤ, Bool, List, [], ◌∷◌, Option, Some, None, refl, subst, sym, arith}
+use Rattle.std.specs.Prelude.{IsUtf8, codes}
+use Rattle.std.specs.List.{AllByRecursion}
+use Rattle.std.proofs.lemmas.Str.{utf8_lossy-IsUtf8}
+use Rattle.json.proofs.Printed.Utf8.{IsUtf8-are_ascii}
+use Rattle.base64.specs.GeneralPurpose.{IsBytes}
+use Rattle.serde_json.specs.Data.{object, Items, Members}
 use Rattle.etcd_types.specs.declared.record.Header.{Header}
 use Rattle.etcd_types.specs.declared.record.Kv.{Kv}
 use Rattle.etcd_types.specs.declared.answer.Body.{Body, Row_of-Body, end_of-Body, more_of-Body}
@@ -22,62 +18,14 @@ use Rattle.etcd_types.specs.declared.watch.WatchItem.{WatchItem}
 use Rattle.etcd_types.specs.declared.watch.WatchItem.TheVariants.{Created, Events, Canceled}
 use Rattle.json_model.specs.FieldNames as names
 use Rattle.json_model.specs.Fits.{IsNumber}
-use Rattle.json_model.specs.FitReplies.{IsSigned, HeaderFits, RecordFits, PrevFits, ResponseFits, ResponsesFit, BodyFits, RefusalFits, ChangeFits, EventFits, MessageFits}
-use Rattle.json_model.specs.Written.{Field, field, number_value, signed_value, bytes_value, flag_value, list_value, text_of, members_of, object_of, items_of}
+use Rattle.json_model.specs.FitReplies.{IsSigned, HeaderFits, RecordFits, PrevFits, ResponseFits, ResponsesFit, BodyFits, RefusalFits, ChangeFits, EventFits, ItemFits}
+use Rattle.json_model.specs.Written.{Field, field, number_value, list_value, text_of, members_of, object_of, items_of}
 use Rattle.json_model.specs.WrittenReplies.{header_written, header_field, record_written, record_value, prev_value, range_fields_of, put_fields_of, delete_fields_of, lease_fields_of, time_to_live_fields_of, lease_value, leases_fields_of, txn_fields_of, response_written, response_value, row_responses, body_fields, refusal_written, put_event_written, deleted_written, delete_event_written, event_written, event_value, created_written, events_written, canceled_written, item_written}
 use Rattle.json_model.proofs.WrittenTexts.{IsPlain, ArePlain, HasPlain, IsPlainField, ArePlainFields, plain_members}
-
--- ---- the kinds
-
-wide : (n : ℕ) → n < 2 ^ 63 → n < 2 ^ 64
-wide n h = omega arith
-
-wide_suc : (n : ℕ) → n < 2 ^ 63 → suc n < 2 ^ 64
-wide_suc n h = omega arith
+use Rattle.json_laws.proofs.PlainValues.{plain_wide, plain_number, plain_signed, plain_text, plain_bytes, plain_flag, plain_list, plain_items, plain_by}
 
 wide_code : (n : ℕ) → n < 2 ^ 32 → n < 2 ^ 64
 wide_code n h = omega arith
-
-plain_wide : (n : ℕ) → n < 2 ^ 64 → IsPlainField (number_value n)
-plain_wide zero h = tt
-plain_wide (suc n) h = IsUtf8-from_ascii (decimal (suc n)) (IsAscii-decimal (suc n) h)
-
-plain_number : (n : ℕ) → IsNumber n → IsPlainField (number_value n)
-plain_number n h = plain_wide n (wide n h)
-
-plain_signed : (z : ℤ) → IsSigned z → IsPlainField (signed_value z)
-plain_signed (pos zero) h = tt
-plain_signed (pos (suc n)) h = IsUtf8-from_ascii (decimal (suc n)) (IsAscii-decimal (suc n) (wide (suc n) h))
-plain_signed (negsuc n) h = IsUtf8-append (45 ∷ []) (decimal (suc n)) (IsUtf8-are_ascii (45 ∷ []) refl) (IsUtf8-from_ascii (decimal (suc n)) (IsAscii-decimal (suc n) (wide_suc n h)))
-
-plain_text : (b : List ℕ) → IsUtf8 (encode_of standard b)
-plain_text b = IsUtf8-from_ascii (encode_of standard b) (IsAscii-encode_of standard b)
-
-plain_bytes : (b : List ℕ) → IsPlainField (bytes_value b)
-plain_bytes [] = tt
-plain_bytes (x ∷ b) = plain_text (x ∷ b)
-
-plain_flag : (b : Bool) → IsPlainField (flag_value b)
-plain_flag true = tt
-plain_flag false = tt
-
-plain_list : (ds : Items) → ArePlain ds → IsPlainField (list_value ds)
-plain_list no_items h = tt
-plain_list (item d ds) h = h
-
-plain_items : {A : Type 0} (P : A → Type 0) (write : A → Data) → ((x : A) → P x → IsPlain (write x)) → (xs : List A) → AllByRecursion P xs → ArePlain (items_of write xs)
-plain_items P write one [] h = tt
-plain_items P write one (x ∷ xs) h = (one x h.0, plain_items P write one xs h.1)
-
--- ---- objects by their fields
-
-abbrev ArePlainValues : List Field → Type 0
-ArePlainValues [] = ⊤
-ArePlainValues (f ∷ fs) = IsPlainField f.1 × ArePlainValues fs
-
-plain_by : (fs : List Field) → list_all (λ f. are_ascii f.0) fs ≡ true → ArePlainValues fs → ArePlainFields fs
-plain_by [] e h = tt
-plain_by (f ∷ fs) e h = let p = and_parts (are_ascii f.0) _ e in (IsUtf8-are_ascii f.0 p.0, h.0, plain_by fs p.1 h.1)
 
 -- ---- replies
 
@@ -209,7 +157,7 @@ plain_event (change.Delete key modified) prev f g = plain_delete_event key modif
 plain_event_value : (e : Event) → EventFits e → IsPlain (event_value e)
 plain_event_value e f = plain_members (event_written e.change e.prev) (plain_event e.change e.prev f.change f.prev)
 
-plain_message : (i : WatchItem) → MessageFits i → ArePlainFields (item_written i)
+plain_message : (i : WatchItem) → ItemFits i → ArePlainFields (item_written i)
 unfolding created_written events_written canceled_written
 plain_message (Created h) f = plain_by (created_written h) refl (plain_header_field h f, (tt, tt))
 plain_message (Events h events) f =
@@ -219,7 +167,7 @@ plain_message (Events h events) f =
     )
 plain_message (Canceled h compact) f = plain_by (canceled_written h compact) refl (plain_header_field h f.0, (tt, (plain_number compact f.1, tt)))
 
-pub plain_item : (i : WatchItem) → MessageFits i → HasPlain (members_of (item_written i))
+pub plain_item : (i : WatchItem) → ItemFits i → HasPlain (members_of (item_written i))
 plain_item i f = plain_members (item_written i) (plain_message i f)
 
 -- ---- an object in `result`

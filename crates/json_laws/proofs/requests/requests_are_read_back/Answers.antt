@@ -1,7 +1,7 @@
 use Rattle.json_model.specs.declared.extra.Reading.TheVariants.{Client, Call}
-use Rattle.request_laws.proofs.RequestBack.{request_back}
-use Rattle.request_laws.proofs.ServedLemmas.{store_serves}
-use Rattle.request_laws.proofs.requests_are_read_back.Goals as goal
+use Rattle.json_laws.proofs.RequestBack.{request_back}
+use Rattle.json_laws.proofs.ServedLemmas.{store_serves}
+use Rattle.json_laws.proofs.requests.requests_are_read_back.Goals as goal
 
 pub returns-clause-by_a_store : goal.returns-clause-by_a_store
 returns-clause-by_a_store c = λ request fits. request_back Call request fits (store_serves request)

@@ -1,6 +1,6 @@
 -- The text that is written for an answer is read back as the answer.
 use Rattle.std.proofs.Common.{◌≡◌, ℕ, ◌<◌, ◌≤◌, ◌^◌, ◌==◌, ◌||◌, Bool, true, false, cond, not, nat_lt, List, [], ◌∷◌, Some, Result, Ok, Err, refl, ap, ◌∙◌, arith}
-use Rattle.std.proofs.lemmas.Bool.{lt-ltb}
+use Rattle.std.proofs.lemmas.Bool.{cond-true, cond-false, lt-ltb}
 use Rattle.std.proofs.lemmas.Bool.Decides.{nat_tests}
 use Rattle.std.proofs.lemmas.Str.{utf8_lossy-IsUtf8}
 use Rattle.serde_json.specs.Data.{object, Members, depth, members_depth}
@@ -15,6 +15,7 @@ use Rattle.etcd_types.specs.declared.answer.Reply.{Reply}
 use Rattle.etcd_types.specs.declared.answer.Refusal.{Refusal}
 use Rattle.etcd_types.specs.declared.answer.Answer.{Answer}
 use Rattle.etcd_types.specs.declared.answer.Answer.TheVariants.{Done, Refused}
+use Rattle.etcd_types.proofs.Bools.{or_none}
 use Rattle.json_model.specs.declared.path.Path.{Path}
 use Rattle.json_model.specs.declared.path.Path.TheVariants as path
 use Rattle.json_model.specs.declared.fault.FieldFault.{FieldFault}
@@ -26,16 +27,16 @@ use Rattle.json_model.specs.Numbers.{below}
 use Rattle.json_model.specs.Texts.{line_object, object_of}
 use Rattle.json_model.specs.Written.{field, members_of}
 use Rattle.json_model.specs.WrittenRequests.{request_path}
-use Rattle.json_model.specs.WrittenReplies.{header_field, range_fields_of, put_fields_of, delete_fields_of, lease_fields_of, time_to_live_fields_of, leases_fields_of, txn_fields_of, row_responses, body_fields, result_text, is_keep_alive, reply_text, refusal_written, status_of, answer_status, answer_text}
+use Rattle.json_model.specs.WrittenReplies.{header_field, range_fields_of, put_fields_of, delete_fields_of, lease_fields_of, time_to_live_fields_of, leases_fields_of, txn_fields_of, row_responses, body_fields, in_result, result_text, is_keep_alive, reply_text, refusal_written, status_of, answer_status, answer_text}
 use Rattle.json_model.specs.Replies.{header_in, range_body, put_body, delete_body, txn_body, grant_body, keep_alive_body, time_to_live_body, leases_body}
 use Rattle.json_model.specs.Answers.{code_of, refusal_in, result_in, body_in, reply_members, reply_in, answer_of}
-use Rattle.json_model.specs.FitReplies.{BodyFits, reply_path, in_result, ReplyFits, RefusalFits, AnswerFits}
-use Rattle.json_model.proofs.WrittenObjects.{or_false, distinct, one_name, two_names, once_written}
+use Rattle.json_model.specs.FitReplies.{BodyFits, reply_path, ReplyFits, RefusalFits, AnswerFits}
+use Rattle.json_model.proofs.WrittenObjects.{distinct, one_name, two_names, once_written}
 use Rattle.json_model.proofs.WrittenTexts.{HasPlain, object_back}
-use Rattle.reply_laws.proofs.LineTexts.{without_feed, object_line}
-use Rattle.reply_laws.proofs.PlainReplies.{plain_reply, plain_refusal, plain_result}
-use Rattle.reply_laws.proofs.RepliesBack.{header_found, range_body_back, put_body_back, delete_body_back, lease_numbers_back, time_to_live_body_back, leases_body_back}
-use Rattle.reply_laws.proofs.ResponsesBack.{txn_body_back}
+use Rattle.json_laws.proofs.LineTexts.{without_feed, object_line}
+use Rattle.json_laws.proofs.PlainReplies.{plain_reply, plain_refusal, plain_result}
+use Rattle.json_laws.proofs.RepliesBack.{header_found, range_body_back, put_body_back, delete_body_back, lease_numbers_back, time_to_live_body_back, leases_body_back}
+use Rattle.json_laws.proofs.ResponsesBack.{txn_body_back}
 
 -- ---- lines
 
@@ -171,14 +172,6 @@ done_back r reply f =
 
 -- ---- refusals
 
-where_true : {A : Type 0} (b : Bool) (x y : A) → b ≡ true → cond b x y ≡ x
-where_true true x y e = refl
-where_true false x y e = absurd (cc)
-
-where_false : {A : Type 0} (b : Bool) (x y : A) → b ≡ false → cond b x y ≡ y
-where_false true x y e = absurd (cc)
-where_false false x y e = refl
-
 other : (b : Bool) (x y : ℕ) → (x == 200) ≡ false → (y == 200) ≡ false → (cond b x y == 200) ≡ false
 other true x y e f = e
 other false x y e f = f
@@ -211,16 +204,16 @@ wide_code : (n : ℕ) → n < 2 ^ 32 → n < 2 ^ 63
 wide_code n h = omega arith
 
 code_within : (n : ℕ) → n < 2 ^ 32 → below (2 ^ 63) n ≡ Some n
-code_within n h = where_true _ _ _ (lt-ltb n (2 ^ 63) (wide_code n h))
+code_within n h = cond-true _ _ _ (lt-ltb n (2 ^ 63) (wide_code n h))
 
 not_zero : (n : ℕ) → 0 < n → (n == 0) ≡ false
 not_zero n h = grind (arith, nat_tests)
 
 code_tests : (n : ℕ) → 0 < n → n < 2 ^ 32 → (n == 0 || not (nat_lt n (2 ^ 32))) ≡ false
-code_tests n some h = or_false (n == 0) (not (nat_lt n (2 ^ 32))) (not_zero n some) (ap not (lt-ltb n (2 ^ 32) h))
+code_tests n some h = or_none (n == 0) (not (nat_lt n (2 ^ 32))) (not_zero n some) (ap not (lt-ltb n (2 ^ 32) h))
 
 code_back : (n : ℕ) → 0 < n → n < 2 ^ 32 → code_of n ≡ Ok n
-code_back n some h = where_false _ _ _ (code_tests n some h)
+code_back n some h = cond-false _ _ _ (code_tests n some h)
 
 abbrev refusal_with : ℕ → List ℕ → Refusal
 refusal_with code text = record { code = code; text = text }

@@ -16,11 +16,11 @@ use Rattle.json_model.specs.Transactions.{txn_in}
 use Rattle.json_model.specs.Mapping.{body_members, request_in, request_of}
 use Rattle.json_model.specs.Fits.{TxnFits, ValuesFit, RequestFits, RequestServed}
 use Rattle.json_model.proofs.WrittenTexts.{object_back}
-use Rattle.json_model.proofs.RequestsBack.{range_back, put_back, delete_back, compact_back, grant_back, lease_back, time_to_live_back, leases_back}
-use Rattle.request_laws.proofs.ComparesBack.{watch_back}
-use Rattle.request_laws.proofs.TransactionsBack.{txn_back}
-use Rattle.request_laws.proofs.PlainRequests.{request_plain}
-use Rattle.request_laws.proofs.ServedLemmas.{request_none}
+use Rattle.json_laws.proofs.RequestsBack.{range_back, put_back, delete_back, compact_back, grant_back, lease_back, time_to_live_back, leases_back}
+use Rattle.json_laws.proofs.ComparesBack.{watch_back}
+use Rattle.json_laws.proofs.TransactionsBack.{txn_back}
+use Rattle.json_laws.proofs.PlainRequests.{request_plain}
+use Rattle.json_laws.proofs.ServedLemmas.{request_none}
 
 path_back : (p : Path) → path_of (path_text p) ≡ Ok p
 unfolding path_of

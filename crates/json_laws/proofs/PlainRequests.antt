@@ -1,15 +1,9 @@
 -- What is written for a request whose values fit is a plain value: numbers without fractions, text as UTF-8.
-use Rattle.std.proofs.Common.{◌≡◌, ℕ, zero, suc, ◌<◌, Bool, true, false, List, [], ◌∷◌, codes, decimal, refl, arith}
-use Rattle.std.specs.Prelude.{⊤, IsUtf8}
-use Rattle.std.specs.List.{list_all, AllByRecursion}
-use Rattle.std.proofs.lemmas.Bool.{and_parts}
-use Rattle.std.proofs.lemmas.Fmt.{IsAscii-decimal}
-use Rattle.std.proofs.lemmas.Str.{IsUtf8-from_ascii}
-use Rattle.base64.specs.Engines.{standard}
-use Rattle.base64.specs.GeneralPurpose.{encode_of}
-use Rattle.base64.proofs.EngineFacts.{IsAscii-encode_of}
+use Rattle.std.proofs.Common.{◌≡◌, ℕ, zero, suc, ◌<◌, Bool, true, false, List, codes, refl, arith}
+use Rattle.std.specs.Prelude.{IsUtf8}
+use Rattle.std.specs.List.{AllByRecursion}
 use Rattle.json.proofs.Printed.Utf8.{are_ascii, IsUtf8-are_ascii}
-use Rattle.serde_json.specs.Data.{Items, no_items, item}
+use Rattle.serde_json.specs.Data.{Items, no_items}
 use Rattle.etcd_types.specs.declared.operation.RangeAsk.{RangeAsk}
 use Rattle.etcd_types.specs.declared.operation.PutAsk.{PutAsk}
 use Rattle.etcd_types.specs.declared.operation.DeleteAsk.{DeleteAsk}
@@ -26,28 +20,13 @@ use Rattle.etcd_types.specs.declared.request.Request.{Request}
 use Rattle.etcd_types.specs.declared.request.Request.TheVariants as request
 use Rattle.json_model.specs.FieldNames as names
 use Rattle.json_model.specs.Tables.{sort_orders, sort_targets, relations, targets}
-use Rattle.json_model.specs.Written.{Field, number_value, bytes_value, flag_value, choice_value, list_value, members_of, items_of}
+use Rattle.json_model.specs.Written.{Field, choice_value, members_of, items_of}
 use Rattle.json_model.specs.WrittenRequests.{range_written, put_written, delete_written, relation_number, target_number, operand_written, compare_written, compare_value, lists_written, operation_written, operation_value, row_values, txn_written, name_if, filter_items, create_written, watch_written, compact_written, grant_written, lease_written, time_to_live_written, request_written}
 use Rattle.json_model.specs.Fits.{IsNumber, RangeFits, PutFits, OperandFits, CompareFits, OperationFits, RowFits, TxnFits, WatchFits, ValuesFit}
-use Rattle.json_model.proofs.WrittenTexts.{IsPlain, ArePlain, HasPlain, IsPlainField, ArePlainFields, plain_members}
+use Rattle.json_model.proofs.WrittenTexts.{IsPlain, ArePlain, HasPlain, IsPlainField, plain_members}
+use Rattle.json_laws.proofs.PlainValues.{plain_number, plain_bytes, plain_flag, plain_list, plain_items, plain_by}
 
--- ---- the kinds
-
-number_plain : (n : ℕ) → IsNumber n → IsPlainField (number_value n)
-number_plain zero h = tt
-number_plain (suc n) h = IsUtf8-from_ascii (decimal (suc n)) (IsAscii-decimal (suc n) (omega arith))
-
-bytes_plain : (b : List ℕ) → IsPlainField (bytes_value b)
-bytes_plain [] = tt
-bytes_plain (x ∷ b) = IsUtf8-from_ascii (encode_of standard (x ∷ b)) (IsAscii-encode_of standard (x ∷ b))
-
-flag_plain : (b : Bool) → IsPlainField (flag_value b)
-flag_plain true = tt
-flag_plain false = tt
-
-list_plain : (ds : Items) → ArePlain ds → IsPlainField (list_value ds)
-list_plain no_items h = tt
-list_plain (item d ds) h = h
+-- ---- enums, number by number
 
 order_plain : (n : ℕ) → n < 3 → IsPlainField (choice_value sort_orders n)
 order_plain zero h = tt
@@ -78,38 +57,30 @@ target_plain Lease = IsUtf8-are_ascii (codes "LEASE") refl
 
 -- ---- objects by their fields
 
-abbrev ArePlainValues : List Field → Type 0
-ArePlainValues [] = ⊤
-ArePlainValues (f ∷ fs) = IsPlainField f.1 × ArePlainValues fs
-
-plain_by : (fs : List Field) → list_all (λ f. are_ascii f.0) fs ≡ true → ArePlainValues fs → ArePlainFields fs
-plain_by [] e h = tt
-plain_by (f ∷ fs) e h = let p = and_parts (are_ascii f.0) _ e in (IsUtf8-are_ascii f.0 p.0, h.0, plain_by fs p.1 h.1)
-
 range_plain : (a : RangeAsk) → RangeFits a → HasPlain (members_of (range_written a))
 unfolding range_written
 range_plain a h =
     plain_members (range_written a) (plain_by (range_written a) refl (
-      bytes_plain a.range.key,
+      plain_bytes a.range.key,
       (
-        bytes_plain a.range.end,
+        plain_bytes a.range.end,
         (
-          number_plain a.limit h.limit,
+          plain_number a.limit h.limit,
           (
-            number_plain a.revision h.revision,
+            plain_number a.revision h.revision,
             (
               order_plain a.sort.order h.order,
               (
                 sort_target_plain a.sort.target h.target,
                 (
-                  flag_plain a.serializable,
+                  plain_flag a.serializable,
                   (
-                    flag_plain a.keys_only,
+                    plain_flag a.keys_only,
                     (
-                      flag_plain a.count_only,
+                      plain_flag a.count_only,
                       (
-                        number_plain a.sort.min_mod h.min_mod,
-                        (number_plain a.sort.max_mod h.max_mod, (number_plain a.sort.min_create h.min_create, (number_plain a.sort.max_create h.max_create, tt))),
+                        plain_number a.sort.min_mod h.min_mod,
+                        (plain_number a.sort.max_mod h.max_mod, (plain_number a.sort.min_create h.min_create, (plain_number a.sort.max_create h.max_create, tt))),
                       ),
                     ),
                   ),
@@ -125,18 +96,18 @@ range_plain a h =
 put_plain : (a : PutAsk) → PutFits a → HasPlain (members_of (put_written a))
 unfolding put_written
 put_plain a h =
-    plain_members (put_written a) (plain_by (put_written a) refl (bytes_plain a.key, (bytes_plain a.value, (number_plain a.lease h.lease, (flag_plain a.prev_kv, (flag_plain a.ignore_lease, tt))))))
+    plain_members (put_written a) (plain_by (put_written a) refl (plain_bytes a.key, (plain_bytes a.value, (plain_number a.lease h.lease, (plain_flag a.prev_kv, (plain_flag a.ignore_lease, tt))))))
 
 delete_plain : (a : DeleteAsk) → HasPlain (members_of (delete_written a))
 unfolding delete_written
-delete_plain a = plain_members (delete_written a) (plain_by (delete_written a) refl (bytes_plain a.range.key, (bytes_plain a.range.end, (flag_plain a.prev_kv, tt))))
+delete_plain a = plain_members (delete_written a) (plain_by (delete_written a) refl (plain_bytes a.range.key, (plain_bytes a.range.end, (plain_flag a.prev_kv, tt))))
 
 operand_plain : (t : Target) (n : ℕ) (v : List ℕ) → OperandFits t n v → (are_ascii (operand_written t n v).0 ≡ true) × IsPlainField (operand_written t n v).1
-operand_plain Version n v h = (refl, number_plain n h.0)
-operand_plain Create n v h = (refl, number_plain n h.0)
-operand_plain Modified n v h = (refl, number_plain n h.0)
-operand_plain Value n v h = (refl, bytes_plain v)
-operand_plain Lease n v h = (refl, number_plain n h.0)
+operand_plain Version n v h = (refl, plain_number n h.0)
+operand_plain Create n v h = (refl, plain_number n h.0)
+operand_plain Modified n v h = (refl, plain_number n h.0)
+operand_plain Value n v h = (refl, plain_bytes v)
+operand_plain Lease n v h = (refl, plain_number n h.0)
 
 compare_plain : (c : Compare) → CompareFits c → IsPlain (compare_value c)
 unfolding compare_written
@@ -148,18 +119,17 @@ compare_plain c h =
       (
         IsUtf8-are_ascii names.target.0 refl,
         target_plain c.target,
-        (IsUtf8-are_ascii names.key.0 refl, bytes_plain c.range.key, (IsUtf8-are_ascii (operand_written c.target c.number c.value).0 operand.0, operand.1, (IsUtf8-are_ascii names.range_end.0 refl, bytes_plain c.range.end, tt))),
+        (IsUtf8-are_ascii names.key.0 refl, plain_bytes c.range.key, (IsUtf8-are_ascii (operand_written c.target c.number c.value).0 operand.0, operand.1, (IsUtf8-are_ascii names.range_end.0 refl, plain_bytes c.range.end, tt))),
       ),
     )
 
 compares_plain : (compares : List Compare) → AllByRecursion CompareFits compares → ArePlain (items_of compare_value compares)
-compares_plain [] h = tt
-compares_plain (c ∷ compares) h = (compare_plain c h.0, compares_plain compares h.1)
+compares_plain compares h = plain_items CompareFits compare_value compare_plain compares h
 
 lists_plain : (compares success failure : Items) → ArePlain compares → ArePlain success → ArePlain failure → HasPlain (members_of (lists_written compares success failure))
 unfolding lists_written
 lists_plain compares success failure c s f =
-    plain_members (lists_written compares success failure) (plain_by (lists_written compares success failure) refl (list_plain compares c, (list_plain success s, (list_plain failure f, tt))))
+    plain_members (lists_written compares success failure) (plain_by (lists_written compares success failure) refl (plain_list compares c, (plain_list success s, (plain_list failure f, tt))))
 
 operation_by : (name : names.FieldName) (fs : List Field) → IsUtf8 name.0 → HasPlain (members_of fs) → IsPlain (operation_written name fs)
 unfolding operation_written
@@ -179,8 +149,7 @@ mutual
   row_plain (more_of-Op op rest) h = (operation_plain op h.0, row_plain rest h.1)
 
 operations_plain : (ops : List Op) → AllByRecursion OperationFits ops → ArePlain (items_of operation_value ops)
-operations_plain [] h = tt
-operations_plain (op ∷ ops) h = (operation_plain op h.0, operations_plain ops h.1)
+operations_plain ops h = plain_items OperationFits operation_value operation_plain ops h
 
 txn_plain : (t : TxnAsk) → TxnFits t → HasPlain (members_of (txn_written t))
 txn_plain t h = lists_plain (items_of compare_value t.compare) (items_of operation_value t.success) (items_of operation_value t.failure) (compares_plain t.compare h.0) (operations_plain t.success h.1) (operations_plain t.failure h.2)
@@ -198,8 +167,8 @@ create_plain : (a : WatchAsk) → WatchFits a → HasPlain (members_of (create_w
 unfolding create_written
 create_plain a h =
     plain_members (create_written a) (plain_by (create_written a) refl (
-      bytes_plain a.range.key,
-      (bytes_plain a.range.end, (number_plain a.start h.start, (flag_plain a.progress, (list_plain (filter_items a) (filters_plain a), (flag_plain a.prev_kv, tt))))),
+      plain_bytes a.range.key,
+      (plain_bytes a.range.end, (plain_number a.start h.start, (plain_flag a.progress, (plain_list (filter_items a) (filters_plain a), (plain_flag a.prev_kv, tt))))),
     )
     )
 
@@ -210,20 +179,20 @@ watch_plain a h = (IsUtf8-are_ascii names.create_request.0 refl, create_plain a 
 compact_plain : (revision : ℕ) (physical : Bool) → IsNumber revision → HasPlain (members_of (compact_written revision physical))
 unfolding compact_written
 compact_plain revision physical h =
-    plain_members (compact_written revision physical) (plain_by (compact_written revision physical) refl (number_plain revision h, (flag_plain physical, tt)))
+    plain_members (compact_written revision physical) (plain_by (compact_written revision physical) refl (plain_number revision h, (plain_flag physical, tt)))
 
 grant_plain : (ttl lease : ℕ) → IsNumber ttl → IsNumber lease → HasPlain (members_of (grant_written ttl lease))
 unfolding grant_written
-grant_plain ttl lease h k = plain_members (grant_written ttl lease) (plain_by (grant_written ttl lease) refl (number_plain ttl h, (number_plain lease k, tt)))
+grant_plain ttl lease h k = plain_members (grant_written ttl lease) (plain_by (grant_written ttl lease) refl (plain_number ttl h, (plain_number lease k, tt)))
 
 lease_plain : (lease : ℕ) → IsNumber lease → HasPlain (members_of (lease_written lease))
 unfolding lease_written
-lease_plain lease h = plain_members (lease_written lease) (plain_by (lease_written lease) refl (number_plain lease h, tt))
+lease_plain lease h = plain_members (lease_written lease) (plain_by (lease_written lease) refl (plain_number lease h, tt))
 
 time_to_live_plain : (lease : ℕ) (keys : Bool) → IsNumber lease → HasPlain (members_of (time_to_live_written lease keys))
 unfolding time_to_live_written
 time_to_live_plain lease keys h =
-    plain_members (time_to_live_written lease keys) (plain_by (time_to_live_written lease keys) refl (number_plain lease h, (flag_plain keys, tt)))
+    plain_members (time_to_live_written lease keys) (plain_by (time_to_live_written lease keys) refl (plain_number lease h, (plain_flag keys, tt)))
 
 pub request_plain : (r : Request) → ValuesFit r → HasPlain (members_of (request_written r))
 request_plain (request.Range a) h = range_plain a h

@@ -20,6 +20,7 @@ use Rattle.json_model.specs.WrittenReplies.{header_written, header_field, record
 use Rattle.json_model.specs.Replies.{numbers_in, header_from, header_in, revisions_in, record_from, record_of, records_at, record_or_none, prev_in, range_body, put_body, delete_body, lease_numbers, keys_in, time_to_live_body, lease_of, leases_body}
 use Rattle.json_model.specs.Fits.{IsNumber}
 use Rattle.json_model.specs.FitReplies.{IsSigned, HeaderFits, RecordFits, PrevFits}
+use Rattle.json_laws.proofs.PlainValues.{wide, wide_suc}
 use Rattle.json_model.proofs.WrittenObjects.{distinct, one_name, two_names, found_written, once_written}
 use Rattle.json_model.proofs.WrittenValues.{Found, number_back, wide_back, bytes_back, flag_back, child_back, no_child, list_back, text_back, decimal_back}
 
@@ -33,12 +34,6 @@ minus_later ds h = no_minus (get_or ds 0 0) h
 
 some_digit : (n : ℕ) → 0 < suc n
 some_digit n = omega arith
-
-wide : (n : ℕ) → n < 2 ^ 63 → n < 2 ^ 64
-wide n h = omega arith
-
-wide_suc : (n : ℕ) → n < 2 ^ 63 → suc n < 2 ^ 64
-wide_suc n h = omega arith
 
 within_suc : (n : ℕ) → n < 2 ^ 63 → suc n < 2 ^ 63 + 1
 within_suc n h = omega arith

@@ -1,0 +1,14 @@
+pub mod Depths
+pub mod PlainValues
+pub mod ComparesBack
+pub mod RequestsBack
+pub mod TransactionsBack
+pub mod PlainRequests
+pub mod ServedLemmas
+pub mod RequestBack
+pub mod LineTexts
+pub mod PlainReplies
+pub mod RepliesBack
+pub mod ResponsesBack
+pub mod AnswersBack
+pub mod ItemsBack
