@@ -8,7 +8,7 @@ ghost use Rattle.std.specs.Arc.{arc_value};
 mod machines;
 
 use machines::{Boxed, ENDED, Tally};
-use outside::{LOTS, Machine, MemClock};
+use outside::{CREWS, Machine, MemClock};
 use std::alloc::Global;
 use std::rt::Clock as Times;
 use std::sync::{Arc, Wait};
@@ -65,7 +65,7 @@ fn measure<
     for number in 0..resting {
         let shared = Arc::try_clone(&hub).ok()?;
         let mut pass = hub.split(&mut first);
-        pass.rest_in((number % u64::from(LOTS)) as u32);
+        pass.rest_in_lot((number % u64::from(CREWS)) as u32);
         let handle = thread::spawn(
             &rt,
             move ||

@@ -3,8 +3,8 @@ ghost use Rattle.std.specs.Prelude.{ℕ, Result};
 /// How many lots there are for passes to rest in. A lot is a number below it.
 pub const LOTS: u32 = 1024;
 
-/// The first lot of those, up to `LOTS`, in which any one pass can take what is there: where such a lot is roused,
-/// one pass wakes. In a lot below it every pass wakes.
+/// The first lot of those, up to `LOTS`, in which any one pass can take what is there, a crew's: where such a lot is
+/// roused, one pass wakes. In a lot below it every pass wakes.
 pub const CREWS: u32 = 960;
 
 /// How many words of 64 bits have one bit for each lot.
@@ -16,6 +16,7 @@ pub enum Roused {
     Nobody,
     /// The lots that `Machine::roused` names.
     Lots,
+    /// Every pass that rests, all of each crew too.
     Everybody,
 }
 

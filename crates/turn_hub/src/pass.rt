@@ -5,7 +5,7 @@ use crate::history::Entry;
 use crate::view::{Knows, Opening, Slot, Stowed, View};
 use crate::waiting::Rest;
 use atomic_table::Seat;
-use outside::{LOTS, Machine};
+use outside::{CREWS, LOTS, Machine};
 use std::marker::{Model, PhantomData};
 use std::snapshot::Snapshot;
 
@@ -74,16 +74,25 @@ impl<S, V, G, K, N, Q: Resting<S, V, G, K, N>> Model for PassOf<S, V, G, K, N, Q
 }
 
 impl<S, V, G, K, N, Q: Resting<S, V, G, K, N>> PassOf<S, V, G, K, N, Q> {
-    /// The lot in which the pass rests.
+    /// The lot in which the pass rests, the crews' from `CREWS` on.
     pub fn lot(&self) -> u32 {
         self.rest.lot
     }
 
-    /// Lets the pass rest in this lot, modulo `LOTS`, until it is told otherwise. A pass that is split off begins with
-    /// the lot of the pass that it was split from, and the first pass of a hub with lot 0.
-    pub fn rest_in(&mut self, lot: u32)
+    /// Lets the pass rest in this lot, modulo `CREWS`, until it is told otherwise: where the lot is roused, all passes wake
+    /// that rest in it. A pass that is split off begins with the lot or crew of the pass that it was split from, and the
+    /// first pass of a hub with lot 0.
+    pub fn rest_in_lot(&mut self, lot: u32)
         ensures { self.new ≡ self.old }
     {
-        self.rest = Rest::new(lot % LOTS);
+        self.rest = Rest::new(lot % CREWS);
+    }
+
+    /// Lets the pass rest in this crew, modulo `LOTS - CREWS`, until it is told otherwise: where the crew's lot, which is
+    /// `CREWS` more than its number, is roused, one pass of the crew wakes, for any of them can take what is there.
+    pub fn rest_in_crew(&mut self, crew: u32)
+        ensures { self.new ≡ self.old }
+    {
+        self.rest = Rest::new(CREWS + crew % (LOTS - CREWS));
     }
 }

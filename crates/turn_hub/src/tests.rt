@@ -10,7 +10,7 @@ use std::sync::atomic::Ordering::SeqCst;
 use std::sync::{Arc, Wait};
 use std::test::Fail;
 use std::thread;
-use std::time::Duration;
+use std::time::{Duration, Instant};
 
 // Answers how many steps it has made, and refuses each event that is true, which counts as a step too.
 #[derive(Drop)]
@@ -51,8 +51,9 @@ fn each_call_does_its_work(rt: HostRuntime) -> Result<(), Fail> {
     let mut clock = MemClock::new(7);
     assert!(rt; hub.step(&rt, &mut one, false, &mut clock) == Ok(0));
     let mut two = hub.split(&mut one);
-    two.rest_in(1030);
-    assert!(rt; one.lot() == 0 && two.lot() == 6);
+    one.rest_in_lot(965);
+    two.rest_in_crew(70);
+    assert!(rt; one.lot() == 5 && two.lot() == 966);
     assert!(rt; hub.step(&rt, &mut two, true, &mut clock) == Err(HubFault::Machine(())));
     hub.meet(&mut one, &mut two);
     assert!(rt; hub.step(&rt, &mut one, false, &mut clock) == Ok(2));
@@ -247,29 +248,14 @@ fn the_clock_is_read_while_the_turn_is_held(rt: HostRuntime) -> Result<(), Fail>
     Ok(())
 }
 
-#[derive(Clone, Copy)]
-enum Post {
-    Put(u32),
-    Take(u32),
-}
-
-// Keeps letters for 16 names, each of which two of them share a lot, and a count of jobs that any of a crew can do.
+// Answers whether it is open, and rouses everybody as it opens.
 #[derive(Drop)]
-struct Mailbox {
-    letters: u32,
-    laid: Option<u32>,
-    jobs: u32,
+struct Door {
+    open: bool,
 }
 
-// The name of each of the crew.
-const CREW: u32 = 16;
-
-fn lot_of(name: u32) -> u32 {
-    if name < CREW { name / 2 } else { 1000 }
-}
-
-impl Machine for Mailbox {
-    type Event = Post;
+impl Machine for Door {
+    type Event = bool;
 
     type Outcome = bool;
 
@@ -279,124 +265,64 @@ impl Machine for Mailbox {
 
     ghost steps = { λ before event now answer after. Unit {0} };
 
-    fn step(&mut self, event: Post, now: u64) -> Result<bool, ()> {
+    fn step(&mut self, event: bool, now: u64) -> Result<bool, ()> {
         let _ = now;
-        self.laid = None;
-        match event {
-            Post::Put(name) if name < CREW => {
-                self.letters |= 1u32.wrapping_shl(name);
-                self.laid = Some(name);
-                Ok(true)
-            }
-            Post::Put(_) => {
-                self.jobs = self.jobs.saturating_add(1);
-                Ok(true)
-            }
-            Post::Take(name) if name < CREW => {
-                let letter = 1u32.wrapping_shl(name);
-                let there = self.letters & letter != 0;
-                self.letters &= !letter;
-                Ok(there)
-            }
-            Post::Take(_) => {
-                let there = self.jobs > 0;
-                self.jobs = self.jobs.saturating_sub(1);
-                Ok(there)
-            }
-        }
+        self.open |= event;
+        Ok(self.open)
     }
 
     fn rouses(&self) -> Roused {
-        if self.laid.is_some() || self.jobs > 0 {
-            Roused::Lots
+        if self.open {
+            Roused::Everybody
         } else {
             Roused::Nobody
         }
     }
+}
 
-    fn roused(&self, word: u32) -> u64 {
-        let mut bits = 0;
-        if let Some(name) = self.laid
-            && lot_of(name) / 64 == word
-        {
-            bits |= 1u64.wrapping_shl(lot_of(name));
+// Rests until the door is open, and answers how often it looked.
+fn await_door<R: Wait>(rt: &R, hub: &Hub<Door>, mut pass: Pass<Door>) -> u64
+    requires { pass.hub ≡ hub.now }
+{
+    let mut looks = 0u64;
+    for _ in rt.forever() {
+        looks = looks.saturating_add(1);
+        let clock = &mut MemClock::new(0);
+        if hub.step(rt, &mut pass, false, clock) == Ok(true) {
+            return looks;
         }
-        if self.jobs > 0 && lot_of(CREW) / 64 == word {
-            bits |= 1u64.wrapping_shl(lot_of(CREW));
-        }
-        bits
+        hub.wait(rt, &mut pass);
     }
-}
-
-// Which passes are of a hub.
-trait Admits<P> {
-    ghost fits: { Self → P → Type 0 };
-
-    ghost only: { (h : Self) (p : P) → IsProp (fits h p) };
-}
-
-impl Admits<Pass<Mailbox>> for Hub<Mailbox> {
-    ghost use Rattle.std.proofs.Props.{props};
-
-    ghost fits = { λ h p. p.hub ≡ h };
-
-    ghost only = { λ h p. Prim.hlevel props };
-}
-
-// A hub and a pass of it, as a thread carries them.
-#[derive(Drop)]
-struct Place<H: Admits<P>, P> {
-    hub: Arc<H, Global>,
-    pass: P,
-    ghost mine: { H.fits (arc_value hub) pass } by { H.only (arc_value hub) pass },
-}
-
-impl Place<Hub<Mailbox>, Pass<Mailbox>> {
-    // Takes the letter of this name, resting while it isn't there, and answers how often it tried.
-    fn take<R: Wait>(&mut self, rt: &R, name: u32) -> u64 {
-        let mut tries = 0u64;
-        for _ in rt.forever() {
-            tries = tries.wrapping_add(1);
-            let clock = &mut MemClock::new(0);
-            if self.hub.step(rt, &mut self.pass, Post::Take(name), clock) == Ok(true) {
-                return tries;
-            }
-            self.hub.wait(rt, &mut self.pass);
-        }
-        unreachable!()
-    }
+    unreachable!()
 }
 
 #[test]
-fn passes_rest_until_their_lot_is_roused(rt: HostRuntime) -> Result<(), Fail> {
+fn everybody_is_all_of_a_crew(rt: HostRuntime) -> Result<(), Fail> {
     let alloc: Global = rt.alloc();
-    let (hub, mut first) = Hub::new(
-        alloc,
-        Mailbox {
-            letters: 0,
-            laid: None,
-            jobs: 0,
-        },
-    )?;
+    let (hub, mut first) = Hub::new(alloc, Door { open: false })?;
+    first.rest_in_crew(2);
     let hub = Arc::new(alloc, hub)?;
     let mut handles = Vec::new(alloc);
-    for name in 0..20u32 {
-        let mut pass = hub.split(&mut first);
-        pass.rest_in(lot_of(name));
-        let mut place = Place {
-            hub: Arc::try_clone(&hub)?,
-            pass,
-        };
-        let handle = thread::spawn(&rt, move || place.take(&rt, name))?;
+    for _ in 0..3 {
+        let shared = Arc::try_clone(&hub)?;
+        let pass = hub.split(&mut first);
+        let handle = thread::spawn(
+            &rt,
+            move || -> u64
+                requires { pass.hub ≡ arc_value shared }
+            { await_door(&rt, &shared, pass) },
+        )?;
         handles.push(handle)?;
     }
-    thread::sleep(&rt, Duration::from_millis(100));
-    for name in 0..20u32 {
-        let clock = &mut MemClock::new(0);
-        assert!(rt; hub.step(&rt, &mut first, Post::Put(name), clock) == Ok(true));
-    }
+    thread::sleep(&rt, Duration::from_millis(200));
+    let start = Instant::now(&rt)?;
+    assert!(rt; hub.step(&rt, &mut first, true, &mut MemClock::new(0)) == Ok(true));
     for handle in handles {
         assert!(rt; handle.join(&rt) < 1000, "a pass that waits does not rest");
     }
+    assert!(rt;
+        start.elapsed(&rt)? < Duration::from_secs(9),
+        "one of the crew rests on"
+    );
     Ok(())
 }

@@ -1,4 +1,5 @@
-// Where threads rest. No clause speaks of it: a thread may rest for any time, and a wake too many costs time alone.
+// Where threads rest. No clause speaks of it: a thread may rest for any time, and a wake too many costs time alone. That
+// no wake-up is lost is argued below, and tried by the program `hub_trial`.
 ghost use Rattle.std.specs.Prelude.{◌≡◌};
 
 use crate::turn::{Board, TURN};
@@ -8,6 +9,10 @@ use std::alloc::Global;
 use std::sync::Wait;
 use std::sync::atomic::AtomicU64;
 use std::sync::atomic::Ordering::SeqCst;
+use std::time::Duration;
+
+// How many seconds a thread parks at most. A wake-up that was lost would then be a delay, and no hang.
+const LONGEST: u64 = 10;
 
 // How often a lot was roused, and how many passes rest in it.
 #[derive(Drop)]
@@ -92,7 +97,7 @@ impl Waiting {
         requires { board.now.table_id.words ≡ 2 }
     {
         self.sleepers.fetch_add(1, SeqCst);
-        board.park(rt, TURN, 1);
+        board.park_timeout(rt, TURN, 1, Duration::from_secs(LONGEST));
         self.sleepers.fetch_sub(1, SeqCst);
     }
 
@@ -122,7 +127,9 @@ impl Waiting {
         lot.sleepers.fetch_add(1, SeqCst);
         self.resting.fetch_add(1, SeqCst);
         if self.everybody.load(SeqCst) == rest.everybody {
-            lot.changes.park(rt, (rest.changes % (1 << 32)) as u32);
+            let seen = (rest.changes % (1 << 32)) as u32;
+            lot.changes
+                .park_timeout(rt, seen, Duration::from_secs(LONGEST));
         }
         self.resting.fetch_sub(1, SeqCst);
         lot.sleepers.fetch_sub(1, SeqCst);
@@ -157,16 +164,17 @@ impl Waiting {
         }
     }
 
+    // Wakes all passes of each lot, those of crews too.
     fn rouse_everybody(&self) {
-        for number in 0..LOTS as usize {
-            match self.lots.get(number) {
-                Some(lot) if lot.sleepers.load(SeqCst) != 0 => self.rouse_lot(number),
-                _ => {}
+        for lot in self.lots.as_slice() {
+            if lot.sleepers.load(SeqCst) != 0 {
+                lot.changes.fetch_add(1, SeqCst);
+                lot.changes.wake_all();
             }
         }
     }
 
-    // Wakes the passes of the lot, or one of them where any can take what is there.
+    // Wakes the passes of the lot, or one of them where it is a crew's.
     fn rouse_lot(&self, number: usize) {
         if let Some(lot) = self.lots.get(number) {
             lot.changes.fetch_add(1, SeqCst);
