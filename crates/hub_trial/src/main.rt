@@ -22,12 +22,7 @@ use turn_hub::{Hub, Pass};
 const LONGEST: u64 = 10;
 
 // Takes the name's letter and answers it, resting while there is none. Says how many rests lasted to their end.
-fn answer<R: Wait + Times>(
-    rt: &R,
-    hub: &Hub<Mailbox>,
-    pass: &mut Pass<Mailbox>,
-    name: u32,
-) -> u64
+fn answer<R: Wait + Times>(rt: &R, hub: &Hub<Mailbox>, pass: &mut Pass<Mailbox>, name: u32) -> u64
     requires { pass.old.hub ≡ hub.now }
     ensures { pass.new.hub ≡ hub.now }
 {
