@@ -90,7 +90,7 @@ put_revision : (revision : ℕ) (old : Option Kv) (key value : List ℕ) (lease 
 put_revision revision None key value lease = refl
 put_revision revision (Some kv) key value lease = refl
 
-change_is : (revision : ℕ) (old : Option Kv) (c : KeyChange) → event_revision (event_of revision old c) ≡ revision
+pub change_is : (revision : ℕ) (old : Option Kv) (c : KeyChange) → event_revision (event_of revision old c) ≡ revision
 change_is revision old (Put key value lease) = put_revision revision old key value lease
 change_is revision old (Delete key) = refl
 

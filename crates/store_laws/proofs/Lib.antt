@@ -6,3 +6,7 @@ pub mod WatchProofs
 pub mod LeavingProofs
 pub mod Lifted
 pub mod Deletions
+pub mod Branches
+pub mod StepCases
+pub mod AnsweredProofs
+pub mod PreviousProofs

@@ -1,6 +1,6 @@
 -- A key that no operation names keeps its record, as the record stands with each change that is made so far.
 use Rattle.std.proofs.Common.{◌≡◌, ℕ, ◌+◌, Bool, true, false, cond, not, List, [], ◌∷◌, Option, None, Some, Result, Ok, Err, length, map, filter, filter_map, nat_lt, nat_le, refl, ◌∙◌, ap, subst}
-use Rattle.std.specs.List.{list_all, cons_option}
+use Rattle.std.specs.List.{list_any, list_all, cons_option}
 use Rattle.etcd_types.specs.declared.record.Kv.{Kv}
 use Rattle.etcd_types.specs.declared.operation.PutAsk.{PutAsk}
 use Rattle.etcd_types.specs.declared.operation.DeleteAsk.{DeleteAsk}
@@ -9,6 +9,7 @@ use Rattle.etcd_types.specs.declared.operation.Op.{Op, Row_of-Op, end_of-Op, mor
 use Rattle.etcd_types.specs.declared.operation.Op.TheVariants.{Range, Put, Delete, Txn', Txn}
 use Rattle.etcd_types.specs.declared.answer.Body.{Body}
 use Rattle.etcd_types.specs.declared.answer.Refusal.{Refusal}
+use Rattle.etcd_types.specs.declared.request.Request.{Request}
 use Rattle.etcd_types.specs.declared.request.Request.TheVariants as request
 use Rattle.etcd_types.specs.Keys.{same}
 use Rattle.etcd_types.specs.Ranges.{contains}
@@ -28,15 +29,16 @@ use Rattle.store_model.specs.Leases.{all_keys, is_attached, attached, ended, exp
 use Rattle.store_model.specs.Step.{Step, exec, exec_op, exec_range, exec_compact, exec_grant, exec_revoke, read_applied, told_at, unless, settled}
 use Rattle.store_model.specs.Leaves.{all_leaves, all_leaves_row}
 use Rattle.store_model.proofs.RunLemmas.{put_ok, delete_ok, seen-record, has_record, deletions-record}
-use Rattle.store_laws.specs.NamedKeys.{names, names_row, is_on_lease, KeepsRecord, UnnamedKeysStay, UnattachedKeysStay}
+use Rattle.store_laws.specs.NamedKeys.{names, names_row, is_on_lease, request_names, KeepsRecord, UnnamedKeysStay, UnattachedKeysStay}
 use Rattle.store_laws.proofs.Deletions.{deleted-record, ended-record, has-tested}
 use Rattle.store_laws.proofs.Lifted.{Keeps, Holds, lifted}
 use Rattle.store_laws.proofs.RangeProofs.{keyed-now}
+use Rattle.store_laws.proofs.StepCases.{op_of, exec_by}
 
-abbrev apart_put : List ℕ → PutAsk → Bool
+abbrev pub apart_put : List ℕ → PutAsk → Bool
 apart_put k ask = not (same ask.key k)
 
-abbrev apart_delete : List ℕ → DeleteAsk → Bool
+abbrev pub apart_delete : List ℕ → DeleteAsk → Bool
 apart_delete k ask = not (contains ask.range k)
 
 mutual
@@ -51,12 +53,16 @@ mutual
   row_apart k end_of-Op e = refl
   row_apart k (more_of-Op op rest) e = and_both (all_leaves (apart_put k) (apart_delete k) op) _ (apart k op (or_first (names k op) _ e)) (row_apart k rest (or_second (names k op) _ e))
 
+pub apart_all : (k : List ℕ) (ops : List Op) → list_any (names k) ops ≡ false → list_all (all_leaves (apart_put k) (apart_delete k)) ops ≡ true
+apart_all k [] e = refl
+apart_all k (op ∷ ops) e = and_both (all_leaves (apart_put k) (apart_delete k) op) _ (apart k op (or_first (names k op) _ e)) (apart_all k ops (or_second (names k op) _ e))
+
 -- the record stands as it did
 
-abbrev Stands : State → List ℕ → List KeyChange → Type 0
+abbrev pub Stands : State → List ℕ → List KeyChange → Type 0
 Stands s k made = record_now (seen s made) k ≡ record_now s.history k
 
-keep_standing : (s : State) (k : List ℕ) → Keeps s (Stands s k) (apart_put k) (apart_delete k)
+pub keep_standing : (s : State) (k : List ℕ) → Keeps s (Stands s k) (apart_put k) (apart_delete k)
 keep_standing s k = record { put = puts; delete = deletes }
   where
     puts : (ask : PutAsk) (made : List KeyChange) → apart_put k ask ≡ true → Stands s k made → Holds (Stands s k) (run_put s ask made)
@@ -73,45 +79,6 @@ keep_standing s k = record { put = puts; delete = deletes }
         ap (λ (cs : List KeyChange). record_now (seen s cs) k) (delete_ok s ask made next b e) ∙ seen-record s made (map deletion gone) k
         ∙ deletions-record (length s.history + 2) k gone old ∙ deleted-record (seen s made) ask.range k
         ∙ ap (λ (t : Bool). cond t None old) (not_true (contains ask.range k) a) ∙ h
-
--- requests
-
-keeps-unless : (k : List ℕ) (s : State) (found : Option Refusal) (step : Step) → KeepsRecord s step.0 k → KeepsRecord s (unless s found step).0 k
-keeps-unless k s None step h = h
-keeps-unless k s (Some refusal) step h = refl
-
-keeps-settled : (k : List ℕ) (s : State) (member : ℕ) (op : Op) (ran : Ran) → run s op [] ≡ ran → names k op ≡ false → KeepsRecord s (settled s member ran).0 k
-keeps-settled k s member op (Ok ran) e n = lifted s (Stands s k) (apart_put k) (apart_delete k) (keep_standing s k) op [] (apart k op n) refl ran.0 ran.1 e
-keeps-settled k s member op (Err refusal) e n = refl
-
-keeps-op : (k : List ℕ) (s : State) (member : ℕ) (op : Op) → names k op ≡ false → KeepsRecord s (exec_op s member op).0 k
-keeps-op k s member op n =
-    keeps-unless k s (first_refusal op) (settled s member (run s op [])) (keeps-settled k s member op (run s op []) refl n)
-
-keeps-either : (k : List ℕ) (s : State) (b : Bool) (step other : Step) → KeepsRecord s step.0 k → KeepsRecord s other.0 k → KeepsRecord s (cond b step other).0 k
-keeps-either k s true step other h j = h
-keeps-either k s false step other h j = j
-
-keeps-told : (k : List ℕ) (s : State) (member revision : ℕ) (told : Result Body Refusal) → KeepsRecord s (told_at s member revision told).0 k
-keeps-told k s member revision (Ok told) = refl
-keeps-told k s member revision (Err refusal) = refl
-
-keeps-applied : (k : List ℕ) (s : State) (member applied : ℕ) (ask : RangeAsk) → KeepsRecord s (read_applied s member applied ask).0 k
-keeps-applied k s member applied ask =
-    keeps-either k s (nat_lt applied s.compacted) _ _ refl (keeps-told k s member applied (read (up_to_revision s.history applied) applied s.compacted ask))
-
-keeps-range : (k : List ℕ) (s : State) (member : ℕ) (ask : RangeAsk) → KeepsRecord s (exec_range s member ask).0 k
-keeps-range k s member ask =
-    keeps-either k s ask.serializable _ _
-    (keeps-unless k s (first_refusal (Range ask)) (read_applied s member (applied_by s member) ask) (keeps-applied k s member (applied_by s member) ask))
-    (keeps-op k s member (Range ask) refl)
-
-keeps-compact : (k : List ℕ) (s : State) (member revision : ℕ) → KeepsRecord s (exec_compact s member revision).0 k
-keeps-compact k s member revision =
-    keeps-either k s (nat_le revision s.compacted) _ _ refl (keeps-either k s (nat_lt (newest s.history) revision) _ _ refl refl)
-
-keeps-grant : (k : List ℕ) (s : State) (member ttl number : ℕ) → KeepsRecord s (exec_grant s member ttl number).0 k
-keeps-grant k s member ttl number = keeps-either k s (has_lease s.leases number) _ _ refl refl
 
 -- the records attached to a lease are those of keys on the lease
 on : History → ℕ → List ℕ → Bool
@@ -142,22 +109,46 @@ keeps-ended k s number n = ended-record s number k ∙ by_test (has_record k (at
         absurd (let f = has-tested (on s.history number) k (attached s.history number) (attached_on s.history number (keys_in s.history all_keys)) e in unfold on in cc)
     by_test false e = refl
 
-keeps-revoke : (k : List ℕ) (s : State) (member number : ℕ) → is_on_lease number (record_now s.history k) ≡ false → KeepsRecord s (exec_revoke s member number).0 k
-keeps-revoke k s member number n = keeps-either k s (has_lease s.leases number) _ _ (keeps-ended k s number n) refl
+-- requests
+
+some_op : Op → Option Op → Op
+some_op d None = d
+some_op d (Some op) = op
+
+same_op : (x y : Op) → Some x ≡ Some y → x ≡ y
+unfolding some_op
+same_op x y e = ap (some_op x) e
+
+-- what a request doesn't name, its operation doesn't
+unnamed_by : (s : State) (k : List ℕ) (q : Request) (op : Op) → op_of q ≡ Some op → request_names s k q ≡ false → names k op ≡ false
+unnamed_by s k (request.Range ask) op e n = subst (λ (o : Op). names k o ≡ false) (same_op (Range ask) op e) refl
+unnamed_by s k (request.Put ask) op e n = subst (λ (o : Op). names k o ≡ false) (same_op (Put ask) op e) n
+unnamed_by s k (request.Delete ask) op e n = subst (λ (o : Op). names k o ≡ false) (same_op (Delete ask) op e) n
+unnamed_by s k (request.Txn txn) op e n = subst (λ (o : Op). names k o ≡ false) (same_op (Txn txn) op e) n
+unnamed_by s k (request.Compact revision physical) op e n = absurd (cc)
+unnamed_by s k (request.Grant ttl lease) op e n = absurd (cc)
+unnamed_by s k (request.Revoke lease) op e n = absurd (cc)
+unnamed_by s k (request.KeepAlive lease) op e n = absurd (cc)
+unnamed_by s k (request.TimeToLive lease keys) op e n = absurd (cc)
+unnamed_by s k request.Leases op e n = absurd (cc)
+unnamed_by s k (request.Watch ask) op e n = absurd (cc)
 
 pub unnamed_keys_stay : UnnamedKeysStay
-unfolding exec
-unnamed_keys_stay s member (request.Range ask) k n = keeps-range k s member ask
-unnamed_keys_stay s member (request.Put ask) k n = keeps-op k s member (Put ask) n
-unnamed_keys_stay s member (request.Delete ask) k n = keeps-op k s member (Delete ask) n
-unnamed_keys_stay s member (request.Txn txn) k n = keeps-op k s member (Txn txn) n
-unnamed_keys_stay s member (request.Compact revision physical) k n = keeps-compact k s member revision
-unnamed_keys_stay s member (request.Grant ttl lease) k n = keeps-grant k s member ttl lease
-unnamed_keys_stay s member (request.Revoke lease) k n = keeps-revoke k s member lease n
-unnamed_keys_stay s member (request.KeepAlive lease) k n = refl
-unnamed_keys_stay s member (request.TimeToLive lease keys) k n = refl
-unnamed_keys_stay s member request.Leases k n = refl
-unnamed_keys_stay s member (request.Watch ask) k n = refl
+unnamed_keys_stay s member q k unnamed =
+    exec_by s member (λ r step. request_names s k r ≡ false → KeepsRecord s step.0 k)
+    (record {
+      refuses = λ r refusal known n. refl;
+      runs = λ r op made b e serializable first ran n.
+          lifted s (Stands s k) (apart_put k) (apart_delete k) (keep_standing s k) op [] (apart k op (unnamed_by s k r op e n)) refl made b ran;
+      reads = λ ask b e n. refl;
+      compacts = λ revision physical above within n. refl;
+      grants = λ ttl number e n. refl;
+      revokes = λ number e n. keeps-ended k s number n;
+      keeps_alive = λ number n. refl;
+      tells = λ number keys n. refl;
+      lists = λ n. refl;
+    })
+    q unnamed
 
 keeps-expired : (k : List ℕ) (s t : State) (number : ℕ) (known : Bool) → cond known (Ok (ended s number)) (Err (fault.NoSuchLease number)) ≡ Ok t
     → is_on_lease number (record_now s.history k) ≡ false → KeepsRecord s t k

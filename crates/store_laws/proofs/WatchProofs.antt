@@ -16,7 +16,7 @@ use Rattle.store_model.specs.State.{State}
 use Rattle.store_model.specs.Events.{told_event}
 use Rattle.store_model.specs.Watches.{watch_of, for_watch, with_next, first_next, next_after, events_for, Pushed, push_events, push_to, progress_to, is_nil, is_synced, pushed, progressed, watch_header}
 use Rattle.store_model.proofs.WatchLemmas.{pushed-some, progressed-some}
-use Rattle.store_laws.specs.WatchRuns.{watched, bare, LeavesWatch, Told, created, other, events_pushed, progress_told, AreFirst, TellEachOnce, TellAll}
+use Rattle.store_laws.specs.WatchRuns.{watched, bare, LeavesWatch, Told, created, other, events_pushed, progress_told, AreFirst, TellEachOnce, TellAll, TellUpToNext, IsProgress, ProgressIsTrue}
 use Rattle.store_laws.proofs.EventProofs.{batched, watched-cut, watched-none, watched-past, bare-told, next-told}
 
 -- what stands in two messages
@@ -124,17 +124,18 @@ nothing_by false true s number w moved stayed a b compacted es f e = absurd (cc)
 nothing_by false false s number w moved stayed a b compacted [] f e = refl
 nothing_by false false s number w moved stayed a b compacted (x ∷ es) f e = absurd (cc)
 
-record TellsProgress (s : State) (w : OpenWatch) (moved t : State) (fs : List Event) : Type 0 where
+record TellsProgress (s : State) (w : OpenWatch) (moved t : State) (a header : Header) (fs : List Event) : Type 0 where
   synced : is_synced s w ≡ true
   no_events : fs ≡ []
+  headed : a ≡ header
   moves : moved ≡ t
 
 progress_by : (unasked synced : Bool) (s : State) (w : OpenWatch) (moved t : State) (a header : Header) (fs : List Event) (f g : StoreFault) → is_synced s w ≡ synced
-    → cond unasked (Err f) (cond synced (ok moved (item.Events a [])) (Err g)) ≡ ok t (item.Events header fs) → TellsProgress s w moved t fs
+    → cond unasked (Err f) (cond synced (ok moved (item.Events a [])) (Err g)) ≡ ok t (item.Events header fs) → TellsProgress s w moved t a header fs
 progress_by true synced s w moved t a header fs f g q e = absurd (cc)
 progress_by false true s w moved t a header fs f g q e =
     let items : item.Events a [] ≡ item.Events header fs = same_items moved t (item.Events a []) (item.Events header fs) e in
-    record { synced = q; no_events = cc; moves = same_states moved t (item.Events a []) (item.Events header fs) e }
+    record { synced = q; no_events = cc; headed = cc; moves = same_states moved t (item.Events a []) (item.Events header fs) e }
 progress_by false false s w moved t a header fs f g q e = absurd (cc)
 
 -- lists
@@ -283,6 +284,12 @@ still_due h from next (inr e) = inr (omega arith)
 still_due h from next (inl e) =
     elim (cases_lt next (newest h + 1)) [ inl low ↦ inr (omega arith) | inr high ↦ inl (omega arith) ]
 
+-- a synced watch has nothing due
+synced_none : (s : State) (w : OpenWatch) (ask : WatchAsk) → is_synced s w ≡ true → w.ask ≡ ask → watched s.history ask w.next ≡ []
+synced_none s w ask synced asked =
+    let empty : events_for s w ≡ [] = nil_is (events_for s w) (last_true (not (w.next == 0)) (not (nat_lt w.next s.compacted)) (is_nil (events_for s w)) synced) in
+    ap (λ (a : WatchAsk). watched s.history a w.next) (sym asked) ∙ none_due s w empty
+
 holds-progress : (number : ℕ) (ask : WatchAsk) (from : ℕ) (es fs : List Event) (s t : State) (header : Header) → Holds number ask from es s
     → progressed s number ≡ ok t (item.Events header fs) → Holds number ask from (es ++ fs) t
 unfolding Holds
@@ -291,8 +298,7 @@ holds-progress number ask from es fs s t header (w, h) e =
     let next : ℕ = max w.next (newest s.history + 1) in
     let moved : State = with_next s number w next in
     let told = progress_by (not w.ask.progress) (is_synced s w) s w moved t (watch_header s w) header fs (fault.NotAsked number) (fault.NotSynced w.next (newest s.history)) refl step in
-    let empty : events_for s w ≡ [] = nil_is (events_for s w) (last_true (not (w.next == 0)) (not (nat_lt w.next s.compacted)) (is_nil (events_for s w)) told.synced) in
-    let none : watched s.history ask w.next ≡ [] = ap (λ (a : WatchAsk). watched s.history a w.next) (sym h.asked) ∙ none_due s w empty in
+    let none = synced_none s w ask told.synced h.asked in
     let Held : State → Type 0 = λ u. (v : OpenWatch) × Stands number ask from (es ++ fs) u v in
     subst Held told.moves (
       record w { next = next },
@@ -336,3 +342,29 @@ all_of number ask from es t (w, h) e =
 
 pub tell_all : TellAll
 tell_all number from ask es t r e = all_of number ask from es t (holds number ask from es t r) e
+
+up_to_next : (number : ℕ) (ask : WatchAsk) (from : ℕ) (es : List Event) (t : State) (w : OpenWatch) → Holds number ask from es t → watch_of t number ≡ Some w
+    → map bare es ≡ map bare (watched (up_to_revision t.history (w.next - 1)) ask from)
+unfolding Holds
+up_to_next number ask from es t w (v, h) e =
+    let is : v ≡ w = same_watch v w (sym h.found ∙ e) in
+    subst (λ (u : OpenWatch). map bare es ≡ map bare (watched (up_to_revision t.history (u.next - 1)) ask from)) is h.told
+
+pub tell_up_to_next : TellUpToNext
+tell_up_to_next number from ask es t w r e = up_to_next number ask from es t w (holds number ask from es t r) e
+
+progress_of : (number : ℕ) (ask : WatchAsk) (from : ℕ) (es fs : List Event) (s t : State) (header : Header) → Holds number ask from es s
+    → progressed s number ≡ ok t (item.Events header fs) → IsProgress ask from es s header fs
+unfolding Holds
+progress_of number ask from es fs s t header (w, h) e =
+    let step : progress_to s number w ≡ ok t (item.Events header fs) = sym (progressed-some s number w h.found) ∙ e in
+    let moved : State = with_next s number w (max w.next (newest s.history + 1)) in
+    let told = progress_by (not w.ask.progress) (is_synced s w) s w moved t (watch_header s w) header fs (fault.NotAsked number) (fault.NotSynced w.next (newest s.history)) refl step in
+    record {
+      empty = told.no_events;
+      newest_told = ap (λ (x : Header). x.revision) (sym told.headed);
+      all = h.told ∙ ap (map bare) (all_told s.history ask from w.next h.reached (synced_none s w ask told.synced h.asked));
+    }
+
+pub progress_is_true : ProgressIsTrue
+progress_is_true number from ask es fs s t header r e = progress_of number ask from es fs s t header (holds number ask from es s r) e

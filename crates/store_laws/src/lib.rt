@@ -4,6 +4,7 @@
 mod laws;
 
 pub use laws::{
-    other_steps_leave_watches, ranges_show_their_records, refusals_change_nothing,
-    requests_make_one_revision, unnamed_keys_stay, watches_tell_each_event_once,
+    answers_tell_what_was_done, only_the_chosen_branch_runs, other_steps_leave_watches,
+    previous_records_are_earlier, progress_is_true, ranges_show_their_records, refusals_change_nothing, requests_make_one_revision, unnamed_keys_stay,
+    watches_tell_each_event_once,
 };
