@@ -2,7 +2,6 @@
 use Rattle.std.proofs.Common.{◌≡◌, ℕ, List, [], Option, None, Some, Ok, Err, refl, sym, ◌∙◌, ap}
 use Rattle.etcd_types.specs.declared.operation.TxnAsk.{TxnAsk}
 use Rattle.etcd_types.specs.declared.operation.Op.TheVariants.{Txn}
-use Rattle.etcd_types.specs.declared.answer.Answer.{Answer}
 use Rattle.etcd_types.specs.declared.answer.Answer.TheVariants as answer
 use Rattle.etcd_types.specs.declared.answer.Body.{Body}
 use Rattle.etcd_types.specs.declared.answer.Body.TheVariants as body
@@ -17,15 +16,8 @@ use Rattle.store_model.proofs.RunLemmas.{branch_ops, txn_ran}
 use Rattle.store_model.proofs.StepLemmas.{exec_txn-refused, exec_txn-runs}
 use Rattle.proxy_model.specs.Fits.{branch_of}
 use Rattle.proxy_model.proofs.FitsLaws.{branch_of-Txn}
+use Rattle.store_laws.proofs.AnsweredProofs.{same_reply}
 use Rattle.proxy_laws.specs.Answers.{Answers, holds_now}
-
-reply_or : Reply → Answer → Reply
-reply_or d (answer.Done reply) = reply
-reply_or d (answer.Refused refusal) = d
-
-same_reply : (x y : Reply) → answer.Done x ≡ answer.Done y → x ≡ y
-unfolding reply_or
-same_reply x y e = ap (reply_or x) e
 
 -- a transaction that was answered had run
 settled_body : (s : State) (member : ℕ) (ran : Ran) (reply : Reply) → (settled s member ran).1 ≡ answer.Done reply → (made : List KeyChange) × (ran ≡ Ok (made, reply.body))

@@ -1,5 +1,5 @@
 -- What the store's answers to a proxy's own transactions tell, whatever the store holds.
-use Rattle.std.specs.Prelude.{◌≡◌, ℕ, Bool, true, if◌then◌else◌, List, [], ◌++◌, map, Option, Some, Ok, Err}
+use Rattle.std.specs.Prelude.{◌≡◌, ℕ, true, if◌then◌else◌, List, [], ◌++◌, map, Option, Some, Ok, Err}
 use Rattle.std.specs.List.{flat_map}
 use Rattle.std.specs.Option.{option_map}
 use Rattle.etcd_types.specs.declared.key_range.KeyRange.{KeyRange}
@@ -8,16 +8,13 @@ use Rattle.etcd_types.specs.declared.record.Header.{Header}
 use Rattle.etcd_types.specs.declared.operation.TxnAsk.{TxnAsk}
 use Rattle.etcd_types.specs.declared.operation.Op.{Op}
 use Rattle.etcd_types.specs.declared.request.Request.{Request}
-use Rattle.etcd_types.specs.declared.request.Request.TheVariants as request
-use Rattle.etcd_types.specs.declared.answer.Answer.TheVariants as answer
 use Rattle.etcd_types.specs.declared.answer.Body.{Body}
 use Rattle.etcd_types.specs.declared.answer.Reply.{Reply}
 use Rattle.store_model.specs.Records.{record_now}
 use Rattle.store_model.specs.Ranges.{records_now}
 use Rattle.store_model.specs.State.{State}
-use Rattle.store_model.specs.Compares.{all_hold}
 use Rattle.store_model.specs.Transactions.{RanAll, run_all}
-use Rattle.store_model.specs.Step.{exec}
+pub use Rattle.store_laws.specs.Branches.{Answers, holds_now}
 use Rattle.proxy_model.specs.declared.ownership.Claim.{Claim}
 use Rattle.proxy_model.specs.declared.ownership.Claim.TheVariants.{Acquired, OwnedBy}
 use Rattle.proxy_model.specs.declared.ownership.Owner.{Owner}
@@ -31,14 +28,6 @@ use Rattle.proxy_model.specs.Leaving.{rescind, guard_held}
 use Rattle.proxy_model.specs.Prefixes.{under}
 use Rattle.proxy_model.specs.SeveralKeys.{written_ranges}
 use Rattle.proxy_model.specs.Snapshot.{Held, snapshot}
-
--- the store, as it is, answers the transaction at this member so
-abbrev pub Answers : State → ℕ → TxnAsk → Reply → Type 0
-Answers s member t reply = (exec s member (request.Txn t)).1 ≡ answer.Done reply
-
--- its compares hold
-abbrev pub holds_now : State → TxnAsk → Bool
-holds_now s t = all_hold s.history t.compare
 
 -- every answer is one that the transaction can have
 abbrev pub AnswersFit : Type 0

@@ -1,5 +1,5 @@
 -- What a refusal and a reply tell.
-use Rattle.std.proofs.Common.{◌≡◌, ℕ, Bool, true, false, cond, refl, sym, ◌∙◌, ap, subst}
+use Rattle.std.proofs.Common.{◌≡◌, ℕ, Bool, true, cond, refl, sym, ◌∙◌, ap, subst}
 use Rattle.etcd_types.specs.declared.request.Request.{Request}
 use Rattle.etcd_types.specs.declared.request.Request.TheVariants as request
 use Rattle.etcd_types.specs.declared.answer.Answer.{Answer}
@@ -9,7 +9,7 @@ use Rattle.etcd_types.specs.declared.answer.Refusal.{Refusal}
 use Rattle.etcd_types.specs.declared.answer.Reply.{Reply}
 use Rattle.store_model.specs.History.{newest, with_revision}
 use Rattle.store_model.specs.State.{State, applied_by, header}
-use Rattle.store_model.specs.Step.{Step, done, refused, exec}
+use Rattle.store_model.specs.Step.{Step, refused, exec}
 use Rattle.store_laws.specs.Answered.{is_known, is_serializable, RefusalsAreKnown, RepliesTellRevisions}
 use Rattle.store_laws.proofs.StepCases.{exec_by}
 

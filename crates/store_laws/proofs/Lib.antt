@@ -1,12 +1,8 @@
 pub mod RequestProofs
 pub mod RangeProofs
 pub mod NamedProofs
-pub mod EventProofs
-pub mod WatchProofs
-pub mod LeavingProofs
 pub mod Lifted
 pub mod Deletions
 pub mod Branches
 pub mod StepCases
 pub mod AnsweredProofs
-pub mod PreviousProofs

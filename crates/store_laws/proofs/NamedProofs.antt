@@ -1,14 +1,11 @@
 -- A key that no operation names keeps its record, as the record stands with each change that is made so far.
-use Rattle.std.proofs.Common.{◌≡◌, ℕ, ◌+◌, Bool, true, false, cond, not, List, [], ◌∷◌, Option, None, Some, Result, Ok, Err, length, map, filter, filter_map, nat_lt, nat_le, refl, ◌∙◌, ap, subst}
+use Rattle.std.proofs.Common.{◌≡◌, ℕ, ◌+◌, Bool, true, false, cond, not, List, [], ◌∷◌, Option, None, Some, Ok, Err, length, map, filter, filter_map, refl, ◌∙◌, ap, subst}
 use Rattle.std.specs.List.{list_any, list_all, cons_option}
 use Rattle.etcd_types.specs.declared.record.Kv.{Kv}
 use Rattle.etcd_types.specs.declared.operation.PutAsk.{PutAsk}
 use Rattle.etcd_types.specs.declared.operation.DeleteAsk.{DeleteAsk}
-use Rattle.etcd_types.specs.declared.operation.RangeAsk.{RangeAsk}
 use Rattle.etcd_types.specs.declared.operation.Op.{Op, Row_of-Op, end_of-Op, more_of-Op}
 use Rattle.etcd_types.specs.declared.operation.Op.TheVariants.{Range, Put, Delete, Txn', Txn}
-use Rattle.etcd_types.specs.declared.answer.Body.{Body}
-use Rattle.etcd_types.specs.declared.answer.Refusal.{Refusal}
 use Rattle.etcd_types.specs.declared.request.Request.{Request}
 use Rattle.etcd_types.specs.declared.request.Request.TheVariants as request
 use Rattle.etcd_types.specs.Keys.{same}
@@ -18,22 +15,19 @@ use Rattle.etcd_types.proofs.Bools.{and_both, not_true, or_first, or_second}
 use Rattle.store_model.specs.declared.history.KeyChange.{KeyChange}
 use Rattle.store_model.specs.declared.history.KeyChange.TheVariants as change
 use Rattle.store_model.specs.declared.store_fault.StoreFault.TheVariants as fault
-use Rattle.store_model.specs.History.{History, newest, up_to_revision}
+use Rattle.store_model.specs.History.{History}
 use Rattle.store_model.specs.Records.{record_now}
 use Rattle.store_model.specs.Ranges.{records_now, keys_in}
-use Rattle.store_model.specs.State.{State, applied_by}
-use Rattle.store_model.specs.Reads.{read}
-use Rattle.store_model.specs.Transactions.{Ran, seen, run_put, deletion, run_delete, run, has_lease}
-use Rattle.store_model.specs.FirstRefusals.{first_refusal}
+use Rattle.store_model.specs.State.{State}
+use Rattle.store_model.specs.Transactions.{seen, run_put, deletion, run_delete, has_lease}
 use Rattle.store_model.specs.Leases.{all_keys, is_attached, attached, ended, expired, record_key}
-use Rattle.store_model.specs.Step.{Step, exec, exec_op, exec_range, exec_compact, exec_grant, exec_revoke, read_applied, told_at, unless, settled}
 use Rattle.store_model.specs.Leaves.{all_leaves, all_leaves_row}
 use Rattle.store_model.proofs.RunLemmas.{put_ok, delete_ok, seen-record, has_record, deletions-record}
 use Rattle.store_laws.specs.NamedKeys.{names, names_row, is_on_lease, request_names, KeepsRecord, UnnamedKeysStay, UnattachedKeysStay}
 use Rattle.store_laws.proofs.Deletions.{deleted-record, ended-record, has-tested}
 use Rattle.store_laws.proofs.Lifted.{Keeps, Holds, lifted}
 use Rattle.store_laws.proofs.RangeProofs.{keyed-now}
-use Rattle.store_laws.proofs.StepCases.{op_of, exec_by}
+use Rattle.store_laws.proofs.StepCases.{op_of, exec_by, same_op}
 
 abbrev pub apart_put : List ℕ → PutAsk → Bool
 apart_put k ask = not (same ask.key k)
@@ -110,14 +104,6 @@ keeps-ended k s number n = ended-record s number k ∙ by_test (has_record k (at
     by_test false e = refl
 
 -- requests
-
-some_op : Op → Option Op → Op
-some_op d None = d
-some_op d (Some op) = op
-
-same_op : (x y : Op) → Some x ≡ Some y → x ≡ y
-unfolding some_op
-same_op x y e = ap (some_op x) e
 
 -- what a request doesn't name, its operation doesn't
 unnamed_by : (s : State) (k : List ℕ) (q : Request) (op : Op) → op_of q ≡ Some op → request_names s k q ≡ false → names k op ≡ false

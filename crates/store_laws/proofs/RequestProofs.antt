@@ -1,23 +1,16 @@
 -- One revision at most, and none at a refusal.
-use Rattle.std.proofs.Common.{◌≡◌, ℕ, Bool, true, false, cond, nat_lt, nat_le, [], Option, None, Some, Result, Ok, Err, map, refl, subst}
-use Rattle.etcd_types.specs.declared.operation.RangeAsk.{RangeAsk}
-use Rattle.etcd_types.specs.declared.operation.Op.{Op}
-use Rattle.etcd_types.specs.declared.operation.Op.TheVariants.{Range, Put, Delete, Txn}
+use Rattle.std.proofs.Common.{◌≡◌, ℕ, Bool, true, false, cond, [], Ok, Err, map, refl, subst}
 use Rattle.etcd_types.specs.declared.request.Request.{Request}
-use Rattle.etcd_types.specs.declared.request.Request.TheVariants as request
 use Rattle.etcd_types.specs.declared.answer.Answer.TheVariants as answer
 use Rattle.etcd_types.specs.declared.answer.Body.{Body}
 use Rattle.etcd_types.specs.declared.answer.Refusal.{Refusal}
 use Rattle.etcd_types.specs.declared.answer.Body.TheVariants as body
 use Rattle.store_model.specs.declared.store_fault.StoreFault.TheVariants as fault
-use Rattle.store_model.specs.History.{newest, up_to_revision, with_revision}
-use Rattle.store_model.specs.Refusals.{compacted_revision, future_revision, lease_not_found, lease_exists}
-use Rattle.store_model.specs.State.{State, applied_by}
-use Rattle.store_model.specs.Reads.{read}
-use Rattle.store_model.specs.Transactions.{Ran, run, has_lease, deletion}
-use Rattle.store_model.specs.FirstRefusals.{first_refusal}
+use Rattle.store_model.specs.History.{with_revision}
+use Rattle.store_model.specs.State.{State}
+use Rattle.store_model.specs.Transactions.{has_lease, deletion}
 use Rattle.store_model.specs.Leases.{attached, ended, expired, with_lease, granted_lease, granted_ttl, asked_number}
-use Rattle.store_model.specs.Step.{Step, exec, exec_op, exec_range, exec_compact, exec_grant, exec_revoke, done, refused, unless, settled, told_at, read_applied}
+use Rattle.store_model.specs.Step.{Step, exec, done, refused}
 use Rattle.store_laws.proofs.StepCases.{exec_by}
 use Rattle.store_laws.specs.Requests.{GainsOneRevision, MakeOneRevision, ExpiriesMakeOneRevision, RefusalsChangeNothing}
 

@@ -1,6 +1,6 @@
 -- What a request can do to a store: whatever holds of these few steps holds of the step of every request.
-use Rattle.std.proofs.Common.{◌≡◌, ℕ, ◌≤◌, ◌<◌, Bool, true, false, cond, not, ◌&&◌, ◌||◌, ◌==◌, nat_lt, nat_le, List, [], ◌∷◌, map, Option, None, Some, Result, Ok, Err, refl, arith}
-use Rattle.std.proofs.lemmas.Bool.{cond_both, leb-false, ltb-false}
+use Rattle.std.proofs.Common.{◌≡◌, ℕ, ◌≤◌, ◌<◌, Bool, true, false, cond, not, ◌&&◌, ◌==◌, nat_lt, nat_le, List, [], map, Option, None, Some, Result, Ok, Err, refl, ap, arith}
+use Rattle.std.proofs.lemmas.Bool.{cond_both}
 use Rattle.std.proofs.lemmas.Bool.Decides.{nat_tests}
 use Rattle.etcd_types.specs.declared.operation.PutAsk.{PutAsk}
 use Rattle.etcd_types.specs.declared.operation.RangeAsk.{RangeAsk}
@@ -23,7 +23,7 @@ use Rattle.store_model.specs.Compares.{all_hold}
 use Rattle.store_model.specs.FirstRefusals.{first_refusal, first_of_three, exceeds, lacks_key, repeats_key, operations_limit}
 use Rattle.store_model.specs.Leases.{asked_number, granted_lease, granted_ttl, granted, with_lease, ended, lease_number, time_to_live}
 use Rattle.store_model.specs.Transactions.{Ran, RanAll, seen, unchanged, run, run_row, put_on, has_lease, answered, with_body, first_then}
-use Rattle.store_model.specs.Step.{Step, exec, exec_op, exec_range, exec_compact, exec_grant, exec_revoke, done, refused, unless, settled, told_at, read_applied}
+use Rattle.store_model.specs.Step.{Step, exec, exec_op, done, refused, unless, settled, told_at, read_applied}
 use Rattle.store_laws.specs.Answered.{is_known, is_serializable}
 
 -- the operation that a request is, if it is one
@@ -33,6 +33,14 @@ op_of (request.Put ask) = Some (Put ask)
 op_of (request.Delete ask) = Some (Delete ask)
 op_of (request.Txn txn) = Some (Txn txn)
 op_of _ = None
+
+some_op : Op → Option Op → Op
+some_op d None = d
+some_op d (Some op) = op
+
+pub same_op : (x y : Op) → Some x ≡ Some y → x ≡ y
+unfolding some_op
+same_op x y e = ap (some_op x) e
 
 pub record StepCases (s : State) (member : ℕ) (Q : Request → Step → Type 0) : Type 0 where
   -- a refusal

@@ -1,6 +1,5 @@
 pub mod Requests
 pub mod Ranges
 pub mod NamedKeys
-pub mod WatchRuns
 pub mod Branches
 pub mod Answered

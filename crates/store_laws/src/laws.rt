@@ -2,7 +2,6 @@ ghost use Rattle.store_laws.specs.Requests.{MakeOneRevision, ExpiriesMakeOneRevi
 ghost use Rattle.store_laws.specs.NamedKeys.{UnnamedKeysStay, UnattachedKeysStay};
 ghost use Rattle.store_laws.specs.Answered.{RefusalsAreKnown, RepliesTellRevisions};
 ghost use Rattle.store_laws.specs.Branches.{BranchesAreNamed, BranchesLeave};
-ghost use Rattle.store_laws.specs.WatchRuns.{TellEachOnce, TellAll, TellUpToNext, ProgressIsTrue, PreviousAreEarlier, RequestsLeaveWatches, ExpiriesLeaveWatches, AppliesLeaveWatches, OpeningsLeaveWatches, MessagesLeaveOtherWatches};
 ghost use Rattle.store_laws.specs.Ranges.{RangesRise, RangesAreExact};
 
 /// A request makes at most one revision, which has all its changes, and so does a lease that expires.
@@ -40,31 +39,4 @@ pub fn unnamed_keys_stay()
 pub fn only_the_chosen_branch_runs()
     ensures named { BranchesAreNamed }
     ensures left { BranchesLeave }
-{}
-
-/// The messages of a watch, put one behind the other, are the history's events of its range from its start, each once and
-/// in order: those up to the revision before the one that the watch waits for, and all of them where there is nothing to push.
-pub fn watches_tell_each_event_once()
-    ensures once { TellEachOnce }
-    ensures next { TellUpToNext }
-    ensures all { TellAll }
-{}
-
-/// A message on progress is true: all events up to its header's revision were told before it.
-pub fn progress_is_true()
-    ensures { ProgressIsTrue }
-{}
-
-/// The record before an event is an earlier one of the event's key, and comes only where it was asked for.
-pub fn previous_records_are_earlier()
-    ensures { PreviousAreEarlier }
-{}
-
-/// Between the messages of a watch every other step of the store leaves the watch as it is, and its history only grows.
-pub fn other_steps_leave_watches()
-    ensures requests { RequestsLeaveWatches }
-    ensures expiries { ExpiriesLeaveWatches }
-    ensures applies { AppliesLeaveWatches }
-    ensures openings { OpeningsLeaveWatches }
-    ensures messages { MessagesLeaveOtherWatches }
 {}

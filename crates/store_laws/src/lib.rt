@@ -4,7 +4,6 @@
 mod laws;
 
 pub use laws::{
-    answers_tell_what_was_done, only_the_chosen_branch_runs, other_steps_leave_watches,
-    previous_records_are_earlier, progress_is_true, ranges_show_their_records, refusals_change_nothing, requests_make_one_revision, unnamed_keys_stay,
-    watches_tell_each_event_once,
+    answers_tell_what_was_done, only_the_chosen_branch_runs, ranges_show_their_records,
+    refusals_change_nothing, requests_make_one_revision, unnamed_keys_stay,
 };

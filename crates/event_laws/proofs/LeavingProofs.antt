@@ -16,7 +16,7 @@ use Rattle.store_model.specs.Leases.{attached, ended, expired}
 use Rattle.store_model.specs.Watches.{watch_of, with_next, first_next, next_after, events_for, for_watch, Pushed, push_events, push_to, progress_to, is_synced, watch_header, pushed, progressed}
 use Rattle.store_model.specs.Step.{exec}
 use Rattle.store_laws.specs.Requests.{GainsOneRevision}
-use Rattle.store_laws.specs.WatchRuns.{LeavesWatch, RequestsLeaveWatches, ExpiriesLeaveWatches, AppliesLeaveWatches, OpeningsLeaveWatches, MessagesLeaveOtherWatches}
+use Rattle.event_laws.specs.WatchRuns.{LeavesWatch, RequestsLeaveWatches, ExpiriesLeaveWatches, AppliesLeaveWatches, OpeningsLeaveWatches, MessagesLeaveOtherWatches}
 use Rattle.store_laws.proofs.RequestProofs.{whole-exec}
 
 Grown : History → History → Type 0
@@ -140,6 +140,17 @@ progressed_moves s t number i e =
     found_moves s t number i (watch_of s number) (progress_to s number) refl
     (λ w f g. progress_moves (not w.ask.progress) (is_synced s w) s number (max w.next (newest s.history + 1)) w t (item.Events (watch_header s w) []) i (fault.NotAsked number) (fault.NotSynced w.next (newest s.history)) f g)
     e
+
+watches_moved : (s t : State) (number : ℕ) → Moves number s t → (ws : List OpenWatch) × (record s { watches = ws } ≡ t)
+unfolding Moves
+watches_moved s t number (inl e) = (s.watches, e)
+watches_moved s t number (inr (w, k, f, e)) = (set s.watches (number - 1) (record w { next = k }), e)
+
+-- so of the store it moves the watches alone
+pub message_moves : (s t : State) (i : WatchItem) (number : ℕ) → (pushed s number ≡ Ok (t, i)) ⊎ (progressed s number ≡ Ok (t, i))
+    → (ws : List OpenWatch) × (record s { watches = ws } ≡ t)
+message_moves s t i number (inl e) = watches_moved s t number (pushed_moves s t number i e)
+message_moves s t i number (inr e) = watches_moved s t number (progressed_moves s t number i e)
 
 get_other : {A : Type 0} (xs : List A) (i j : ℕ) (y : A) → (i ≡ j → ⊥) → slice_get (set xs i y) j ≡ slice_get xs j
 get_other [] i j y n = refl

@@ -1,7 +1,7 @@
 -- The records before events: what the history has before the event's revision, after the changes that come first in that revision.
-use Rattle.std.proofs.Common.{◌≡◌, ℕ, ◌+◌, ◌-◌, ◌≤◌, Bool, true, false, cond, ◌||◌, nat_lt, nat_le, List, [], ◌∷◌, ◌++◌, length, take, drop, Option, None, Some, map, filter, refl, sym, ◌∙◌, ap, subst, ◌⊎◌, inl, inr, arith}
+use Rattle.std.proofs.Common.{◌≡◌, ℕ, ◌+◌, ◌-◌, Bool, true, false, cond, ◌||◌, nat_lt, nat_le, List, [], ◌∷◌, ◌++◌, length, take, drop, Option, None, Some, filter, refl, sym, ◌∙◌, ap, ◌⊎◌, inl, inr, arith}
 use Rattle.std.specs.List.{All}
-use Rattle.std.proofs.lemmas.List.{append-nil, take-append-drop}
+use Rattle.std.proofs.lemmas.List.{take-append-drop}
 use Rattle.std.proofs.lemmas.List.Elements.{All-nil, All-cons, All-append, All-filter, All-map, All-weaker}
 use Rattle.etcd_types.specs.declared.record.Kv.{Kv}
 use Rattle.etcd_types.specs.declared.key_range.KeyRange.{KeyRange}
@@ -14,10 +14,10 @@ use Rattle.store_model.specs.declared.history.KeyChange.{KeyChange}
 use Rattle.store_model.specs.declared.history.KeyChange.TheVariants.{Put, Delete}
 use Rattle.store_model.specs.History.{History, newest, up_to_revision, with_revision, changed_key}
 use Rattle.store_model.specs.Records.{after_change, after_changes, record_now, record_at}
-use Rattle.store_model.specs.Events.{event_of, events_of_changes, events_after, events, event_revision, passes, visible_prev, told_event, watch_events}
+use Rattle.store_model.specs.Events.{event_of, events_of_changes, events_after, events, event_revision, passes, visible_prev, told_event}
 use Rattle.store_model.proofs.HistoryLemmas.{record_now-with_revision}
-use Rattle.store_laws.specs.WatchRuns.{change_key, HasPrevious, PreviousAreEarlier}
-use Rattle.store_laws.proofs.EventProofs.{change_is}
+use Rattle.event_laws.specs.WatchRuns.{change_key, HasPrevious, PreviousAreEarlier}
+use Rattle.event_laws.proofs.EventProofs.{change_is}
 use Rattle.store_laws.proofs.RangeProofs.{keyed-now}
 
 -- a record after the changes of a revision is the one before, or was made by them

@@ -13,7 +13,7 @@ use Rattle.store_model.specs.History.{History, newest, up_to_revision, with_revi
 use Rattle.store_model.specs.Records.{record_now}
 use Rattle.store_model.specs.Events.{event_of, events_of_changes, events_after, event_revision, passes, told_event}
 use Rattle.store_model.specs.Watches.{next_after}
-use Rattle.store_laws.specs.WatchRuns.{watched, bare}
+use Rattle.event_laws.specs.WatchRuns.{watched, bare}
 
 -- cutting
 

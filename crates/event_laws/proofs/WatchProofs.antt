@@ -16,8 +16,8 @@ use Rattle.store_model.specs.State.{State}
 use Rattle.store_model.specs.Events.{told_event}
 use Rattle.store_model.specs.Watches.{watch_of, for_watch, with_next, first_next, next_after, events_for, Pushed, push_events, push_to, progress_to, is_nil, is_synced, pushed, progressed, watch_header}
 use Rattle.store_model.proofs.WatchLemmas.{pushed-some, progressed-some}
-use Rattle.store_laws.specs.WatchRuns.{watched, bare, LeavesWatch, Told, created, other, events_pushed, progress_told, AreFirst, TellEachOnce, TellAll, TellUpToNext, IsProgress, ProgressIsTrue}
-use Rattle.store_laws.proofs.EventProofs.{batched, watched-cut, watched-none, watched-past, bare-told, next-told}
+use Rattle.event_laws.specs.WatchRuns.{watched, bare, LeavesWatch, Told, created, other, events_pushed, progress_told, AreFirst, TellEachOnce, TellAll, TellUpToNext, IsProgress, ProgressIsTrue}
+use Rattle.event_laws.proofs.EventProofs.{batched, watched-cut, watched-none, watched-past, bare-told, next-told}
 
 -- what stands in two messages
 

@@ -1,0 +1,4 @@
+pub mod EventProofs
+pub mod WatchProofs
+pub mod LeavingProofs
+pub mod PreviousProofs

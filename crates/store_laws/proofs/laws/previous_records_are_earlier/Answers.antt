@@ -1,5 +1,0 @@
-use Rattle.store_laws.proofs.PreviousProofs.{previous_are_earlier}
-use Rattle.store_laws.proofs.laws.previous_records_are_earlier.Goals as goal
-
-pub returns : goal.returns
-returns c = previous_are_earlier

@@ -1,0 +1,5 @@
+pub mod MadeRecords
+pub mod TestedKeys
+pub mod Sound
+pub mod Leases
+pub mod Compactions
