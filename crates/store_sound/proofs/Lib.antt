@@ -5,3 +5,4 @@ pub mod SoundProofs
 pub mod LeaseProofs
 pub mod RecordLeases
 pub mod CompactionProofs
+pub mod LifeProofs

@@ -49,7 +49,7 @@ none-lacks_key op e = by_tests (exceeds operations_limit op) (lacks_key op) (rep
 
 -- keys
 
-seen-keys : (test : List ℕ → Bool) (s : State) (made : List KeyChange) → list_all (keys_pass test) s.history ≡ true → keys_pass test made ≡ true → list_all (keys_pass test) (seen s made) ≡ true
+pub seen-keys : (test : List ℕ → Bool) (s : State) (made : List KeyChange) → list_all (keys_pass test) s.history ≡ true → keys_pass test made ≡ true → list_all (keys_pass test) (seen s made) ≡ true
 seen-keys test s made k h = with_revision-all (keys_pass test) s.history made k (λ c cs e. h)
 
 pub keep_keys : (test : List ℕ → Bool) (s : State) → list_all (keys_pass test) s.history ≡ true → Keeps s (λ made. keys_pass test made ≡ true) (puts_pass test) any_delete

@@ -3,3 +3,4 @@ pub mod TestedKeys
 pub mod Sound
 pub mod Leases
 pub mod Compactions
+pub mod Lives

@@ -1,6 +1,7 @@
 ghost use Rattle.store_sound.specs.MadeRecords.{RecordsAreMade};
 ghost use Rattle.store_sound.specs.TestedKeys.{KeysStayTested, ExpiriesKeepTested};
 ghost use Rattle.store_sound.specs.Sound.{StartsSound, RequestsKeepSound, ExpiriesKeepSound, AppliesKeepSound, OpeningsKeepSound, MessagesKeepSound};
+ghost use Rattle.store_sound.specs.Lives.{LivesAreSound};
 ghost use Rattle.store_sound.specs.Leases.{LeasesStay, OtherLeasesStay, ExpiredLeasesGo, RevokedLeasesGo, AttachedKeysGo, GrantsAreThere, KeepAlivesTell, RecordsKeepLeases};
 ghost use Rattle.store_sound.specs.Compactions.{CompactionsAreExact, CompactionsRise, OthersDontCompact};
 
@@ -13,6 +14,7 @@ pub fn stores_are_sound()
     ensures applies { AppliesKeepSound }
     ensures openings { OpeningsKeepSound }
     ensures messages { MessagesKeepSound }
+    ensures lives { LivesAreSound }
 {}
 
 /// What the keys of all puts have in common, all keys of the history have in common.

@@ -1,4 +1,5 @@
 use Rattle.store_sound.proofs.Histories.{records_are_made}
+use Rattle.store_sound.proofs.LifeProofs.{lives_are_sound}
 use Rattle.store_sound.proofs.SoundProofs.{starts_sound, requests_keep_sound, expiries_keep_sound, applies_keep_sound, openings_keep_sound, messages_keep_sound}
 use Rattle.store_sound.proofs.laws.stores_are_sound.Goals as goal
 
@@ -11,4 +12,5 @@ returns c = record {
   applies = applies_keep_sound;
   openings = openings_keep_sound;
   messages = messages_keep_sound;
+  lives = lives_are_sound;
 }
