@@ -2,19 +2,33 @@
 //! clientv3 has it: a client never reads behind what it has seen.
 #![tactic(auto)]
 
-ghost use Rattle.std.specs.Prelude.{◌≡◌, ◌≤◌, Ok, Err, if◌then◌else◌};
+ghost use Rattle.std.specs.Prelude.{◌≡◌, ◌≤◌, ◌++◌, Ok, Err, Some, codes, decimal, if◌then◌else◌};
 ghost use Rattle.proxy_model.specs.Members.{first_members, failed, take_seen, is_stale};
 
+use std::error::Error;
+use std::fmt;
 use std::marker::Model;
-use thiserror::Error;
 
 /// An answer came from a member that is behind: its header has revision `got`, and `needed` was seen when it was sent.
-#[derive(Clone, Copy, Debug, PartialEq, Eq, Error)]
-#[error("stale reply: revision {got} is below {needed}")]
+#[derive(Clone, Copy, Debug, PartialEq, Eq)]
 pub struct Stale {
     pub needed: u64,
     pub got: u64,
 }
+
+impl fmt::Display for Stale {
+    ghost output = { λ s. Some (codes "stale reply: revision " ++ decimal s.got ++ codes " is below " ++ decimal s.needed) };
+
+    fn fmt<W: fmt::Write>(&self, f: &mut fmt::Formatter<W>) -> fmt::Result {
+        write!(
+            f,
+            "stale reply: revision {} is below {}",
+            self.got, self.needed
+        )
+    }
+}
+
+impl Error for Stale {}
 
 /// The members of a cluster, numbered from 1, the current one among them, and the revision seen.
 #[derive(Debug, Drop)]
