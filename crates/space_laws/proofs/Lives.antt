@@ -13,23 +13,23 @@ use Rattle.store_sound.specs.Sound.{Sound}
 use Rattle.store_sound.specs.TestedKeys.{have_keys}
 use Rattle.store_sound.proofs.LifeProofs.{step_sound}
 use Rattle.store_sound.proofs.SoundProofs.{starts_sound}
-use Rattle.space_laws.specs.Stored.{stored}
-use Rattle.space_laws.specs.StoredWatches.{stored_pushed, stored_applied}
+use Rattle.space_laws.specs.Stored.{stored_after, stored}
+use Rattle.space_laws.specs.StoredWatches.{stored_pushed}
 use Rattle.space_laws.specs.Lives.{step_under, step_lacks, LivesAreStored}
-use Rattle.space_laws.proofs.Steps.{stored_stores_answer, expired-under}
+use Rattle.space_laws.proofs.Steps.{stored_stores_answer, expiries_are_stored}
 use Rattle.space_laws.proofs.Watches.{openings_are_stored, pushes_are_stored, progress_is_stored, applies_are_stored}
 
 pushed_same : (ns : List ℕ) (s : State) (p : Pushed) → pushed_or (stored ns s) (stored_pushed ns p) ≡ stored ns (pushed_or s p)
 pushed_same ns s (Ok p) = refl
 pushed_same ns s (Err fault) = refl
 
-state_same : (ns : List ℕ) (s : State) (r : Result State StoreFault) → state_or (stored ns s) (stored_applied ns r) ≡ stored ns (state_or s r)
+state_same : (ns : List ℕ) (s : State) (r : Result State StoreFault) → state_or (stored ns s) (stored_after ns r) ≡ stored ns (state_or s r)
 state_same ns s (Ok t) = refl
 state_same ns s (Err fault) = refl
 
 step_stored : (ns : List ℕ) (s : State) (e : StoreStep) → list_all have_keys s.history ≡ true → not (step_lacks e) ≡ true → stepped (stored ns s) (step_under ns e) ≡ stored ns (stepped s e)
 step_stored ns s (executes member q) k n = ap (λ (step : Step). step.0) (stored_stores_answer ns s member q k (not_true _ n))
-step_stored ns s (expires lease) k n = ap (state_or (stored ns s)) (expired-under ns s lease k) ∙ state_same ns s (expired s lease)
+step_stored ns s (expires lease) k n = ap (state_or (stored ns s)) (expiries_are_stored ns s lease k) ∙ state_same ns s (expired s lease)
 step_stored ns s (applies member revision) k n = ap (state_or (stored ns s)) (applies_are_stored ns s member revision) ∙ state_same ns s (applied s member revision)
 step_stored ns s (opens member ask) k n = ap (λ (x : State × ℕ). x.0) (openings_are_stored ns s member ask)
 step_stored ns s (pushes number) k n = ap (pushed_or (stored ns s)) (pushes_are_stored ns s number k) ∙ pushed_same ns s (pushed s number)

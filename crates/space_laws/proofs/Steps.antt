@@ -25,9 +25,8 @@ use Rattle.store_model.specs.Step.{Step, exec, exec_op, exec_range, exec_compact
 use Rattle.proxy_model.specs.Wrapped.{range_under, operation_under}
 use Rattle.namespace_keys.proofs.Nested.{operation_under-Txn}
 use Rattle.store_sound.specs.TestedKeys.{have_keys}
-use Rattle.space_laws.specs.Stored.{stored, stored_key, stored_changes, stored_history, stored_record, stored_records, stored_body, stored_told, stored_step}
+use Rattle.space_laws.specs.Stored.{stored_after, stored, stored_key, stored_changes, stored_history, stored_record, stored_records, stored_body, stored_told, stored_step}
 use Rattle.space_laws.specs.Laws.{StoredStoresAnswer, ExpiriesAreStored}
-use Rattle.space_laws.specs.StoredWatches.{stored_applied}
 use Rattle.space_laws.proofs.Keys.{pushed, pushed2}
 use Rattle.space_laws.proofs.Records.{records_now-under, read-under, with_revision-under, newest-under, all_taken}
 use Rattle.space_laws.proofs.Runs.{stored_ran, run-under, deletions-under}
@@ -114,26 +113,15 @@ revoke_under ns s member number k =
     ∙ ap (λ (step : Step). cond (has_lease s.leases number) step (refused (stored ns s) lease_not_found)) (done_under ns (ended s number) member body.Revoke)
     ∙ pushed (stored_step ns) (has_lease s.leases number) (done (ended s number) member body.Revoke) (refused s lease_not_found)
 
-expired_by : (ns : List ℕ) (known : Bool) (u t : State) (f : StoreFault) → ◌≡◌ {A = Result State StoreFault} (cond known (Ok u) (Err f)) (Ok t) → ◌≡◌ {A = Result State StoreFault} (cond known (Ok (stored ns u)) (Err f)) (Ok (stored ns t))
-expired_by ns true u t f e = let same : u ≡ t = cc in ap (λ (v : State). Ok (stored ns v)) same
-expired_by ns false u t f e = absurd (cc)
-
-expired_either : (ns : List ℕ) (known : Bool) (u : State) (f : StoreFault) → ◌≡◌ {A = Result State StoreFault} (cond known (Ok (stored ns u)) (Err f)) (stored_applied ns (cond known (Ok u) (Err f)))
+expired_either : (ns : List ℕ) (known : Bool) (u : State) (f : StoreFault) → ◌≡◌ {A = Result State StoreFault} (cond known (Ok (stored ns u)) (Err f)) (stored_after ns (cond known (Ok u) (Err f)))
 expired_either ns true u f = refl
 expired_either ns false u f = refl
 
--- an expiry, whether the lease is there or not
-pub expired-under : (ns : List ℕ) (s : State) (lease : ℕ) → list_all have_keys s.history ≡ true → expired (stored ns s) lease ≡ stored_applied ns (expired s lease)
-unfolding expired
-expired-under ns s lease k =
-    ap (λ (u : State). cond (has_lease s.leases lease) (Ok u) (Err (fault.NoSuchLease lease))) (ended_under ns s lease k)
-    ∙ expired_either ns (has_lease s.leases lease) (ended s lease) (fault.NoSuchLease lease)
-
 pub expiries_are_stored : ExpiriesAreStored
 unfolding expired
-expiries_are_stored ns s t lease k e =
+expiries_are_stored ns s lease k =
     ap (λ (u : State). cond (has_lease s.leases lease) (Ok u) (Err (fault.NoSuchLease lease))) (ended_under ns s lease k)
-    ∙ expired_by ns (has_lease s.leases lease) (ended s lease) t (fault.NoSuchLease lease) e
+    ∙ expired_either ns (has_lease s.leases lease) (ended s lease) (fault.NoSuchLease lease)
 
 -- the time to live of a lease, with its keys
 

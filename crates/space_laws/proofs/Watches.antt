@@ -26,8 +26,8 @@ use Rattle.std.specs.Option.{option_map}
 use Rattle.etcd_types.proofs.Bools.{and_first, and_second, not_true}
 use Rattle.proxy_model.specs.Wrapped.{watch_under}
 use Rattle.store_sound.specs.TestedKeys.{has_key, have_keys}
-use Rattle.space_laws.specs.Stored.{stored, stored_change, stored_changes, stored_history, stored_prev, stored_watch}
-use Rattle.space_laws.specs.StoredWatches.{stored_event_change, stored_event, stored_events, stored_pushed, stored_applied, StartsAreStored, OpeningsAreStored, PushesAreStored, ProgressIsStored, AppliesAreStored}
+use Rattle.space_laws.specs.Stored.{stored_after, stored, stored_change, stored_changes, stored_history, stored_prev, stored_watch}
+use Rattle.space_laws.specs.StoredWatches.{stored_event_change, stored_event, stored_events, stored_pushed, StartsAreStored, OpeningsAreStored, PushesAreStored, ProgressIsStored, AppliesAreStored}
 use Rattle.space_laws.proofs.Keys.{pushed2, Like, like_under}
 use Rattle.space_laws.proofs.Records.{put_under_is, records_are_stored, with_revision-under, newest-under}
 
@@ -227,4 +227,4 @@ applies_are_stored ns s member revision =
     let done : Result State StoreFault = Ok (record s { applied = set s.applied (member - 1) revision }) in
     (λ i. cond (lacks_member s member) (Err (fault.NoSuchMember member))
     (cond (nat_lt revision (applied_by s member) || nat_lt (newest-under ns s.history i) revision) (Err (fault.BadApply (applied_by s member) (newest-under ns s.history i))) (Ok (record (stored ns s) { applied = set s.applied (member - 1) revision }))))
-    ∙ pushed2 (stored_applied ns) (lacks_member s member) (nat_lt revision (applied_by s member) || nat_lt (newest s.history) revision) lacks bad done
+    ∙ pushed2 (stored_after ns) (lacks_member s member) (nat_lt revision (applied_by s member) || nat_lt (newest s.history) revision) lacks bad done

@@ -1,4 +1,4 @@
--- The laws on a proxy's own transactions, as a core sends and reads them: under a namespace.
+-- The laws on a proxy's own transactions, as a proxy sends and reads them: under its namespace.
 use Rattle.std.specs.Prelude.{◌≡◌, ℕ, true, false, List, Some, Ok}
 use Rattle.std.specs.List.{list_all}
 use Rattle.etcd_types.specs.declared.answer.Answer.TheVariants as answer
@@ -30,12 +30,14 @@ AnswersComeBack =
     (ns : List ℕ) (s : State) (member : ℕ) (t : TxnAsk) (wrapped : Reply) → list_all have_keys s.history ≡ true → lacks_key (op.Txn t) ≡ false → AnswersUnder ns s member t wrapped
     → (reply : Reply) × (reply_without ns wrapped ≡ Ok reply) × Answers s member t reply × (fits_txn t reply.body ≡ true)
 
+-- what an acquire tells is what the store of the bare keys tells
 abbrev pub ClaimsComeBack : Type 0
 ClaimsComeBack =
     (ns : List ℕ) (s : State) (member : ℕ) (p k : List ℕ) (lease : ℕ) (wrapped : Reply) → list_all have_keys s.history ≡ true → is_empty p ≡ false → is_empty k ≡ false
     → AnswersUnder ns s member (acquire p k lease) wrapped
     → (reply : Reply) × (reply_without ns wrapped ≡ Ok reply) × (claimed p k reply ≡ Some (claim_now s p k lease reply.header.revision))
 
+-- and so is what a guarded write tells
 abbrev pub WritesComeBack : Type 0
 WritesComeBack =
     (ns : List ℕ) (s : State) (member : ℕ) (p : List ℕ) (write : Request) (created : List ℕ → ℕ) (wrapped : Reply) → list_all have_keys s.history ≡ true

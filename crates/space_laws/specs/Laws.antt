@@ -1,4 +1,5 @@
--- What a store under a namespace does: all that the store of the bare keys does.
+-- What a store under a namespace does (etcd's documentation of clientv3's package `namespace`): all that the store of the bare
+-- keys does. No key of that store is empty, and the request names none.
 use Rattle.std.specs.Prelude.{◌≡◌, ℕ, Bool, true, false, List, ◌++◌, Ok}
 use Rattle.std.specs.List.{list_all}
 use Rattle.etcd_types.specs.declared.operation.Op.TheVariants.{Range, Put, Delete, Txn}
@@ -14,7 +15,7 @@ use Rattle.store_model.specs.Step.{exec}
 use Rattle.proxy_model.specs.Wrapped.{request_under}
 use Rattle.proxy_model.specs.Unwrapped.{reply_without}
 use Rattle.store_sound.specs.TestedKeys.{have_keys}
-use Rattle.space_laws.specs.Stored.{stored, stored_history, stored_prev, stored_reply, stored_step}
+use Rattle.space_laws.specs.Stored.{stored, stored_after, stored_history, stored_prev, stored_reply, stored_step}
 
 -- some key of a put, a range, a deletion or a compare is empty
 abbrev pub request_lacks : Request → Bool
@@ -31,9 +32,10 @@ StoredStoresAnswer =
     (ns : List ℕ) (s : State) (member : ℕ) (q : Request) → list_all have_keys s.history ≡ true → request_lacks q ≡ false
     → exec (stored ns s) member (request_under ns q) ≡ stored_step ns (exec s member q)
 
+-- so does a lease that expires, or isn't there
 abbrev pub ExpiriesAreStored : Type 0
 ExpiriesAreStored =
-    (ns : List ℕ) (s t : State) (lease : ℕ) → list_all have_keys s.history ≡ true → expired s lease ≡ Ok t → expired (stored ns s) lease ≡ Ok (stored ns t)
+    (ns : List ℕ) (s : State) (lease : ℕ) → list_all have_keys s.history ≡ true → expired (stored ns s) lease ≡ stored_after ns (expired s lease)
 
 -- what it answers unwraps, with no foreign key
 abbrev pub RepliesUnwrap : Type 0

@@ -1,4 +1,5 @@
--- A store, and what it answers, with each key under a namespace.
+-- A store, and what it answers, with each key under a namespace: the namespace stands before the key (etcd's documentation of
+-- clientv3's package `namespace`).
 use Rattle.std.specs.Prelude.{ℕ, List, [], ◌∷◌, ◌++◌, map, Option, Result, Ok, Err}
 use Rattle.etcd_types.specs.declared.record.Kv.{Kv}
 use Rattle.etcd_types.specs.declared.answer.Body.{Body, Row_of-Body, end_of-Body, more_of-Body}
@@ -9,6 +10,7 @@ use Rattle.etcd_types.specs.declared.answer.Answer.TheVariants as answer
 use Rattle.etcd_types.specs.declared.answer.Refusal.{Refusal}
 use Rattle.store_model.specs.declared.history.KeyChange.{KeyChange}
 use Rattle.store_model.specs.declared.history.KeyChange.TheVariants as change
+use Rattle.store_model.specs.declared.store_fault.StoreFault.{StoreFault}
 use Rattle.store_model.specs.declared.watch.OpenWatch.{OpenWatch}
 use Rattle.store_model.specs.History.{History}
 use Rattle.store_model.specs.State.{State}
@@ -78,3 +80,8 @@ stored ns s = record s { history = stored_history ns s.history; watches = map (s
 
 abbrev pub stored_step : List ℕ → Step → Step
 stored_step ns step = (stored ns step.0, stored_answer ns step.1)
+
+-- what a step of the store leaves, or why it wasn't taken
+abbrev pub stored_after : List ℕ → Result State StoreFault → Result State StoreFault
+stored_after ns (Ok t) = Ok (stored ns t)
+stored_after ns (Err fault) = Err fault

@@ -1,4 +1,4 @@
--- Watch messages with each key under a namespace.
+-- Watches and their messages with each key under a namespace (etcd's documentation of clientv3's package `namespace`).
 use Rattle.std.specs.Prelude.{◌≡◌, ℕ, List, ◌++◌, map, Ok, Err, true, Result}
 use Rattle.std.specs.List.{list_all}
 use Rattle.etcd_types.specs.declared.watch.Change.{Change}
@@ -14,7 +14,7 @@ use Rattle.store_model.specs.Watches.{Pushed, pushed, progressed, opened}
 use Rattle.proxy_model.specs.Wrapped.{watch_under}
 use Rattle.proxy_model.specs.Unwrapped.{item_without}
 use Rattle.store_sound.specs.TestedKeys.{have_keys}
-use Rattle.space_laws.specs.Stored.{stored, stored_record, stored_prev}
+use Rattle.space_laws.specs.Stored.{stored, stored_after, stored_record, stored_prev}
 
 abbrev pub stored_event_change : List ℕ → Change → Change
 stored_event_change ns (event.Put kv) = event.Put (stored_record ns kv)
@@ -39,6 +39,7 @@ stored_pushed ns (Err fault) = Err fault
 abbrev pub StartsAreStored : Type 0
 StartsAreStored = (ns : List ℕ) (members : ℕ) → stored ns (starting members) ≡ starting members
 
+-- a watch that is opened, its messages, its progress and what members apply are those of the bare keys
 abbrev pub OpeningsAreStored : Type 0
 OpeningsAreStored =
     (ns : List ℕ) (s : State) (member : ℕ) (ask : WatchAsk) → opened (stored ns s) member (watch_under ns ask) ≡ (stored ns (opened s member ask).0, (opened s member ask).1)
@@ -49,13 +50,9 @@ PushesAreStored = (ns : List ℕ) (s : State) (number : ℕ) → list_all have_k
 abbrev pub ProgressIsStored : Type 0
 ProgressIsStored = (ns : List ℕ) (s : State) (number : ℕ) → list_all have_keys s.history ≡ true → progressed (stored ns s) number ≡ stored_pushed ns (progressed s number)
 
--- what a member applies, or why it doesn't
-abbrev pub stored_applied : List ℕ → Result State StoreFault → Result State StoreFault
-stored_applied ns (Ok t) = Ok (stored ns t)
-stored_applied ns (Err fault) = Err fault
-
 abbrev pub AppliesAreStored : Type 0
-AppliesAreStored = (ns : List ℕ) (s : State) (member revision : ℕ) → applied (stored ns s) member revision ≡ stored_applied ns (applied s member revision)
+AppliesAreStored = (ns : List ℕ) (s : State) (member revision : ℕ) → applied (stored ns s) member revision ≡ stored_after ns (applied s member revision)
 
+-- a message unwraps, with no foreign key
 abbrev pub ItemsUnwrap : Type 0
 ItemsUnwrap = (ns : List ℕ) (i : WatchItem) → item_without ns (stored_item ns i) ≡ Ok i
