@@ -16,6 +16,7 @@ use Rattle.store_model.specs.Leases.{attached, ended, expired}
 use Rattle.store_model.specs.Watches.{watch_of, with_next, first_next, next_after, events_for, for_watch, Pushed, push_events, push_to, progress_to, is_synced, watch_header, pushed, progressed}
 use Rattle.store_model.specs.Step.{exec}
 use Rattle.store_laws.specs.Requests.{GainsOneRevision}
+use Rattle.event_laws.proofs.Messages.{ok, same_states}
 use Rattle.event_laws.specs.WatchRuns.{LeavesWatch, RequestsLeaveWatches, ExpiriesLeaveWatches, AppliesLeaveWatches, OpeningsLeaveWatches, MessagesLeaveOtherWatches}
 use Rattle.store_laws.proofs.RequestProofs.{whole-exec}
 
@@ -94,17 +95,6 @@ openings_leave_watches s member ask number w e =
 
 Moves : ℕ → State → State → Type 0
 Moves number s t = (s ≡ t) ⊎ ((w : OpenWatch) × (k : ℕ) × (watch_of s number ≡ Some w) × (with_next s number w k ≡ t))
-
-state_or : State → Pushed → State
-state_or d (Ok p) = p.0
-state_or d (Err e) = d
-
-abbrev ok : State → WatchItem → Pushed
-ok s i = Ok (s, i)
-
-same_states : (s t : State) (i j : WatchItem) → ok s i ≡ ok t j → s ≡ t
-unfolding state_or
-same_states s t i j e = ap (state_or s) e
 
 push_moves : (first behind : Bool) (s : State) (number k : ℕ) (w : OpenWatch) (t : State) (a b c : WatchItem) (es : List Event) → watch_of s number ≡ Some w
     → cond first (ok (with_next s number w k) a) (cond behind (ok s b) (push_events s number w es)) ≡ ok t c → Moves number s t

@@ -1,3 +1,4 @@
+pub mod Messages
 pub mod EventProofs
 pub mod WatchProofs
 pub mod LeavingProofs

@@ -1,44 +1,22 @@
 -- Over a run of the store a watch is told the events of its range from its start on, each once.
-use Rattle.std.proofs.Common.{◌≡◌, ℕ, suc, zero, ◌+◌, ◌-◌, ◌≤◌, ◌<◌, ◌==◌, nat_lt, max, Bool, true, false, cond, not, ◌&&◌, List, [], ◌∷◌, ◌++◌, Option, None, Some, Ok, Err, length, take, set, slice_get, map, refl, sym, ◌∙◌, ap, subst, ◌⊎◌, inl, inr, arith, length-append}
+use Rattle.std.proofs.Common.{◌≡◌, ℕ, suc, zero, ◌+◌, ◌-◌, ◌≤◌, ◌<◌, ◌==◌, nat_lt, max, Bool, true, false, cond, not, ◌&&◌, List, [], ◌∷◌, ◌++◌, None, Some, Err, length, take, set, slice_get, map, refl, sym, ◌∙◌, ap, subst, ◌⊎◌, inl, inr, arith, length-append}
 use Rattle.std.proofs.lemmas.List.{take-append-le, append-nil}
-use Rattle.std.proofs.lemmas.Bool.{cases_lt}
 use Rattle.std.proofs.Math.Seq.{take-length}
+use Rattle.std.proofs.lemmas.Bool.{cases_lt}
 use Rattle.etcd_types.specs.declared.record.Header.{Header}
 use Rattle.etcd_types.specs.declared.request.WatchAsk.{WatchAsk}
 use Rattle.etcd_types.specs.declared.watch.Event.{Event}
-use Rattle.etcd_types.specs.declared.watch.WatchItem.{WatchItem}
 use Rattle.etcd_types.specs.declared.watch.WatchItem.TheVariants as item
 use Rattle.store_model.specs.declared.watch.OpenWatch.{OpenWatch}
-use Rattle.store_model.specs.declared.store_fault.StoreFault.{StoreFault}
 use Rattle.store_model.specs.declared.store_fault.StoreFault.TheVariants as fault
 use Rattle.store_model.specs.History.{History, newest, up_to_revision}
 use Rattle.store_model.specs.State.{State}
 use Rattle.store_model.specs.Events.{told_event}
-use Rattle.store_model.specs.Watches.{watch_of, for_watch, with_next, first_next, next_after, events_for, Pushed, push_events, push_to, progress_to, is_nil, is_synced, pushed, progressed, watch_header}
+use Rattle.store_model.specs.Watches.{watch_of, with_next, first_next, next_after, events_for, push_to, progress_to, is_nil, is_synced, pushed, progressed, watch_header}
 use Rattle.store_model.proofs.WatchLemmas.{pushed-some, progressed-some}
 use Rattle.event_laws.specs.WatchRuns.{watched, bare, LeavesWatch, Told, created, other, events_pushed, progress_told, AreFirst, TellEachOnce, TellAll, TellUpToNext, IsProgress, ProgressIsTrue}
+use Rattle.event_laws.proofs.Messages.{ok, created_by, events_by, nothing_by, progress_by}
 use Rattle.event_laws.proofs.EventProofs.{batched, watched-cut, watched-none, watched-past, bare-told, next-told}
-
--- what stands in two messages
-
-state_or : State → Pushed → State
-state_or d (Ok p) = p.0
-state_or d (Err e) = d
-
-item_or : WatchItem → Pushed → WatchItem
-item_or d (Ok p) = p.1
-item_or d (Err e) = d
-
-abbrev ok : State → WatchItem → Pushed
-ok s i = Ok (s, i)
-
-same_states : (s t : State) (i j : WatchItem) → ok s i ≡ ok t j → s ≡ t
-unfolding state_or
-same_states s t i j e = ap (state_or s) e
-
-same_items : (s t : State) (i j : WatchItem) → ok s i ≡ ok t j → i ≡ j
-unfolding item_or
-same_items s t i j e = ap (item_or i) e
 
 -- the watch of a number after it moved on
 
@@ -66,77 +44,8 @@ record Stands (number : ℕ) (ask : WatchAsk) (from : ℕ) (es : List Event) (t 
 Holds : (number : ℕ) (ask : WatchAsk) (from : ℕ) → List Event → State → Type 0
 Holds number ask from es t = (w : OpenWatch) × Stands number ask from es t w
 
--- a step of a watch, where it is known
-
-found_of : (number : ℕ) (o : Option OpenWatch) (step : OpenWatch → Pushed) (t : State) (i : WatchItem) → for_watch number o step ≡ Ok (t, i) → (w : OpenWatch) × (o ≡ Some w) × (step w ≡ Ok (t, i))
-found_of number None step t i e = absurd (cc)
-found_of number (Some w) step t i e = (w, refl, e)
-
-pushed_inv : (s : State) (number : ℕ) (t : State) (i : WatchItem) → pushed s number ≡ Ok (t, i) → (w : OpenWatch) × (watch_of s number ≡ Some w) × (push_to s number w ≡ Ok (t, i))
-unfolding pushed
-pushed_inv s number t i e = found_of number (watch_of s number) (push_to s number) t i e
-
-progressed_inv : (s : State) (number : ℕ) (t : State) (i : WatchItem) → progressed s number ≡ Ok (t, i) → (w : OpenWatch) × (watch_of s number ≡ Some w) × (progress_to s number w ≡ Ok (t, i))
-unfolding progressed
-progressed_inv s number t i e = found_of number (watch_of s number) (progress_to s number) t i e
-
 same_watch : (a b : OpenWatch) → Some a ≡ Some b → a ≡ b
 same_watch a b e = cc
-
--- what a push tells
-
-created_by : (first behind : Bool) (s : State) (number : ℕ) (w : OpenWatch) (moved stayed t : State) (a b header : Header) (compacted : ℕ) (es : List Event)
-    → cond first (ok moved (item.Created a)) (cond behind (ok stayed (item.Canceled b compacted)) (push_events s number w es)) ≡ ok t (item.Created header)
-    → moved ≡ t
-created_by true behind s number w moved stayed t a b header compacted es e = same_states moved t (item.Created a) (item.Created header) e
-created_by false true s number w moved stayed t a b header compacted es e =
-    absurd (let f : item.Canceled b compacted ≡ item.Created header = same_items stayed t (item.Canceled b compacted) (item.Created header) e in cc)
-created_by false false s number w moved stayed t a b header compacted [] e = absurd (cc)
-created_by false false s number w moved stayed t a b header compacted (x ∷ es) e =
-    absurd (let f : item.Events (watch_header s w) (x ∷ es) ≡ item.Created header = same_items (with_next s number w (next_after w.next (x ∷ es))) t (item.Events (watch_header s w) (x ∷ es)) (item.Created header) e in cc)
-
-record TellsBatch (s : State) (number : ℕ) (w : OpenWatch) (t : State) (es fs : List Event) : Type 0 where
-  same_events : es ≡ fs
-  some_events : (x : Event) × (rest : List Event) × (es ≡ x ∷ rest)
-  moves : with_next s number w (next_after w.next es) ≡ t
-
-events_by : (first behind : Bool) (s : State) (number : ℕ) (w : OpenWatch) (moved stayed t : State) (a b header : Header) (compacted : ℕ) (es fs : List Event)
-    → cond first (ok moved (item.Created a)) (cond behind (ok stayed (item.Canceled b compacted)) (push_events s number w es)) ≡ ok t (item.Events header fs)
-    → TellsBatch s number w t es fs
-events_by true behind s number w moved stayed t a b header compacted es fs e =
-    absurd (let f : item.Created a ≡ item.Events header fs = same_items moved t (item.Created a) (item.Events header fs) e in cc)
-events_by false true s number w moved stayed t a b header compacted es fs e =
-    absurd (let f : item.Canceled b compacted ≡ item.Events header fs = same_items stayed t (item.Canceled b compacted) (item.Events header fs) e in cc)
-events_by false false s number w moved stayed t a b header compacted [] fs e = absurd (cc)
-events_by false false s number w moved stayed t a b header compacted (x ∷ es) fs e =
-    let next : State = with_next s number w (next_after w.next (x ∷ es)) in
-    let items : item.Events (watch_header s w) (x ∷ es) ≡ item.Events header fs = same_items next t (item.Events (watch_header s w) (x ∷ es)) (item.Events header fs) e in
-    record {
-      same_events = cc;
-      some_events = (x, es, refl);
-      moves = same_states next t (item.Events (watch_header s w) (x ∷ es)) (item.Events header fs) e;
-    }
-
-nothing_by : (first behind : Bool) (s : State) (number : ℕ) (w : OpenWatch) (moved stayed : State) (a b : Header) (compacted : ℕ) (es : List Event) (f : StoreFault)
-    → cond first (ok moved (item.Created a)) (cond behind (ok stayed (item.Canceled b compacted)) (push_events s number w es)) ≡ Err f → es ≡ []
-nothing_by true behind s number w moved stayed a b compacted es f e = absurd (cc)
-nothing_by false true s number w moved stayed a b compacted es f e = absurd (cc)
-nothing_by false false s number w moved stayed a b compacted [] f e = refl
-nothing_by false false s number w moved stayed a b compacted (x ∷ es) f e = absurd (cc)
-
-record TellsProgress (s : State) (w : OpenWatch) (moved t : State) (a header : Header) (fs : List Event) : Type 0 where
-  synced : is_synced s w ≡ true
-  no_events : fs ≡ []
-  headed : a ≡ header
-  moves : moved ≡ t
-
-progress_by : (unasked synced : Bool) (s : State) (w : OpenWatch) (moved t : State) (a header : Header) (fs : List Event) (f g : StoreFault) → is_synced s w ≡ synced
-    → cond unasked (Err f) (cond synced (ok moved (item.Events a [])) (Err g)) ≡ ok t (item.Events header fs) → TellsProgress s w moved t a header fs
-progress_by true synced s w moved t a header fs f g q e = absurd (cc)
-progress_by false true s w moved t a header fs f g q e =
-    let items : item.Events a [] ≡ item.Events header fs = same_items moved t (item.Events a []) (item.Events header fs) e in
-    record { synced = q; no_events = cc; headed = cc; moves = same_states moved t (item.Events a []) (item.Events header fs) e }
-progress_by false false s w moved t a header fs f g q e = absurd (cc)
 
 -- lists
 

@@ -1,6 +1,7 @@
 -- What is told of a request by its answer: the codes of refusals (gRPC, and etcd's `rpctypes`) and the revision of a reply's header
 -- (etcd API reference, `ResponseHeader`).
 use Rattle.std.specs.Prelude.{◌≡◌, ℕ, Bool, true, false, ◌==◌, ◌||◌, if◌then◌else◌}
+use Rattle.etcd_types.specs.declared.code.TheConstants.{INVALID_ARGUMENT, NOT_FOUND, PERMISSION_DENIED, FAILED_PRECONDITION, OUT_OF_RANGE, UNIMPLEMENTED}
 use Rattle.etcd_types.specs.declared.request.Request.{Request}
 use Rattle.etcd_types.specs.declared.request.Request.TheVariants as request
 use Rattle.etcd_types.specs.declared.answer.Answer.TheVariants as answer
@@ -10,10 +11,10 @@ use Rattle.store_model.specs.History.{newest}
 use Rattle.store_model.specs.State.{State, applied_by}
 use Rattle.store_model.specs.Step.{exec}
 
--- the codes that say that nothing was done: an argument that is no good, a thing that isn't there, no permission, a state that
--- doesn't allow it, a revision out of range, and what isn't supported
+-- the codes that say that nothing was done
 abbrev pub is_known : ℕ → Bool
-is_known code = code == 3 || code == 5 || code == 7 || code == 9 || code == 11 || code == 12
+is_known code =
+    code == INVALID_ARGUMENT || code == NOT_FOUND || code == PERMISSION_DENIED || code == FAILED_PRECONDITION || code == OUT_OF_RANGE || code == UNIMPLEMENTED
 
 abbrev pub RefusalsAreKnown : Type 0
 RefusalsAreKnown =
