@@ -1,9 +1,9 @@
 #!/bin/sh
 # How fast scripts are replayed: 2,000 puts and gets that pass through the proxy to the store, lines that need no store, and how
-# the memory in use grows with what was written. It runs the program that ./run builds.
+# the memory in use grows with what was written. It runs the proved program, which ./run --build makes where it isn't in its place.
 set -eu
 top=$(cd "$(dirname "$0")/.." && pwd)
-"$top/run" --version > /dev/null
+"$top/run" --build
 program=$top/crates/etcd_proxy/out/etcd_proxy
 work=$(mktemp -d)
 trap 'rm -rf "$work"' EXIT
