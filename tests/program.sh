@@ -84,21 +84,43 @@ take_kept() {
     grep -q "^rt: $2 is kept:" "$log" && [ -x "$1/crates/$2/out/$2" ]
 }
 
-# Proves a crate with all that it stands on, as many side by side as there are processors, and builds its program: prove FOLDER CRATE
+# The crates whose libraries are all proved, and that aren't themselves: ready_of FOLDER PROVED..
+ready_of() {
+    awk -F: -v proved=" ${*:2} " '
+        function is_proved(name) { return index(proved, " " name " ") }
+        NR == FNR { split($1, head, " "); known[head[1]] = 1; next }
+        {
+            n = split($2, words, " ")
+            waits = 0
+            for (k = 1; k <= n; k++) if (words[k] in known && !is_proved(words[k])) waits = 1
+            split($1, head, " ")
+            if (!waits && !is_proved(head[1])) printf "%s ", head[1]
+        }' "$1/crates.txt" "$1/crates.txt"
+}
+
+# How many crates to prove side by side: as many as there are processors, and 3 GB of memory for each.
+side_by_side() {
+    awk -v most="$(nproc)" '/^MemAvailable/ { n = int($2 / 3000000); print n < 1 ? 1 : n < most ? n : most }' /proc/meminfo
+}
+
+# Proves a crate with all that it stands on, side by side, and builds its program: prove FOLDER CRATE
 prove() {
-    local log=$1/prove.log names count lowest work now told=0
+    local log=$1/prove.log names count lowest work proved next told=0
     names=$(names_of "$(cat "$1/crates.txt")")
     count=$(wc -w <<< "$names")
     lowest=$(head -n 1 <<< "$names")
     say "proving $count crates; first $lowest, on which the others stand"
     (cd "$1/crates/$lowest" && exec rt lib) > "$log" 2>&1 < /dev/null || return 1
-    (cd "$1" && exec rt all check --jobs "$(nproc)") > "$log" 2>&1 < /dev/null &
+    (cd "$1" && exec rt all check --jobs "$(side_by_side)") > "$log" 2>&1 < /dev/null &
     work=$!
     while kill -0 $work 2> /dev/null; do
         sleep 1
-        now=$(grep '^== ' "$log" | grep -vc '^== summary' || true)
-        [ "$now" -eq $told ] || say "$now of $count are proved, the last of them $(sed -n '/^== summary/d; s/^== //p' "$log" | tail -n 1)"
-        told=$now
+        proved=($(sed -n '/^== summary/d; s/^== //p' "$log"))
+        if [ ${#proved[@]} -ne $told ]; then
+            next=$(ready_of "$1" "${proved[@]}")
+            say "${#proved[@]} of $count are proved${next:+; now at $next}"
+            told=${#proved[@]}
+        fi
         ! grep -q '^logic=not-proved' "$log" || kill $work 2> /dev/null || true
     done
     wait $work || return 1
