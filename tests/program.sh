@@ -115,13 +115,16 @@ prove() {
     work=$!
     while kill -0 $work 2> /dev/null; do
         sleep 1
+        if grep -q '^logic=not-proved' "$log"; then
+            kill $work 2> /dev/null || true
+            break
+        fi
         proved=($(sed -n '/^== summary/d; s/^== //p' "$log"))
         if [ ${#proved[@]} -ne $told ]; then
             next=$(ready_of "$1" "${proved[@]}")
             say "${#proved[@]} of $count are proved${next:+; now at $next}"
             told=${#proved[@]}
         fi
-        ! grep -q '^logic=not-proved' "$log" || kill $work 2> /dev/null || true
     done
     wait $work || return 1
     say "building $2"
