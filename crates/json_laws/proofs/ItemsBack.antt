@@ -106,7 +106,13 @@ deep_record : (kv : Kv) → depth (record_value kv) ≤ 1
 unfolding record_written
 deep_record kv =
     let inner = members_within (record_written kv) 0 (omega (
-      arith, bytes_depth kv.key, number_depth kv.create, number_depth kv.modified, number_depth kv.version, bytes_depth kv.value, number_depth kv.lease,
+      arith,
+      bytes_depth kv.key,
+      number_depth kv.create,
+      number_depth kv.modified,
+      number_depth kv.version,
+      bytes_depth kv.value,
+      number_depth kv.lease,
     )) in
     omega (arith, inner)
 
