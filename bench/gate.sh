@@ -5,7 +5,7 @@
 #
 # Each crate is measured in a copy of its own, over libraries that are built before. A check of a copy would begin with what
 # checks elsewhere on the machine kept, so a first check is not measured; then what it kept is emptied, and the next one begins with nothing.
-set -Eeuo pipefail
+set -euo pipefail
 top=$(cd "$(dirname "$0")/.." && pwd)
 . "$top/tests/program.sh"
 
@@ -44,10 +44,11 @@ empty() {
 }
 
 if [ "${1-}" = --row ]; then
-    log=$3/$2.log
-    trap 'echo "gate.sh: $2 failed; the last lines of its log:" >&2; tail -n 15 "$log" >&2' ERR
-    measure "$2" "$3"
-    exit
+    set +e
+    (set -e; measure "$2" "$3")
+    status=$?
+    [ $status -eq 0 ] || { echo "gate.sh: $2 failed; the last lines of its log:" >&2; tail -n 15 "$3/$2.log" >&2; }
+    exit $status
 fi
 
 work=$(mktemp -d)
