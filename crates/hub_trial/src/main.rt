@@ -16,10 +16,7 @@ use std::sync::{Arc, Wait};
 use std::thread::Threads;
 use std::time::{Duration, Instant};
 use std::{env, io, thread};
-use turn_hub::{Hub, Pass};
-
-// How many seconds a rest lasts at most, and so does one whose wake-up was lost.
-const LONGEST: u64 = 10;
+use turn_hub::{Hub, LONGEST_REST, Pass};
 
 // Takes the name's letter and answers it, resting while there is none. Says how many rests lasted to their end.
 fn answer<R: Wait + Times>(rt: &R, hub: &Hub<Mailbox>, pass: &mut Pass<Mailbox>, name: u32) -> u64
@@ -41,13 +38,13 @@ fn answer<R: Wait + Times>(rt: &R, hub: &Hub<Mailbox>, pass: &mut Pass<Mailbox>,
     unreachable!()
 }
 
-// Whether a rest that began then lasted to its end. It counts as one where the time can't be told.
+// Whether a rest that began then lasted to its end, as one whose wake-up was lost does. It counts as one where the time can't be told.
 fn has_ended<R: Times>(rt: &R, start: io::Result<Instant>) -> bool {
     let Ok(start) = start else {
         return true;
     };
     match start.elapsed(rt) {
-        Ok(rested) => rested >= Duration::from_secs(LONGEST),
+        Ok(rested) => rested >= Duration::from_secs(LONGEST_REST),
         Err(_) => true,
     }
 }

@@ -95,8 +95,9 @@ impl<R: Times + Wait> Clock for SystemClock<R> {
 
     fn now(&mut self) -> u64 {
         for _ in self.rt.forever() {
-            let monotonic = since(self.shared.monotonic, self.rt.monotonic());
+            // in this order, so that time between the two is not taken for a gain
             let wall = since(self.shared.wall, self.rt.since_1970());
+            let monotonic = since(self.shared.monotonic, self.rt.monotonic());
             if monotonic.is_none() || wall.is_none() {
                 self.faults = self.faults.saturating_add(1);
             }
@@ -133,6 +134,7 @@ impl Shared {
 // What the system's two clocks read, one of them at the least.
 fn started<R: Times + Wait>(rt: &R) -> (Option<Duration>, Option<Duration>) {
     for _ in rt.forever() {
+        // in the other order than a reading has
         let read = (rt.monotonic().ok(), rt.since_1970().ok());
         if read.0.is_some() || read.1.is_some() {
             return read;

@@ -165,7 +165,7 @@ impl<M: Machine> Hub<M> {
 
     /// Rests until a step gives the pass's lot something to take, if none has since this pass last stepped. It comes
     /// directly after the step that found nothing: after a later step of the same pass it would miss what came between.
-    /// It may return at any other time too, and does after 10 seconds at the latest, so look again behind it.
+    /// It may return at any other time too, and does after `LONGEST_REST` seconds at the latest, so look again behind it.
     pub fn wait<R: Wait>(&self, rt: &R, pass: &mut Pass<M>)
         requires { pass.old.hub ≡ self.now }
         ensures { pass.new ≡ pass.old }

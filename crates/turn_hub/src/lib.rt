@@ -9,8 +9,8 @@
 //! passes are the other kinds of atomic step, and each kind keeps the rule of `specs/Rule.antt`.
 //!
 //! A thread that finds the turn taken looks for it a hundred times, yields ten times, and then parks. A pass that waits for
-//! something to take rests in its lot until a step rouses it. The clauses say nothing of waiting: not that a call gets its
-//! turn, nor that a wake arrives.
+//! something to take rests in its lot, or in its crew, until a step rouses it, and for 10 seconds at most. The clauses say
+//! nothing of waiting: not that a call gets its turn, nor that a wake arrives. The program `hub_trial` races wake-ups.
 #![tactic(auto)]
 
 mod fault;
@@ -29,6 +29,7 @@ pub use history::Entry;
 pub use hub::{Hub, HubOf};
 pub use pass::{Pass, PassOf};
 pub use view::Opening;
+pub use waiting::LONGEST_REST;
 
 #[cfg(test)]
 mod tests;

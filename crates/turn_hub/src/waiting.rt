@@ -11,8 +11,9 @@ use std::sync::atomic::AtomicU64;
 use std::sync::atomic::Ordering::SeqCst;
 use std::time::Duration;
 
-// How many seconds a thread parks at most. A wake-up that was lost would then be a delay, and no hang.
-const LONGEST: u64 = 10;
+/// How many seconds a pass rests at most, and a thread parks for the turn. A wake-up that was lost would then be a delay,
+/// and no hang.
+pub const LONGEST_REST: u64 = 10;
 
 // How often a lot was roused, and how many passes rest in it.
 #[derive(Drop)]
@@ -97,7 +98,7 @@ impl Waiting {
         requires { board.now.table_id.words ≡ 2 }
     {
         self.sleepers.fetch_add(1, SeqCst);
-        board.park_timeout(rt, TURN, 1, Duration::from_secs(LONGEST));
+        board.park_timeout(rt, TURN, 1, Duration::from_secs(LONGEST_REST));
         self.sleepers.fetch_sub(1, SeqCst);
     }
 
@@ -129,7 +130,7 @@ impl Waiting {
         if self.everybody.load(SeqCst) == rest.everybody {
             let seen = (rest.changes % (1 << 32)) as u32;
             lot.changes
-                .park_timeout(rt, seen, Duration::from_secs(LONGEST));
+                .park_timeout(rt, seen, Duration::from_secs(LONGEST_REST));
         }
         self.resting.fetch_sub(1, SeqCst);
         lot.sleepers.fetch_sub(1, SeqCst);
