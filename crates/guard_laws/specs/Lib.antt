@@ -1,0 +1,4 @@
+pub mod Covers
+pub mod GuardLaw
+pub mod Answered
+pub mod OwnershipKeys

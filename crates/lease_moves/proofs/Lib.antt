@@ -1,0 +1,9 @@
+pub mod Numbers
+pub mod SlotRuns
+pub mod SlotSends
+pub mod SlotTurns
+pub mod StoreProofs
+pub mod SendProofs
+pub mod AnswerProofs
+pub mod SessionProofs
+pub mod TruthProofs

@@ -1,0 +1,16 @@
+use Rattle.store_moves.proofs.WriteSteps.{writes_step}
+use Rattle.store_moves.proofs.OwnerSteps.{acquires_step, rescinds_step, revoke_calls_step}
+use Rattle.store_moves.proofs.ReadSteps.{reads_step, refusals_step, unseen_step, start_stands}
+use Rattle.store_moves.proofs.laws.calls_keep_the_view_of_the_store.Goals as goal
+
+pub returns : goal.returns
+returns c = record {
+  start = start_stands;
+  writes = writes_step;
+  acquires = acquires_step;
+  rescinds = rescinds_step;
+  revokes = revoke_calls_step;
+  reads = reads_step;
+  refusals = refusals_step;
+  unseen = unseen_step;
+}

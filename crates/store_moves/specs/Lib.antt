@@ -1,0 +1,5 @@
+pub mod StoreView
+pub mod CallSteps
+pub mod LeaseSteps
+pub mod CachedReads
+pub mod ToldAnswers
