@@ -1,8 +1,9 @@
 -- The records before events: what the history has before the event's revision, after the changes that come first in that revision.
-use Rattle.std.proofs.Common.{◌≡◌, ℕ, ◌+◌, ◌-◌, Bool, true, false, cond, ◌||◌, nat_lt, nat_le, List, [], ◌∷◌, ◌++◌, length, take, drop, Option, None, Some, filter, refl, sym, ◌∙◌, ap, ◌⊎◌, inl, inr, arith}
-use Rattle.std.specs.List.{All}
+use Rattle.std.proofs.Common.{◌≡◌, ℕ, ◌+◌, ◌-◌, Bool, true, false, cond, ◌||◌, nat_lt, nat_le, List, [], ◌∷◌, ◌++◌, length, take, drop, Option, None, Some, filter, refl, sym, ◌∙◌, ap, subst, ◌⊎◌, inl, inr, arith, zero, suc, map}
+use Rattle.std.specs.List.{All, list_all, list_any}
 use Rattle.std.proofs.lemmas.List.{take-append-drop}
 use Rattle.std.proofs.lemmas.List.Elements.{All-nil, All-cons, All-append, All-filter, All-map, All-weaker}
+use Rattle.std.proofs.lemmas.Bool.{cond-false}
 use Rattle.etcd_types.specs.declared.record.Kv.{Kv}
 use Rattle.etcd_types.specs.declared.key_range.KeyRange.{KeyRange}
 use Rattle.etcd_types.specs.declared.request.WatchAsk.{WatchAsk}
@@ -10,13 +11,15 @@ use Rattle.etcd_types.specs.declared.watch.Event.{Event}
 use Rattle.etcd_types.specs.Keys.{same}
 use Rattle.etcd_types.specs.Ranges.{contains}
 use Rattle.etcd_types.specs.Records.{after_put}
+use Rattle.etcd_types.proofs.Bools.{and_first, and_second, not_true, or_first, or_none, or_second}
 use Rattle.store_model.specs.declared.history.KeyChange.{KeyChange}
 use Rattle.store_model.specs.declared.history.KeyChange.TheVariants.{Put, Delete}
 use Rattle.store_model.specs.History.{History, newest, up_to_revision, with_revision, changed_key}
 use Rattle.store_model.specs.Records.{after_change, after_changes, record_now, record_at}
+use Rattle.store_model.specs.FirstRefusals.{has_twins}
 use Rattle.store_model.specs.Events.{event_of, events_of_changes, events_after, events, event_revision, passes, visible_prev, told_event}
 use Rattle.store_model.proofs.HistoryLemmas.{record_now-with_revision}
-use Rattle.event_laws.specs.WatchRuns.{change_key, HasPrevious, PreviousAreEarlier}
+use Rattle.event_laws.specs.Previous.{change_key, HasPrevious, PreviousAreEarlier, changes_once, IsPrevious, PreviousAreExact}
 use Rattle.event_laws.proofs.EventProofs.{change_is}
 use Rattle.store_laws.proofs.RangeProofs.{keyed-now}
 
@@ -111,16 +114,16 @@ after-changes range h before rest made [] e = All-nil (IsAfter h)
 after-changes range h before rest made (c ∷ cs) e =
     after_either h (contains range (changed_key c)) _ _ (after_one h before rest made c e) (after-changes range h before rest (made ++ c ∷ []) cs e)
 
+append_one : (before : History) (cs : List KeyChange) (rest : History) → (before ++ cs ∷ []) ++ rest ≡ before ++ cs ∷ rest
+append_one [] cs rest = refl
+append_one (ds ∷ before) cs rest = ap (λ (g : History). ds ∷ g) (append_one before cs rest)
+
 after-revisions : (range : KeyRange) (h before rest : History) → before ++ rest ≡ h → All (IsAfter h) (events_after range before rest)
 after-revisions range h before [] e = All-nil (IsAfter h)
 after-revisions range h before (cs ∷ rest) e =
     All-append (IsAfter h) (events_of_changes range before [] cs) (events_after range (before ++ cs ∷ []) rest)
     (after-changes range h before (cs ∷ rest) [] cs e)
     (after-revisions range h (before ++ cs ∷ []) rest (append_one before cs rest ∙ e))
-  where
-    append_one : (before : History) (cs : List KeyChange) (rest : History) → (before ++ cs ∷ []) ++ rest ≡ before ++ cs ∷ rest
-    append_one [] cs rest = refl
-    append_one (ds ∷ before) cs rest = ap (λ (g : History). ds ∷ g) (append_one before cs rest)
 
 -- as it is told
 
@@ -151,3 +154,75 @@ previous_are_earlier h compacted ask from =
     (All-weaker (IsAfter h) (λ e. HasPrevious h ask (told_event compacted ask e)) (told_after h compacted ask) told
     (All-filter (passes ask) (IsAfter h) (events h ask.range from)
     (after-revisions ask.range h (take (from - 2) h) (drop (from - 2) h) (take-append-drop (from - 2) h))))
+
+-- where a revision changes a key once, the changes before this one leave its key alone
+
+untouched_one : (revision : ℕ) (k : List ℕ) (c : KeyChange) (old : Option Kv) → same (changed_key c) k ≡ false → after_change revision k c old ≡ old
+untouched_one revision k (Put key value lease) old e = cond-false (same key k) _ old e
+untouched_one revision k (Delete key) old e = cond-false (same key k) _ old e
+
+untouched : (revision : ℕ) (k : List ℕ) (cs : List KeyChange) (old : Option Kv) → list_any (λ c. same (changed_key c) k) cs ≡ false → after_changes revision k cs old ≡ old
+untouched revision k [] old e = refl
+untouched revision k (c ∷ cs) old e =
+    untouched revision k cs (after_change revision k c old) (or_second (same (changed_key c) k) _ e) ∙ untouched_one revision k c old (or_first (same (changed_key c) k) _ e)
+
+none_of : (q : List ℕ → Bool) (made cs : List KeyChange) (c : KeyChange) → list_any q (map changed_key (made ++ c ∷ cs)) ≡ false → q (changed_key c) ≡ false
+none_of q [] cs c e = or_first (q (changed_key c)) _ e
+none_of q (m ∷ made) cs c e = none_of q made cs c (or_second (q (changed_key m)) _ e)
+
+not_made : (made cs : List KeyChange) (c : KeyChange) → has_twins (map changed_key (made ++ c ∷ cs)) ≡ false → list_any (λ m. same (changed_key m) (changed_key c)) made ≡ false
+not_made [] cs c e = refl
+not_made (m ∷ made) cs c e =
+    or_none (same (changed_key m) (changed_key c)) _ (none_of (same (changed_key m)) made cs c (or_first (list_any (same (changed_key m)) (map changed_key (made ++ c ∷ cs))) _ e))
+    (not_made made cs c (or_second (list_any (same (changed_key m)) (map changed_key (made ++ c ∷ cs))) _ e))
+
+IsBefore : History → Event → Type 0
+IsBefore h e = e.prev ≡ record_at h (event_revision e - 1) (change_key e.change)
+
+before_one : (h before rest : History) (made cs : List KeyChange) (c : KeyChange) → before ++ rest ≡ h → has_twins (map changed_key (made ++ c ∷ cs)) ≡ false
+    → IsBefore h (event_of (newest before + 1) (record_now (with_revision before made) (changed_key c)) c)
+unfolding IsBefore
+before_one h before rest made cs c e twins =
+    let k = changed_key c in
+    let old = record_now (with_revision before made) k in
+    prev_is (newest before + 1) old c
+    ∙ record_now-with_revision before k made
+    ∙ untouched (length before + 2) k made (record_now before k) (not_made made cs c twins)
+    ∙ ap (λ (g : History). record_now g k) (sym (was_before h before rest e))
+    ∙ (λ i. record_at h (sym (change_is (newest before + 1) old c) i - 1) (sym (key_is (newest before + 1) old c) i))
+
+before_either : (h : History) (b : Bool) (e : Event) (es : List Event) → IsBefore h e → All (IsBefore h) es → All (IsBefore h) (cond b (e ∷ es) es)
+before_either h true e es f g = All-cons (IsBefore h) e es f g
+before_either h false e es f g = g
+
+joined : (made : List KeyChange) (c : KeyChange) (cs : List KeyChange) → (made ++ c ∷ []) ++ cs ≡ made ++ c ∷ cs
+joined [] c cs = refl
+joined (m ∷ made) c cs = ap (λ (ds : List KeyChange). m ∷ ds) (joined made c cs)
+
+before-changes : (range : KeyRange) (h before rest : History) (made cs : List KeyChange) → before ++ rest ≡ h → has_twins (map changed_key (made ++ cs)) ≡ false
+    → All (IsBefore h) (events_of_changes range before made cs)
+before-changes range h before rest made [] e twins = All-nil (IsBefore h)
+before-changes range h before rest made (c ∷ cs) e twins =
+    before_either h (contains range (changed_key c)) _ _ (before_one h before rest made cs c e twins)
+    (before-changes range h before rest (made ++ c ∷ []) cs e (subst (λ (ds : List KeyChange). has_twins (map changed_key ds) ≡ false) (sym (joined made c cs)) twins))
+
+before-revisions : (range : KeyRange) (h before rest : History) → before ++ rest ≡ h → list_all changes_once rest ≡ true → All (IsBefore h) (events_after range before rest)
+before-revisions range h before [] e once = All-nil (IsBefore h)
+before-revisions range h before (cs ∷ rest) e once =
+    All-append (IsBefore h) (events_of_changes range before [] cs) (events_after range (before ++ cs ∷ []) rest)
+    (before-changes range h before (cs ∷ rest) [] cs e (not_true (has_twins (map changed_key cs)) (and_first (changes_once cs) _ once)))
+    (before-revisions range h (before ++ cs ∷ []) rest (append_one before cs rest ∙ e) (and_second (changes_once cs) _ once))
+
+once_behind : (n : ℕ) (h : History) → list_all changes_once h ≡ true → list_all changes_once (drop n h) ≡ true
+once_behind zero h e = e
+once_behind (suc n) [] e = refl
+once_behind (suc n) (cs ∷ h) e = once_behind n h (and_second (changes_once cs) _ e)
+
+pub previous_are_exact : PreviousAreExact
+unfolding IsBefore
+previous_are_exact h compacted ask from once =
+    let told = filter (passes ask) (events h ask.range from) in
+    All-map (IsPrevious h compacted ask) (told_event compacted ask) told
+    (All-weaker (IsBefore h) (λ e. IsPrevious h compacted ask (told_event compacted ask e)) (λ e b. ap (λ (o : Option Kv). cond ask.prev_kv (visible_prev compacted (event_revision e) o) None) b) told
+    (All-filter (passes ask) (IsBefore h) (events h ask.range from)
+    (before-revisions ask.range h (take (from - 2) h) (drop (from - 2) h) (take-append-drop (from - 2) h) (once_behind (from - 2) h once))))

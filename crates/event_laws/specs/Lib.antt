@@ -1,1 +1,2 @@
 pub mod WatchRuns
+pub mod Previous

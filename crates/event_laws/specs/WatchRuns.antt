@@ -1,21 +1,16 @@
 -- What a watch is told over a run of the store, message by message.
-use Rattle.std.specs.Prelude.{◌≡◌, ℕ, ◌-◌, true, List, [], ◌++◌, map, filter, ◌⊎◌, None, Some, Ok, Err}
-use Rattle.std.specs.List.{All}
+use Rattle.std.specs.Prelude.{◌≡◌, ℕ, ◌-◌, List, [], ◌++◌, map, filter, ◌⊎◌, None, Some, Ok, Err}
 use Rattle.etcd_types.specs.declared.record.Header.{Header}
 use Rattle.etcd_types.specs.declared.request.Request.{Request}
 use Rattle.etcd_types.specs.declared.request.WatchAsk.{WatchAsk}
 use Rattle.etcd_types.specs.declared.watch.WatchItem.{WatchItem}
-use Rattle.etcd_types.specs.declared.record.Kv.{Kv}
 use Rattle.etcd_types.specs.declared.watch.Event.{Event}
-use Rattle.etcd_types.specs.declared.watch.Change.{Change}
-use Rattle.etcd_types.specs.declared.watch.Change.TheVariants as event
 use Rattle.etcd_types.specs.declared.watch.WatchItem.TheVariants as item
 use Rattle.store_model.specs.declared.watch.OpenWatch.{OpenWatch}
 use Rattle.store_model.specs.declared.store_fault.StoreFault.TheVariants as fault
 use Rattle.store_model.specs.History.{History, newest, up_to_revision}
 use Rattle.store_model.specs.State.{State}
-use Rattle.store_model.specs.Records.{record_at}
-use Rattle.store_model.specs.Events.{events, passes, event_revision, watch_events}
+use Rattle.store_model.specs.Events.{events, passes}
 use Rattle.store_model.specs.Watches.{watch_of, first_next, opened, pushed, progressed}
 use Rattle.store_model.specs.Leases.{expired}
 use Rattle.store_model.specs.Members.{applied}
@@ -93,17 +88,3 @@ abbrev pub ProgressIsTrue : Type 0
 ProgressIsTrue =
     (number from : ℕ) (ask : WatchAsk) (es fs : List Event) (s t : State) (header : Header) → Told number ask from es s
     → progressed s number ≡ Ok (t, item.Events header fs) → IsProgress ask from es s header fs
-
-abbrev pub change_key : Change → List ℕ
-change_key (event.Put kv) = kv.key
-change_key (event.Delete key modified) = key
-
--- an event has a record before it only where that was asked for: a record of its key, which the history had before the event's
--- revision, or which that revision itself made
-pub record HasPrevious (h : History) (ask : WatchAsk) (e : Event) : Type 0 where
-  pub asked : (kv : Kv) → e.prev ≡ Some kv → ask.prev_kv ≡ true
-  pub keyed : (kv : Kv) → e.prev ≡ Some kv → kv.key ≡ change_key e.change
-  pub earlier : (kv : Kv) → e.prev ≡ Some kv → (record_at h (event_revision e - 1) kv.key ≡ Some kv) ⊎ (kv.modified ≡ event_revision e)
-
-abbrev pub PreviousAreEarlier : Type 0
-PreviousAreEarlier = (h : History) (compacted : ℕ) (ask : WatchAsk) (from : ℕ) → All (HasPrevious h ask) (watch_events h compacted ask from)

@@ -1,4 +1,5 @@
-ghost use Rattle.event_laws.specs.WatchRuns.{TellEachOnce, TellAll, TellUpToNext, ProgressIsTrue, PreviousAreEarlier, RequestsLeaveWatches, ExpiriesLeaveWatches, AppliesLeaveWatches, OpeningsLeaveWatches, MessagesLeaveOtherWatches};
+ghost use Rattle.event_laws.specs.WatchRuns.{TellEachOnce, TellAll, TellUpToNext, ProgressIsTrue, RequestsLeaveWatches, ExpiriesLeaveWatches, AppliesLeaveWatches, OpeningsLeaveWatches, MessagesLeaveOtherWatches};
+ghost use Rattle.event_laws.specs.Previous.{PreviousAreEarlier, PreviousAreExact};
 
 /// The messages of a watch, put one behind the other, are the history's events of its range from its start, each once and
 /// in order: those up to the revision before the one that the watch waits for, and all of them where there is nothing to push.
@@ -13,9 +14,11 @@ pub fn progress_is_true()
     ensures { ProgressIsTrue }
 {}
 
-/// The record before an event is an earlier one of the event's key, and comes only where it was asked for.
+/// The record before an event is an earlier one of the event's key, and comes only where it was asked for. Where no revision
+/// changes a key twice, it is the one that the history has just before, as long as that is visible.
 pub fn previous_records_are_earlier()
-    ensures { PreviousAreEarlier }
+    ensures earlier { PreviousAreEarlier }
+    ensures exact { PreviousAreExact }
 {}
 
 /// Between the messages of a watch every other step of the store leaves the watch as it is, and its history only grows.
