@@ -1,6 +1,9 @@
+pub mod Elements
 pub mod Compares
 pub mod Revisions
 pub mod CoversProofs
 pub mod GuardProofs
 pub mod AnsweredProofs
 pub mod OwnershipProofs
+pub mod AloneProofs
+pub mod EventProofs

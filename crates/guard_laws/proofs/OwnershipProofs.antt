@@ -47,7 +47,7 @@ leaves_is_txn p d t = λ i. leaves_row-hidden p d t.success i && leaves_row-hidd
 
 -- a weaker test passes too
 mutual
-  weaker : (p q : PutAsk → Bool) (d e : DeleteAsk → Bool) (o : Op) → ((ask : PutAsk) → p ask ≡ true → q ask ≡ true) → ((ask : DeleteAsk) → d ask ≡ true → e ask ≡ true) → all_leaves p d o ≡ true → all_leaves q e o ≡ true
+  pub weaker : (p q : PutAsk → Bool) (d e : DeleteAsk → Bool) (o : Op) → ((ask : PutAsk) → p ask ≡ true → q ask ≡ true) → ((ask : DeleteAsk) → d ask ≡ true → e ask ≡ true) → all_leaves p d o ≡ true → all_leaves q e o ≡ true
   weaker p q d e (op.Range ask) f g a = refl
   weaker p q d e (op.Put ask) f g a = f ask a
   weaker p q d e (op.Delete ask) f g a = g ask a
@@ -62,11 +62,11 @@ mutual
 owned_passes : (p k : List ℕ) → is_empty k ≡ false → has_owner p (p ++ k) ≡ true
 owned_passes p k n = or_right (not (contains (leasing_range p) (p ++ k))) _ (ap is_key (wrapped_keys_are_unwrapped p k) ∙ ap not n)
 
-reads_pass : (p : PutAsk → Bool) (d : DeleteAsk → Bool) (prefix : List ℕ) (rs : List KeyRange) → list_all (all_leaves p d) (map (read_owners prefix) rs) ≡ true
+pub reads_pass : (p : PutAsk → Bool) (d : DeleteAsk → Bool) (prefix : List ℕ) (rs : List KeyRange) → list_all (all_leaves p d) (map (read_owners prefix) rs) ≡ true
 reads_pass p d prefix [] = refl
 reads_pass p d prefix (r ∷ rs) = reads_pass p d prefix rs
 
-parts_pass : (p : PutAsk → Bool) (prev_kv : Bool) (rs : List KeyRange) → list_all (all_leaves p any_delete) (map (delete_part prev_kv) rs) ≡ true
+pub parts_pass : (p : PutAsk → Bool) (prev_kv : Bool) (rs : List KeyRange) → list_all (all_leaves p any_delete) (map (delete_part prev_kv) rs) ≡ true
 parts_pass p prev_kv [] = refl
 parts_pass p prev_kv (r ∷ rs) = parts_pass p prev_kv rs
 
@@ -92,7 +92,7 @@ owners_put_owned p k n ne = (
 
 -- what names no key puts none
 mutual
-  unnamed_passes : (test : List ℕ → Bool) (o : Op) → ((k : List ℕ) → names k o ≡ false) → all_leaves (puts_pass test) any_delete o ≡ true
+  pub unnamed_passes : (test : List ℕ → Bool) (o : Op) → ((k : List ℕ) → names k o ≡ false) → all_leaves (puts_pass test) any_delete o ≡ true
   unnamed_passes test (op.Range ask) n = refl
   unnamed_passes test (op.Put ask) n = absurd (let e = n ask.key in let f = same-itself ask.key in cc)
   unnamed_passes test (op.Delete ask) n = refl

@@ -2,3 +2,4 @@ pub mod Covers
 pub mod GuardLaw
 pub mod Answered
 pub mod OwnershipKeys
+pub mod OwnerEvents

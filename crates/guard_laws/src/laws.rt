@@ -2,6 +2,7 @@ ghost use Rattle.guard_laws.specs.Covers.{SingleWritesAreGuards};
 ghost use Rattle.guard_laws.specs.GuardLaw.{WritesAreGuarded, WritesLeave, AcquiresClaim, RescindsDelete, RevokesMark};
 ghost use Rattle.guard_laws.specs.Answered.{SnapshotsAreAnswered, AcquiresAreAnswered, AcquiresLackLease, RescindsAreAnswered, RevokesAreAnswered, PutsAreAnswered, PutsLackLease, DeletesAreAnswered};
 ghost use Rattle.guard_laws.specs.OwnershipKeys.{WritesPutOwned, OwnersPutOwned, ReadsPutOwned, FoundOwnersAreNamed};
+ghost use Rattle.guard_laws.specs.OwnerEvents.{WritesPutAlone, OwnersPutAlone, ReadsPutAlone, EndsPutAlone, OwnerEventsTell};
 
 /// Each of a proxy's own transactions changes only what its guards let it change.
 pub fn calls_are_guarded()
@@ -31,4 +32,13 @@ pub fn ownership_keys_are_alone()
     ensures owners { OwnersPutOwned }
     ensures reads { ReadsPutOwned }
     ensures found { FoundOwnersAreNamed }
+{}
+
+/// A put of an ownership key makes a revision of its own, and so the event that tells it tells the key's record then.
+pub fn puts_of_ownership_keys_are_alone()
+    ensures writes { WritesPutAlone }
+    ensures owners { OwnersPutAlone }
+    ensures reads { ReadsPutAlone }
+    ensures ends { EndsPutAlone }
+    ensures told { OwnerEventsTell }
 {}

@@ -4,4 +4,7 @@
 
 mod laws;
 
-pub use laws::{calls_are_answered, calls_are_guarded, ownership_keys_are_alone};
+pub use laws::{
+    calls_are_answered, calls_are_guarded, ownership_keys_are_alone,
+    puts_of_ownership_keys_are_alone,
+};

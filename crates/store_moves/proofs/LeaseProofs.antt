@@ -38,6 +38,8 @@ use Rattle.store_sound.proofs.TestedProofs.{expiries_keep_tested}
 use Rattle.guard_laws.specs.OwnershipKeys.{has_owner}
 use Rattle.store_sound.specs.TestedKeys.{keys_pass}
 use Rattle.std.specs.List.{list_all}
+use Rattle.guard_laws.specs.OwnerEvents.{puts_alone}
+use Rattle.guard_laws.proofs.AloneProofs.{ends_put_alone}
 
 -- a step that changes leases alone
 
@@ -55,8 +57,7 @@ timed_stands holder s t p ttl v i same is_out other leases sound stands =
             kvs = λ k. ap (λ (h : History). kv_at h p k) same ∙ sym (stands.shows.kvs k);
           })
           stands.inv;
-      sound = sound;
-      owned = ap (list_all (keys_pass (has_owner p))) same ∙ stands.owned;
+      orderly = record { sound = sound; owned = ap (list_all (keys_pass (has_owner p))) same ∙ stands.orderly.owned; alone = ap (list_all (puts_alone p)) same ∙ stands.orderly.alone };
     }
   where
     rev : v.rev ≡ newest t.history
@@ -111,14 +112,14 @@ grants_step holder s member p ttl lease reply v i some told is_out other names s
     ∙ ap (λ (m : ℕ). m == n || has_lease s.leases n) (sym (asked_itself s lease some))
     ∙ sym (has-with_lease (granted_lease (asked_number s.leases lease) ttl) s.leases n)
     ∙ ap (λ ls. has_lease ls n) (sym did.leases))
-    (requests_keep_sound s member (request.Grant ttl lease) stands.sound) stands
+    (requests_keep_sound s member (request.Grant ttl lease) stands.orderly.sound) stands
 
 -- keepalives
 
 pub keep_alives_step : KeepAlivesStep
 unfolding exec
 keep_alives_step holder s member p lease v i is_out other names stands =
-    timed_stands holder s s p (granted s.leases lease) v i refl is_out other (λ n. by_ttl n (granted s.leases lease == 0) refl) stands.sound stands
+    timed_stands holder s s p (granted s.leases lease) v i refl is_out other (λ n. by_ttl n (granted s.leases lease == 0) refl) stands.orderly.sound stands
   where
     there : (granted s.leases lease == 0) ≡ false → has_lease s.leases lease ≡ true
     there e = granted-there s.leases lease (other_number (granted s.leases lease) 0 e)
@@ -198,8 +199,11 @@ end_stands holder s p lease v known due stands =
                 ∙ sym (stands.shows.kvs k);
           })
           stands.inv;
-      sound = expiries_keep_sound s t lease is stands.sound;
-      owned = expiries_keep_tested (has_owner p) s t lease is stands.owned;
+      orderly = record {
+        sound = expiries_keep_sound s t lease is stands.orderly.sound;
+        owned = expiries_keep_tested (has_owner p) s t lease is stands.orderly.owned;
+        alone = ends_put_alone s t p lease is stands.orderly.alone;
+      };
     }
   where
     t : State
@@ -209,7 +213,7 @@ end_stands holder s p lease v known due stands =
     is = expires s lease known
 
     some : lease ≢ 0
-    some = some_lease s lease stands.sound known
+    some = some_lease s lease stands.orderly.sound known
 
     gone : (k : List ℕ) (b : Bool) → is_empty k ≡ b → (cond b nobody (owner_in (record_now s.history (p ++ k)))).session ≡ lease → cond b nobody (owner_in (record_now (ended s lease).history (p ++ k))) ≡ nobody
     gone k true c f = refl
@@ -219,7 +223,7 @@ end_stands holder s p lease v known due stands =
     leases n = by_test (n == lease) refl
       where
         by_test : (b : Bool) → (n == lease) ≡ b → cond b false (v.leases n) ≡ has_lease (without_lease lease s.leases) n
-        by_test true e = sym (ap (has_lease (without_lease lease s.leases)) (same_number n lease e) ∙ has-itself 0 lease s.leases stands.sound.leases)
+        by_test true e = sym (ap (has_lease (without_lease lease s.leases)) (same_number n lease e) ∙ has-itself 0 lease s.leases stands.orderly.sound.leases)
         by_test false e = stands.shows.leases n ∙ sym (has-other lease s.leases n e)
 
 pub expiries_step : ExpiriesStep
@@ -244,7 +248,7 @@ revocations_step holder s member p lease reply v i client told is_out other stan
   where
     answered : (t : State) → Stands holder p t (lease_gone v t p lease) → Stands holder p t (executed (lease_gone v t p lease) i (outcome t p true) (newest t.history))
     answered t gone =
-        call_stands holder p t t (lease_gone v t p lease) i (outcome t p true) gone gone.sound gone.owned ([], refl) refl (λ k. refl) (λ k. refl)
+        call_stands holder p t t (lease_gone v t p lease) i (outcome t p true) gone gone.orderly ([], refl) refl (λ k. refl) (λ k. refl)
         (record {
           ran = ran_of t t (outcome t p true) gone.shows ([], refl) (record { sent = is_out.sent; fresh = is_out.fresh }) refl;
           kind = other.kind;

@@ -33,6 +33,7 @@ use Rattle.store_sound.proofs.SoundProofs.{requests_keep_sound}
 use Rattle.store_sound.proofs.TestedProofs.{keys_stay_tested}
 use Rattle.guard_laws.specs.OwnershipKeys.{has_owner}
 use Rattle.guard_laws.proofs.OwnershipProofs.{owners_put_owned}
+use Rattle.guard_laws.proofs.AloneProofs.{owners_put_alone}
 
 -- a client key is no ownership key
 pub apart_keys : (p key k : List ℕ) → is_empty key ≡ false → is_client p k ≡ true → k ≡ p ++ key → ⊥
@@ -67,8 +68,11 @@ acquires_step holder s member p key lease reply v i client told is_out call stan
                 ∙ (λ j. record { create = newest t.history; session = sym call.session j });
           })
           stands.inv;
-      sound = requests_keep_sound s member (request.Txn (acquire p key lease)) stands.sound;
-      owned = keys_stay_tested (has_owner p) s member (request.Txn (acquire p key lease)) stands.owned (owners_put_owned p key lease (named p key client)).0;
+      orderly = record {
+        sound = requests_keep_sound s member (request.Txn (acquire p key lease)) stands.orderly.sound;
+        owned = keys_stay_tested (has_owner p) s member (request.Txn (acquire p key lease)) stands.orderly.owned (owners_put_owned p key lease (named p key client)).0;
+        alone = (owners_put_alone s member p key lease stands.orderly.alone).0;
+      };
     }
   where
     t : State
@@ -94,7 +98,7 @@ unlike key k e f = (let g : same key key ≡ false = subst (λ (j : List ℕ). s
 
 pub rescinds_step : RescindsStep
 rescinds_step holder s member p key create reply v i nonempty told is_out call stands =
-    call_stands holder p s t v i o stands (requests_keep_sound s member (request.Txn (rescind p key create)) stands.sound) (keys_stay_tested (has_owner p) s member (request.Txn (rescind p key create)) stands.owned (owners_put_owned p key create nonempty).1)
+    call_stands holder p s t v i o stands (record { sound = requests_keep_sound s member (request.Txn (rescind p key create)) stands.orderly.sound; owned = keys_stay_tested (has_owner p) s member (request.Txn (rescind p key create)) stands.orderly.owned (owners_put_owned p key create nonempty).1; alone = (owners_put_alone s member p key create stands.orderly.alone).1 })
     gains (txn_leases s member (rescind p key create)) (λ k. refl) (λ k. refl)
     (record {
       ran = ran_of s t o stands.shows gains is_out refl;
@@ -141,7 +145,7 @@ owner_marked (Some kv) k v create revision n e = refl
 
 pub revoke_calls_step : RevokeCallsStep
 revoke_calls_step holder s member p key create reply v i nonempty some told is_out other stands =
-    call_stands holder p s t v i o stands (requests_keep_sound s member (request.Txn u) stands.sound) (keys_stay_tested (has_owner p) s member (request.Txn u) stands.owned (owners_put_owned p key create nonempty).2)
+    call_stands holder p s t v i o stands (record { sound = requests_keep_sound s member (request.Txn u) stands.orderly.sound; owned = keys_stay_tested (has_owner p) s member (request.Txn u) stands.orderly.owned (owners_put_owned p key create nonempty).2; alone = (owners_put_alone s member p key create stands.orderly.alone).2 })
     gains (txn_leases s member u) (λ k. refl) (λ k. refl)
     (record {
       ran = ran_of s t o stands.shows gains is_out refl;

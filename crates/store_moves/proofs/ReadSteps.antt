@@ -12,8 +12,8 @@ use Rattle.store_model.specs.FirstRefusals.{first_refusal}
 use Rattle.store_model.specs.History.{History, newest, up_to_revision}
 use Rattle.store_model.specs.Reads.{read}
 use Rattle.store_model.specs.State.{State, applied_by}
-use Rattle.store_model.specs.Step.{Step, exec, exec_range, told_at, unless}
-use Rattle.store_model.specs.Transactions.{has_lease}
+use Rattle.store_model.specs.Step.{Step, exec, exec_range, told_at, unless, settled}
+use Rattle.store_model.specs.Transactions.{has_lease, seen, unchanged}
 use Rattle.store_laws.specs.NamedKeys.{KeepsRecord}
 use Rattle.store_laws.proofs.NamedProofs.{unnamed_keys_stay}
 use Rattle.store_laws.proofs.RequestProofs.{make_one_revision, refusals_change_nothing}
@@ -30,6 +30,8 @@ use Rattle.guard_laws.specs.OwnershipKeys.{has_owner}
 use Rattle.guard_laws.proofs.OwnershipProofs.{reads_put_owned}
 use Rattle.store_sound.specs.TestedKeys.{keys_pass, request_passes}
 use Rattle.std.specs.List.{list_all}
+use Rattle.guard_laws.specs.OwnerEvents.{puts_alone, PutAlone}
+use Rattle.guard_laws.proofs.AloneProofs.{reads_put_alone}
 
 -- reads leave the leases
 
@@ -66,6 +68,31 @@ reads_leave_leases s member (request.Revoke lease) r = absurd r
 reads_leave_leases s member (request.KeepAlive lease) r = absurd r
 reads_leave_leases s member (request.Watch ask) r = absurd r
 
+-- a range leaves the history
+
+told_history : (s : State) (member revision : ℕ) (told : Result Body Refusal) → (told_at s member revision told).0.history ≡ s.history
+told_history s member revision (Ok b) = refl
+told_history s member revision (Err refusal) = refl
+
+either_history : (s : State) (b : Bool) (x y : Step) → x.0.history ≡ s.history → y.0.history ≡ s.history → (cond b x y).0.history ≡ s.history
+either_history s true x y e f = e
+either_history s false x y e f = f
+
+unless_history : (s : State) (found : Option Refusal) (step : Step) → step.0.history ≡ s.history → (unless s found step).0.history ≡ s.history
+unless_history s None step e = e
+unless_history s (Some refusal) step e = refl
+
+settled_range : (s : State) (member : ℕ) (told : Result Body Refusal) → (settled s member (unchanged [] told)).0.history ≡ s.history
+settled_range s member (Ok b) = refl
+settled_range s member (Err refusal) = refl
+
+range_history : (s : State) (member : ℕ) (ask : RangeAsk) → (exec_range s member ask).0.history ≡ s.history
+range_history s member ask =
+    either_history s ask.serializable _ _
+    (unless_history s (first_refusal (op.Range ask)) _
+    (either_history s (nat_lt (applied_by s member) s.compacted) _ _ refl (told_history s member (applied_by s member) (read (up_to_revision s.history (applied_by s member)) (applied_by s member) s.compacted ask))))
+    (unless_history s (first_refusal (op.Range ask)) _ (settled_range s member (read (seen s []) (newest (seen s [])) s.compacted ask)))
+
 -- and every record
 
 reads_leave_records : (s : State) (member : ℕ) (q : Request) (k : List ℕ) → IsRead q → KeepsRecord s (exec s member q).0 k
@@ -94,9 +121,24 @@ reads_pass p (request.Revoke lease) r = absurd r
 reads_pass p (request.KeepAlive lease) r = absurd r
 reads_pass p (request.Watch ask) r = absurd r
 
+reads_alone : (s : State) (member : ℕ) (p : List ℕ) (q : Request) → IsRead q → PutAlone p s.history → PutAlone p (exec s member q).0.history
+unfolding exec
+reads_alone s member p (request.Range ask) r h = ap (list_all (puts_alone p)) (range_history s member ask) ∙ h
+reads_alone s member p (request.Txn t) r h = reads_put_alone s member p t r h
+reads_alone s member p (request.Compact revision physical) r h =
+    ap (list_all (puts_alone p)) (either_history s (nat_le revision s.compacted) _ _ refl (either_history s (nat_lt (newest s.history) revision) _ _ refl refl)) ∙ h
+reads_alone s member p (request.TimeToLive lease keys) r h = h
+reads_alone s member p request.Leases r h = h
+reads_alone s member p (request.Put ask) r h = absurd r
+reads_alone s member p (request.Delete ask) r h = absurd r
+reads_alone s member p (request.Grant ttl lease) r h = absurd r
+reads_alone s member p (request.Revoke lease) r h = absurd r
+reads_alone s member p (request.KeepAlive lease) r h = absurd r
+reads_alone s member p (request.Watch ask) r h = absurd r
+
 pub reads_step : ReadsStep
 reads_step holder s member p q v i r is_out other stands =
-    call_stands holder p s (exec s member q).0 v i (outcome (exec s member q).0 p false) stands (requests_keep_sound s member q stands.sound) (keys_stay_tested (has_owner p) s member q stands.owned (reads_pass p q r))
+    call_stands holder p s (exec s member q).0 v i (outcome (exec s member q).0 p false) stands (record { sound = requests_keep_sound s member q stands.orderly.sound; owned = keys_stay_tested (has_owner p) s member q stands.orderly.owned (reads_pass p q r); alone = reads_alone s member p q r stands.orderly.alone })
     (make_one_revision s member q) (reads_leave_leases s member q r) (λ k. refl) (λ k. refl)
     (record {
       ran = ran_of s (exec s member q).0 (outcome (exec s member q).0 p false) stands.shows (make_one_revision s member q) is_out refl;
@@ -126,7 +168,7 @@ refused_stands holder s p v i sent fresh stands = by_kind (v.calls i).kind refl
   where
     other : (v.calls i).kind ≢ Acquires → Stands holder p s (executed v i (outcome s p false) (newest s.history))
     other kind =
-        call_stands holder p s s v i (outcome s p false) stands stands.sound stands.owned ([], refl) refl (λ k. refl) (λ k. refl)
+        call_stands holder p s s v i (outcome s p false) stands stands.orderly ([], refl) refl (λ k. refl) (λ k. refl)
         (record {
           ran = ran_of s s (outcome s p false) stands.shows ([], refl) (record { sent = sent; fresh = fresh }) refl;
           kind = kind;
@@ -161,8 +203,7 @@ refused_stands holder s p v i sent fresh stands = by_kind (v.calls i).kind refl
                 owned = λ ok. absurd (cc);
               })
               stands.inv;
-          sound = stands.sound;
-          owned = stands.owned;
+          orderly = stands.orderly;
         }
 
     by_kind : (q : Kind) → (v.calls i).kind ≡ q → Stands holder p s (executed v i (outcome s p false) (newest s.history))
@@ -190,8 +231,7 @@ unseen_step holder p s t v history leases sound stands =
         leases = λ n. shows.leases n ∙ ap (λ ls. has_lease ls n) (sym leases);
       };
       inv = stands.inv;
-      sound = sound;
-      owned = ap (list_all (keys_pass (has_owner p))) history ∙ stands.owned;
+      orderly = record { sound = sound; owned = ap (list_all (keys_pass (has_owner p))) history ∙ stands.orderly.owned; alone = ap (list_all (puts_alone p)) history ∙ stands.orderly.alone };
     }
 
 same_both : {A : Type 0} (t : Bool) (x : A) → x ≡ cond t x x
@@ -209,6 +249,5 @@ start_stands holder p members =
         leases = λ n. refl;
       };
       inv = opening_is_true holder;
-      sound = starts_sound members;
-      owned = refl;
+      orderly = record { sound = starts_sound members; owned = refl; alone = refl };
     }

@@ -20,14 +20,10 @@ use Rattle.lease_moves.specs.View.{nobody, Outcome, View, put}
 use Rattle.lease_moves.specs.StoreMoves.{executed, Ran as MoveRan, CallRan}
 use Rattle.lease_moves.proofs.StoreProofs.{calls_keep}
 use Rattle.lease_moves.proofs.Numbers.{same_number, other_number}
-use Rattle.store_moves.specs.StoreView.{is_client, owner_in, owner_at, kv_at, Shows, Stands}
+use Rattle.store_moves.specs.StoreView.{is_client, owner_in, owner_at, kv_at, Shows, Stands, IsOrderly}
 use Rattle.store_moves.specs.CallSteps.{IsOut}
 use Rattle.etcd_types.proofs.Bools.{and_first, and_second, not_true}
 use Rattle.store_laws.specs.Branches.{after_txn}
-use Rattle.store_sound.specs.Sound.{Sound}
-use Rattle.store_sound.specs.TestedKeys.{keys_pass}
-use Rattle.guard_laws.specs.OwnershipKeys.{has_owner}
-use Rattle.std.specs.List.{list_all}
 
 pub named : (p k : List ℕ) → is_client p k ≡ true → is_empty k ≡ false
 named p k e = not_true (is_empty k) (and_first (not (is_empty k)) _ e)
@@ -115,14 +111,13 @@ ran_of s t o shows gains out done =
     record { sent = out.sent; fresh = out.fresh; done = done; past = omega arith; next = omega arith }
 
 -- a call that is no acquire
-pub call_stands : (holder : ℕ → ℕ) (p : List ℕ) (s t : State) (v : View) (i : ℕ) (o : Outcome) → Stands holder p s v → Sound t → list_all (keys_pass (has_owner p)) t.history ≡ true → GainsOneRevision s t → t.leases ≡ s.leases
+pub call_stands : (holder : ℕ → ℕ) (p : List ℕ) (s t : State) (v : View) (i : ℕ) (o : Outcome) → Stands holder p s v → IsOrderly p t → GainsOneRevision s t → t.leases ≡ s.leases
     → ((k : List ℕ) → o.owners k ≡ owner_at t.history p k) → ((k : List ℕ) → o.kvs k ≡ kv_at t.history p k) → CallRan v i o (newest t.history) → Stands holder p t (executed v i o (newest t.history))
-call_stands holder p s t v i o stands sound owned gains leases owners kvs ran =
+call_stands holder p s t v i o stands orderly gains leases owners kvs ran =
     record {
       shows = next_shows p s t v (executed v i o (newest t.history)) stands.shows gains refl owners kvs (λ r k. chosen_at r k (r == newest t.history)) (λ n. stands.shows.leases n ∙ ap (λ ls. has_lease ls n) (sym leases));
       inv = calls_keep holder v i o (newest t.history) ran stands.inv;
-      sound = sound;
-      owned = owned;
+      orderly = orderly;
     }
   where
     chosen_at : (r : ℕ) (k : List ℕ) (b : Bool) → cond b o.owners (v.told r) k ≡ cond b (owner_at t.history p) (v.told r) k

@@ -1,7 +1,6 @@
 -- What a proxy reads from the answers to its calls is what the view has of them.
-use Rattle.std.proofs.Common.{◌≡◌, ℕ, Bool, true, false, cond, List, [], ◌∷◌, ◌++◌, map, Option, None, Some, Ok, Contains, refl, sym, ◌∙◌, ap, subst}
+use Rattle.std.proofs.Common.{◌≡◌, ℕ, Bool, true, false, cond, List, [], ◌∷◌, ◌++◌, map, Option, None, Some, Ok, refl, sym, ◌∙◌, ap, subst, arith}
 use Rattle.std.specs.List.{list_all, list_any, flat_map}
-use Rattle.std.proofs.lemmas.List.Elements.{Contains-append_left, Contains-append_right, Contains-push}
 use Rattle.etcd_types.specs.declared.record.Kv.{Kv}
 use Rattle.etcd_types.specs.declared.key_range.KeyRange.{KeyRange}
 use Rattle.etcd_types.specs.declared.operation.TxnAsk.{TxnAsk}
@@ -13,8 +12,8 @@ use Rattle.etcd_types.specs.declared.request.Request.{Request}
 use Rattle.etcd_types.specs.declared.request.Request.TheVariants as request
 use Rattle.etcd_types.specs.Keys.{is_empty}
 use Rattle.store_model.specs.declared.history.KeyChange.{KeyChange}
-use Rattle.store_model.specs.History.{newest}
-use Rattle.store_model.specs.Records.{record_now}
+use Rattle.store_model.specs.History.{newest, up_to_revision}
+use Rattle.store_model.specs.Records.{record_now, record_at}
 use Rattle.store_model.specs.State.{State}
 use Rattle.store_model.specs.Transactions.{run, run_all}
 use Rattle.store_model.proofs.TransactionLemmas.{run_is_txn}
@@ -35,10 +34,10 @@ use Rattle.proxy_laws.specs.Answers.{bodies_in, bodies_now, owned_now, owners_no
 use Rattle.proxy_laws.proofs.Ran.{answer_branch}
 use Rattle.proxy_laws.proofs.Told.{claims_are_true, writes_are_true}
 use Rattle.guard_laws.proofs.GuardProofs.{acquires_claim}
-use Rattle.lease_moves.specs.View.{nobody, Outcome}
-use Rattle.store_moves.specs.StoreView.{is_client, owner_in, owner_at, kv_at}
+use Rattle.lease_moves.specs.View.{nobody, Outcome, View}
+use Rattle.store_moves.specs.StoreView.{is_client, owner_in, owner_at, kv_at, Stands}
 use Rattle.store_moves.specs.CallSteps.{outcome, write_outcome}
-use Rattle.store_moves.specs.ToldAnswers.{TellsOwner, TellsClaim, ClaimsTell, TellsOwners, told_branch, told_ops, TellsWritten, begins_empty, WritesTell}
+use Rattle.store_moves.specs.ToldAnswers.{TellsOwner, TellsClaim, ClaimsTell, TellsOwners, told_branch, told_ops, TellsWritten, begins_empty, WritesTell, TellsEvent, EventsTell}
 use Rattle.store_moves.proofs.Showing.{named, at_true, at_false, owner_stays}
 use Rattle.store_moves.proofs.OwnerSteps.{apart_keys}
 use Rattle.store_laws.specs.Branches.{Answers, holds_now, after_txn, branch_now}
@@ -53,6 +52,11 @@ use Rattle.store_laws.proofs.Branches.{branches_are_named}
 use Rattle.guard_laws.proofs.CoversProofs.{reads_name_nothing}
 use Rattle.guard_laws.proofs.OwnershipProofs.{found_owners_are_named}
 use Rattle.store_laws.proofs.AnsweredProofs.{replies_tell_revisions}
+use Rattle.guard_laws.proofs.EventProofs.{owner_events_tell}
+use Rattle.guard_laws.specs.OwnerEvents.{TellsRecord}
+use Rattle.etcd_types.specs.declared.watch.Change.{Change}
+use Rattle.etcd_types.specs.declared.watch.Change.TheVariants as event
+use Rattle.guard_laws.proofs.Elements.{Each, each_append, each_of}
 
 -- the answer's revision is the newest
 
@@ -82,20 +86,6 @@ claims_tell s member p k lease reply client told =
     by_holds false h = (refl, record_is, owner_is (record_now s.history (p ++ k)) (law.failed h (p ++ k)))
 
 -- the owners found
-
-Each : {A : Type 0} → (A → Type 0) → List A → Type 0
-Each P [] = Unit {0}
-Each P (x ∷ xs) = P x × Each P xs
-
-each_of : {A : Type 0} (P : A → Type 0) (xs : List A) → ((x : A) → Contains xs x → P x) → Each P xs
-unfolding Each
-each_of P [] f = tt
-each_of P (x ∷ xs) f = (f x (Contains-append_left (x ∷ []) xs x (Contains-push [] x)), each_of P xs (λ y c. f y (Contains-append_right (x ∷ []) xs y c)))
-
-each_append : {A : Type 0} (P : A → Type 0) (xs ys : List A) → Each P xs → Each P ys → Each P (xs ++ ys)
-unfolding Each
-each_append P [] ys a b = b
-each_append P (x ∷ xs) ys a b = (a.0, each_append P xs ys a.1 b)
 
 record Found (s : State) (p : List ℕ) (kv : Kv) : Type 0 where
   there : record_now s.history kv.key ≡ Some kv
@@ -172,4 +162,17 @@ writes_tell holder s member p write created reply v stands w np ns told =
         (let (made, bodies, known) = answer_branch s member (guarded p write created) reply told in
         (refl, done made bodies (ap (λ (b : Bool). run_all s (cond b (guarded p write created).success (guarded p write created).failure) []) (sym h) ∙ known.ran)))
     by_holds false h =
-        (refl, tells_found s p (write_outcome s (after_txn s member (guarded p write created)) p write false) (flat_map (owned_now s p) (written_ranges write)) (stays h) (found_in s p (written_ranges write) np ns stands.sound.keys stands.owned))
+        (refl, tells_found s p (write_outcome s (after_txn s member (guarded p write created)) p write false) (flat_map (owned_now s p) (written_ranges write)) (stays h) (found_in s p (written_ranges write) np ns stands.orderly.sound.keys stands.orderly.owned))
+
+-- events of the leasing stream
+
+event_told : (holder : ℕ → ℕ) (p : List ℕ) (s : State) (v : View) (c : Change) → Stands holder p s v → TellsRecord s.history c → TellsEvent p v c
+event_told holder p s v (event.Put kv) stands t = λ k n is. (
+  let past = t.0 in let e = stands.shows.rev in omega arith,
+  stands.shows.told kv.modified k t.0 ∙ at_false (is_empty k) (owner_in (record_now (up_to_revision s.history kv.modified) (p ++ k))) nobody n
+      ∙ ap owner_in (ap (record_at s.history kv.modified) (sym is) ∙ t.1),
+)
+event_told holder p s v (event.Delete key modified) stands t = tt
+
+pub events_tell : EventsTell
+events_tell holder p s v from e stands c = event_told holder p s v e.change stands (owner_events_tell p s.history from e stands.orderly.alone c)

@@ -32,6 +32,7 @@ use Rattle.store_sound.proofs.SoundProofs.{requests_keep_sound}
 use Rattle.store_sound.proofs.TestedProofs.{keys_stay_tested}
 use Rattle.guard_laws.specs.OwnershipKeys.{has_owner}
 use Rattle.guard_laws.proofs.OwnershipProofs.{writes_put_owned}
+use Rattle.guard_laws.proofs.AloneProofs.{writes_put_alone}
 
 -- the lease of what operations leave
 unleased_one : (revision : ℕ) (k : List ℕ) (o : Op) (old : Option Kv) → op_unleased k o ≡ true → lease_of old ≡ 0 → lease_of (left_op revision k o old) ≡ 0
@@ -81,7 +82,7 @@ running_unleased s p write k w e = absurd w
 
 pub writes_step : WritesStep
 writes_step holder s member p write created reply v i w np out flat modes free told is_out call stands =
-    call_stands holder p s t v i o stands (requests_keep_sound s member (request.Txn u) stands.sound) (keys_stay_tested (has_owner p) s member (request.Txn u) stands.owned (writes_put_owned p write created w out))
+    call_stands holder p s t v i o stands (record { sound = requests_keep_sound s member (request.Txn u) stands.orderly.sound; owned = keys_stay_tested (has_owner p) s member (request.Txn u) stands.orderly.owned (writes_put_owned p write created w out); alone = writes_put_alone s member p write created w out stands.orderly.alone })
     (make_one_revision s member (request.Txn u)) (txn_leases s member u) (λ k. refl) (λ k. refl)
     (record {
       ran = ran_of s t o stands.shows (make_one_revision s member (request.Txn u)) is_out refl;

@@ -17,6 +17,7 @@ use Rattle.store_sound.specs.Sound.{Sound}
 use Rattle.store_sound.specs.TestedKeys.{keys_pass}
 use Rattle.guard_laws.specs.OwnershipKeys.{has_owner}
 use Rattle.std.specs.List.{list_all}
+use Rattle.guard_laws.specs.OwnerEvents.{PutAlone}
 
 -- a key of clients: not empty, and outside the leasing range
 abbrev pub is_client : List ℕ → List ℕ → Bool
@@ -39,10 +40,15 @@ pub record Shows (p : List ℕ) (s : State) (v : View) : Type 0 where
   pub told : (r : ℕ) (k : List ℕ) → r ≤ newest s.history → v.told r k ≡ owner_at (up_to_revision s.history r) p k
   pub leases : (number : ℕ) → v.leases number ≡ has_lease s.leases number
 
--- what every step keeps: the view shows the store, its invariant holds, the store is sound, and only ownership keys stand in the
--- leasing range
+-- a store that only proxies with this prefix write: it is sound, only ownership keys stand in the leasing range, and each of them
+-- was put by a revision of its own
+pub record IsOrderly (p : List ℕ) (s : State) : Type 0 where
+  pub sound : Sound s
+  pub owned : list_all (keys_pass (has_owner p)) s.history ≡ true
+  pub alone : PutAlone p s.history
+
+-- what every step keeps: the view shows the store, its invariant holds, and the store is orderly
 pub record Stands (holder : ℕ → ℕ) (p : List ℕ) (s : State) (v : View) : Type 0 where
   pub shows : Shows p s v
   pub inv : Inv holder v
-  pub sound : Sound s
-  pub owned : list_all (keys_pass (has_owner p)) s.history ≡ true
+  pub orderly : IsOrderly p s

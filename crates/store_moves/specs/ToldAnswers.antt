@@ -1,6 +1,7 @@
--- What a proxy reads from the answers to its calls is what the view has of them: so a move of the view begins with what was read.
-use Rattle.std.specs.Prelude.{◌≡◌, ℕ, Bool, true, false, if◌then◌else◌, List, [], ◌∷◌, Option, None, Some}
-use Rattle.std.specs.List.{list_any}
+-- What a proxy reads from the answers to its calls, and from the events of its leasing stream, is what the view has of them: so a move
+-- of the view begins with what was read.
+use Rattle.std.specs.Prelude.{◌≡◌, ℕ, Bool, true, false, if◌then◌else◌, List, [], ◌∷◌, Option, None, Some, ◌≤◌, ◌++◌}
+use Rattle.std.specs.List.{list_any, Contains}
 use Rattle.etcd_types.specs.declared.record.Kv.{Kv}
 use Rattle.etcd_types.specs.declared.key_range.KeyRange.{KeyRange}
 use Rattle.etcd_types.specs.declared.operation.Op.{Op}
@@ -25,6 +26,11 @@ use Rattle.store_moves.specs.StoreView.{is_client, Stands}
 use Rattle.store_moves.specs.CallSteps.{outcome, write_outcome}
 use Rattle.store_laws.specs.Branches.{Answers, holds_now, after_txn}
 use Rattle.store_model.specs.LeftRecords.{left_by}
+use Rattle.etcd_types.specs.declared.watch.Change.{Change}
+use Rattle.etcd_types.specs.declared.watch.Change.TheVariants as event
+use Rattle.etcd_types.specs.declared.watch.Event.{Event}
+use Rattle.store_model.specs.Events.{events}
+use Rattle.proxy_model.specs.Prefixes.{leasing_range}
 
 -- the owner that was found of a key is the one that the view has in the answer
 abbrev pub TellsOwner : Outcome → List ℕ → Option found.Owner → Type 0
@@ -71,3 +77,13 @@ WritesTell =
     (holder : ℕ → ℕ) (s : State) (member : ℕ) (p : List ℕ) (write : Request) (created : List ℕ → ℕ) (reply : Reply) (v : View) → Stands holder p s v → IsWrite write → is_empty p ≡ false
     → list_any begins_empty (written_ranges write) ≡ false → Answers s member (guarded p write created) reply
     → TellsWritten p write (write_outcome s (after_txn s member (guarded p write created)) p write (holds_now s (guarded p write created))) (written p write reply)
+
+-- an event of the leasing range that tells a put: the owner that the view has of the key at that revision
+abbrev pub TellsEvent : List ℕ → View → Change → Type 0
+TellsEvent p v (event.Put kv) =
+    (k : List ℕ) → is_empty k ≡ false → kv.key ≡ p ++ k → (kv.modified ≤ v.rev) × (v.told kv.modified k ≡ record { create = kv.create; session = kv.lease })
+TellsEvent p v (event.Delete key modified) = Unit {0}
+
+abbrev pub EventsTell : Type 0
+EventsTell =
+    (holder : ℕ → ℕ) (p : List ℕ) (s : State) (v : View) (from : ℕ) (e : Event) → Stands holder p s v → Contains (events s.history (leasing_range p) from) e → TellsEvent p v e.change

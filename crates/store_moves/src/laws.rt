@@ -1,6 +1,6 @@
 ghost use Rattle.store_moves.specs.CallSteps.{WritesStep, AcquiresStep, RescindsStep, RevokeCallsStep, ReadsStep, RefusalsStep, UnseenStep, StartStands};
 ghost use Rattle.store_moves.specs.LeaseSteps.{GrantsStep, KeepAlivesStep, ExpiriesStep, RevocationsStep};
-ghost use Rattle.store_moves.specs.ToldAnswers.{ClaimsTell, WritesTell};
+ghost use Rattle.store_moves.specs.ToldAnswers.{ClaimsTell, WritesTell, EventsTell};
 ghost use Rattle.store_moves.specs.CachedReads.{HeldRecordsAreTrue, CachedReadsAreTrue, CachedSnapshotsAreTrue};
 
 /// The view stands for an empty store, and after each call of a proxy that the store executes or refuses.
@@ -30,8 +30,10 @@ pub fn cached_answers_are_true()
     ensures snapshots { CachedSnapshotsAreTrue }
 {}
 
-/// What a proxy reads from the answer to an acquire or to a guarded write is what the view has of that call.
+/// What a proxy reads from the answer to an acquire or to a guarded write is what the view has of that call, and the owner
+/// that an event of the leasing stream tells is what the view has at its revision.
 pub fn answers_tell_the_view()
     ensures claims { ClaimsTell }
     ensures writes { WritesTell }
+    ensures events { EventsTell }
 {}
