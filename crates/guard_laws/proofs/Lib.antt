@@ -3,6 +3,7 @@ pub mod Compares
 pub mod Revisions
 pub mod CoversProofs
 pub mod GuardProofs
+pub mod Running
 pub mod AnsweredProofs
 pub mod OwnershipProofs
 pub mod AloneProofs
