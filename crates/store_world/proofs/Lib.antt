@@ -1,2 +1,3 @@
 pub mod LeaseLemmas
 pub mod PushLemmas
+pub mod Stores

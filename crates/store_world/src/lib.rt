@@ -4,6 +4,7 @@
 //! take this one's place under the same clauses.
 #![tactic(auto)]
 
+mod laws;
 mod lease_requests;
 mod leases;
 mod members;
@@ -13,5 +14,6 @@ mod store;
 mod table;
 mod watches;
 
-pub use store::{Store, stores_stand_for_states};
+pub use laws::{states_of_a_store_agree, stores_stand_for_states};
+pub use store::Store;
 pub use store_model::StoreFault;

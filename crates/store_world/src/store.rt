@@ -6,8 +6,6 @@ ghost use Rattle.store_model.specs.Step.{exec, IsExecuted};
 ghost use Rattle.store_model.specs.Leases.{expired};
 ghost use Rattle.store_model.specs.Members.{applied};
 ghost use Rattle.store_model.specs.Watches.{opened, pushed, progressed};
-ghost use Rattle.store_world.specs.Faults.{StepsTo, Gives, IsFault};
-ghost use Rattle.store_world.specs.Store.{Stands, StandForStates, Takes, Opens};
 
 use crate::leases::Leases;
 use crate::requests::newest;
@@ -25,9 +23,13 @@ pub struct Store {
     pub(crate) leases: Leases,
     pub(crate) applied: Table<u64>,
     pub(crate) watches: Table<OpenWatch>,
+    ghost has_a_member: { 0 < length applied },
 }
 
 impl Store {
+    ghost use Rattle.store_world.specs.Faults.{StepsTo, Gives, IsFault};
+    ghost use Rattle.store_world.specs.Store.{Stands, Takes, Opens};
+
     /// An empty store of so many members, each of which has applied revision 1.
     pub fn new(alloc: Global, members: u32) -> Result<Store, NoMemory>
         requires members { (1 ≤ members) × (members ≤ 9) }
@@ -65,7 +67,6 @@ impl Store {
     pub fn execute(&mut self, request: &Request) -> Result<Answer, NoMemory>
         requires executed { IsExecuted request.now }
         requires room { (s : State) → Stands self.old s → newest s.history < 2 ^ 63 }
-        requires member { (s : State) → Stands self.old s → HasMember s 1 }
         ensures step { IfOk result (λ answer. (s : State) → Stands self.old s → Takes self.new answer (exec s 1 request.now)) }
         ensures err { OnErr result (self.new ≡ self.old) }
     {
@@ -143,8 +144,3 @@ impl Store {
         self.push_progress(watch)
     }
 }
-
-/// A law: each store stands for some state.
-pub fn stores_stand_for_states()
-    ensures { StandForStates }
-{}
