@@ -1,4 +1,4 @@
--- What a step of the store can't do: it makes at most one revision, and no member comes or goes.
+-- A step of the store makes at most one revision.
 use Rattle.std.proofs.Common.{◌≡◌, ◌≤◌, ℕ, ◌+◌, Bool, true, false, cond, List, [], ◌∷◌, ◌++◌, Option, None, Some, Result, Ok, Err, refl, ap, length, nat_lt, nat_le, arith, length-append}
 use Rattle.etcd_types.specs.declared.answer.Body.{Body}
 use Rattle.etcd_types.specs.declared.answer.Refusal.{Refusal}
@@ -18,21 +18,20 @@ use Rattle.store_model.specs.Transactions.{Ran, run, has_lease}
 
 pub record IsStep (s : State) (after : State) : Type 0 where
   pub revisions : newest after.history ≤ newest s.history + 1
-  pub members : length after.applied ≡ length s.applied
 
 pub one_more : (h : History) (cs : List KeyChange) → newest (with_revision h cs) ≤ newest h + 1
 one_more h [] = omega arith
 one_more h (c ∷ cs) = omega (arith, length-append h ((c ∷ cs) ∷ []))
 
 same : (s : State) → IsStep s s
-same s = record { revisions = omega arith; members = refl }
+same s = record { revisions = omega arith }
 
 -- the history is as before
-told : (s after : State) → after.history ≡ s.history → after.applied ≡ s.applied → IsStep s after
-told s after h a = record { revisions = omega (arith, ap newest h); members = ap length a }
+told : (s after : State) → after.history ≡ s.history → IsStep s after
+told s after h = record { revisions = omega (arith, ap newest h) }
 
 settled_step : (s : State) (member : ℕ) (ran : Ran) → IsStep s (settled s member ran).0
-settled_step s member (Ok ran) = record { revisions = one_more s.history ran.0; members = refl }
+settled_step s member (Ok ran) = record { revisions = one_more s.history ran.0 }
 settled_step s member (Err refusal) = same s
 
 unless_step : (s : State) (o : Option Refusal) (step : Step) → IsStep s step.0 → IsStep s (unless s o step).0
@@ -62,14 +61,14 @@ range_step s member ask =
 
 compact_step : (s : State) (member revision : ℕ) → IsStep s (exec_compact s member revision).0
 compact_step s member revision =
-    choice s (nat_le revision s.compacted) _ _ (same s) (choice s (nat_lt (newest s.history) revision) _ _ (same s) (told s _ refl refl))
+    choice s (nat_le revision s.compacted) _ _ (same s) (choice s (nat_lt (newest s.history) revision) _ _ (same s) (told s _ refl))
 
 grant_step : (s : State) (member ttl number : ℕ) → IsStep s (exec_grant s member ttl number).0
-grant_step s member ttl number = choice s (has_lease s.leases number) _ _ (same s) (told s _ refl refl)
+grant_step s member ttl number = choice s (has_lease s.leases number) _ _ (same s) (told s _ refl)
 
 revoke_step : (s : State) (member number : ℕ) → IsStep s (exec_revoke s member number).0
 revoke_step s member number =
-    choice s (has_lease s.leases number) _ _ (record { revisions = one_more s.history _; members = refl }) (same s)
+    choice s (has_lease s.leases number) _ _ (record { revisions = one_more s.history _ }) (same s)
 
 pub exec_step : (s : State) (member : ℕ) (q : Request) → IsStep s (exec s member q).0
 unfolding exec

@@ -18,7 +18,7 @@ use Rattle.replay_model.specs.Built.{is_built, is_built_world}
 use Rattle.replay_model.specs.declared.call.Asked.{Asked}
 use Rattle.replay_model.specs.declared.call.SentCall.{SentCall}
 use Rattle.replay_model.specs.declared.fault.WorldFault.TheVariants.{TicketUsed, NoSuchCall}
-use Rattle.replay_model.specs.declared.fault.Refusal.TheVariants.{NotBuilt}
+use Rattle.replay_model.specs.declared.fault.LineRefusal.TheVariants.{NotBuilt}
 use Rattle.replay_model.specs.Transcript.{Taken, step, step_if, can_start, done, counted, taken, begun, next, items_and_then, transcript, transcript_from}
 use Rattle.replay_model.specs.World.{World, Proxy, Step, starting_world, call_at, with_call, started, asked, asked_by, asked_at, asked_of, sent, sent_first, sent_of, proxy_at, executed, executed_at, executed_of, answered, answered_by, answered_of}
 

@@ -1,8 +1,8 @@
 -- Each line that is taken leaves a world whose store can be asked again.
 use Rattle.std.proofs.Common.{◌≡◌, ◌≤◌, ℕ, zero, suc, ◌+◌, ◌-◌, ◌==◌, ◌&&◌, Bool, true, false, cond, List, [], ◌∷◌, ◌++◌, Option, None, Some, is_some, Result, Ok, Err, refl, sym, ◌∙◌, ap, arith, slice_get, set, length, ◌⊎◌, inl, inr, eqb-true}
+use Rattle.etcd_types.proofs.Bools.{and_both, and_first, and_second}
 use Rattle.etcd_types.specs.Keys.{is_empty}
 use Rattle.std.specs.List.{list_all}
-use Rattle.std.proofs.lemmas.List.{length-replicate}
 use Rattle.etcd_types.specs.declared.request.Request.{Request}
 use Rattle.etcd_types.specs.declared.request.Request.TheVariants as request
 use Rattle.etcd_types.specs.declared.answer.Refusal.{Refusal}
@@ -19,7 +19,7 @@ use Rattle.replay_model.specs.Fits.{Fits, due_of}
 use Rattle.replay_model.specs.declared.call.Asked.{Asked}
 use Rattle.replay_model.specs.declared.call.SentCall.{SentCall}
 use Rattle.replay_model.specs.declared.fault.WorldFault.TheVariants.{TicketUsed, NoSuchCall}
-use Rattle.replay_model.specs.declared.fault.Refusal.TheVariants.{NotBuilt}
+use Rattle.replay_model.specs.declared.fault.LineRefusal.TheVariants.{NotBuilt}
 use Rattle.replay_model.specs.Transcript.{Taken, step, step_if, can_start, done, counted, taken, begun, next}
 use Rattle.replay_model.specs.World.{World, Proxy, Step, word, starting_world, call_at, with_call, started, asked, asked_by, asked_of, sent, sent_first, sent_of, proxy_at, executed, executed_at, executed_of, answered, answered_by, answered_of}
 use Rattle.replay_laws.proofs.StoreSteps.{exec_step}
@@ -35,44 +35,32 @@ abbrev pub Leaves : ℕ → ℕ → Taken → Type 0
 Leaves lines c (Ok gained) = Fits (lines + 1) c gained.0
 Leaves lines c (Err why) = Unit {0}
 
-and_true : (a b : Bool) → a ≡ true → b ≡ true → a && b ≡ true
-and_true true b e f = f
-and_true false b e f = e
-
-first_true : (a b : Bool) → a && b ≡ true → a ≡ true
-first_true true b e = refl
-first_true false b e = e
-
-second_true : (a b : Bool) → a && b ≡ true → b ≡ true
-second_true true b e = e
-second_true false b e = absurd (cc)
-
 all_more : {A : Type 0} (p : A → Bool) (xs : List A) (x : A) → list_all p xs ≡ true → p x ≡ true → list_all p (xs ++ x ∷ []) ≡ true
-all_more p [] x all one = and_true (p x) true one refl
+all_more p [] x all one = and_both (p x) true one refl
 all_more p (y ∷ ys) x all one =
-    and_true (p y) _ (first_true (p y) _ all) (all_more p ys x (second_true (p y) _ all) one)
+    and_both (p y) _ (and_first (p y) _ all) (all_more p ys x (and_second (p y) _ all) one)
 
 all_set : {A : Type 0} (p : A → Bool) (xs : List A) (i : ℕ) (old new : A) → slice_get xs i ≡ Some old → p new ≡ p old
     → list_all p xs ≡ true → list_all p (set xs i new) ≡ true
 all_set p [] i old new e same all = all
 all_set p (y ∷ ys) zero old new e same all =
-    and_true (p new) _ (same ∙ ap p (sym (some-is y old e)) ∙ first_true (p y) _ all) (second_true (p y) _ all)
+    and_both (p new) _ (same ∙ ap p (sym (some-is y old e)) ∙ and_first (p y) _ all) (and_second (p y) _ all)
   where
     some-is : {A : Type 0} (x y : A) → Some x ≡ Some y → x ≡ y
     some-is x y e = cc
 all_set p (y ∷ ys) (suc i) old new e same all =
-    and_true (p y) _ (first_true (p y) _ all) (all_set p ys i old new e same (second_true (p y) _ all))
+    and_both (p y) _ (and_first (p y) _ all) (all_set p ys i old new e same (and_second (p y) _ all))
 
 -- one line more, and the same world but for what is named
 kept : {lines c : ℕ} {w : World} → Fits lines c w → Fits (lines + 1) c w
-kept f = record { revisions = omega (arith, f.revisions); few = f.few; member = f.member; due = f.due; calls = f.calls }
+kept f = record { revisions = omega (arith, f.revisions); few = f.few; due = f.due; calls = f.calls }
 
 if_built : (lines c : ℕ) (b : Bool) (t : Step) → (b ≡ true → Leaves lines c (step t)) → Leaves lines c (step_if b t)
 if_built lines c true t h = h refl
 if_built lines c false t h = tt
 
 started_leaves : (lines c : ℕ) (w : World) (p : ℕ) → Fits lines c w → Leaves lines c (step (started w p))
-started_leaves lines c w p f = record { revisions = omega (arith, f.revisions); few = f.few; member = f.member; due = refl; calls = f.calls }
+started_leaves lines c w p f = record { revisions = omega (arith, f.revisions); few = f.few; due = refl; calls = f.calls }
 
 -- passing on leaves the kind of a request, and what a range asks for
 passed_on_built : (namespace : List ℕ) (word : ℕ) (request : Request) → is_built (passed_on namespace word request) ≡ is_built request
@@ -93,14 +81,12 @@ refused_or_due : (lines c : ℕ) (w : World) (proxy : Proxy) (p ticket : ℕ) (r
 refused_or_due lines c w proxy p ticket request (Some refusal) e built f = record {
   revisions = omega (arith, f.revisions);
   few = f.few;
-  member = f.member;
   due = ap (λ (o : Option Proxy). list_all asks_built (due_of o)) (sym e) ∙ f.due;
   calls = f.calls;
 }
 refused_or_due lines c w proxy p ticket request None e built f = record {
   revisions = omega (arith, f.revisions);
   few = f.few;
-  member = f.member;
   due = all_more asks_built proxy.due _ (ap (λ (o : Option Proxy). list_all asks_built (due_of o)) (sym e) ∙ f.due)
       (passed_on_built w.namespace (word w) request ∙ built);
   calls = f.calls;
@@ -130,9 +116,8 @@ sent_by lines c w proxy p [] all f = tt
 sent_by lines c w proxy p (first ∷ rest) all f = record {
   revisions = omega (arith, f.revisions);
   few = f.few;
-  member = f.member;
-  due = second_true (asks_built first) _ all;
-  calls = all_more calls_built w.calls _ f.calls (first_true (asks_built first) _ all);
+  due = and_second (asks_built first) _ all;
+  calls = all_more calls_built w.calls _ f.calls (and_first (asks_built first) _ all);
 }
 
 sent_leaves : (lines c : ℕ) (w : World) (o : Option Proxy) (p : ℕ) → (o ≡ None) ⊎ (o ≡ w.proxy) → Fits lines c w → Leaves lines c (step (sent_of w o p))
@@ -158,7 +143,6 @@ executed_by lines c w number call false e f =
     record {
       revisions = omega (arith, f.revisions, s.revisions);
       few = f.few;
-      member = (f.member.0, omega (arith, f.member.1, s.members));
       due = f.due;
       calls = with_call_built w number call _ e refl f.calls;
     }
@@ -173,7 +157,6 @@ answered_with lines c w number call None e f = tt
 answered_with lines c w number call (Some answer) e f = record {
   revisions = omega (arith, f.revisions);
   few = f.few;
-  member = f.member;
   due = f.due;
   calls = with_call_built w number call _ e refl f.calls;
 }
@@ -198,19 +181,18 @@ done_leaves lines c w (line.Answer number) f = answered_leaves lines c w number 
 done_leaves lines c w _ f = tt
 
 counted_leaves : (lines c : ℕ) (t : Taken) → Leaves lines c t → Leaves lines (c + 1) (counted t)
-counted_leaves lines c (Ok gained) f = record { revisions = f.revisions; few = omega (arith, f.few); member = f.member; due = f.due; calls = f.calls }
+counted_leaves lines c (Ok gained) f = record { revisions = f.revisions; few = omega (arith, f.few); due = f.due; calls = f.calls }
 counted_leaves lines c (Err why) f = tt
 
 pub taken_leaves : (lines c : ℕ) (w : World) (l : Line) → Fits lines c w → Leaves lines (c + 1) (taken w l)
 taken_leaves lines c w l f = counted_leaves lines c (done w l) (done_leaves lines c w l f)
 
-begun_if : (b : Bool) (members : ℕ) (namespace leasing : List ℕ) → (b ≡ true → members ≡ 1)
+begun_if : (b : Bool) (members : ℕ) (namespace leasing : List ℕ)
     → Leaves 0 1 (cond b (Ok (starting_world members namespace, item.World members namespace leasing ∷ [])) (Err NotBuilt))
-begun_if true members namespace leasing one =
-    record { few = omega arith; revisions = omega arith; member = (omega arith, omega (arith, one refl, length-replicate {A = ℕ} members 1)); due = refl; calls = refl }
-begun_if false members namespace leasing one = tt
+begun_if true members namespace leasing = record { few = omega arith; revisions = omega arith; due = refl; calls = refl }
+begun_if false members namespace leasing = tt
 
 pub begun_leaves : (l : Line) → Leaves 0 1 (begun l)
 begun_leaves (line.World members namespace leasing) =
-    begun_if (is_built_world members leasing) members namespace leasing (λ e. eqb-true members 1 (first_true (members == 1) _ e))
+    begun_if (is_built_world members leasing) members namespace leasing
 begun_leaves _ = tt

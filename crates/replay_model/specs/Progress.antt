@@ -1,6 +1,6 @@
 -- How far the bytes of a script take a replay. Lines are taken in order, and the first one that is refused ends it: a limit is
 -- tested before the grammar, and the grammar before the step.
-use Rattle.std.specs.Prelude.{ℕ, ◌+◌, Bool, true, false, ◌||◌, nat_lt, if◌then◌else◌, List, [], ◌∷◌, ◌++◌, length, Option, None, Some, Result, Ok, Err}
+use Rattle.std.specs.Prelude.{◌≡◌, ◌⊎◌, ℕ, ◌+◌, Bool, true, false, ◌||◌, nat_lt, if◌then◌else◌, List, [], ◌∷◌, ◌++◌, length, Option, None, Some, Result, Ok, Err}
 use Rattle.etcd_types.specs.Keys.{is_empty}
 use Rattle.script_text.specs.declared.line.Line.{Line}
 use Rattle.script_text.specs.declared.item.Item.{Item}
@@ -12,7 +12,7 @@ use Rattle.replay_model.specs.Transcript.{Taken, next}
 use Rattle.replay_model.specs.declared.limits.TheConstants.{MOST_LINE_BYTES, MOST_LINES, MOST_BYTES}
 use Rattle.replay_model.specs.declared.ending.Ending.{Ending}
 use Rattle.replay_model.specs.declared.ending.Ending.TheVariants as ending
-use Rattle.replay_model.specs.declared.fault.Refusal.TheVariants as refusal
+use Rattle.replay_model.specs.declared.fault.LineRefusal.TheVariants as refusal
 
 -- the lines taken and what they gained, the bytes that they took with their line feeds, the world that they left
 pub record Progress : Type 0 where
@@ -81,3 +81,13 @@ progress bytes = on_lines beginning (whole_lines bytes)
 abbrev pub finished : List ℕ → Progress
 finished bytes =
     if is_empty (begun_line bytes) then progress bytes else on_line (progress bytes) (begun_line bytes) false
+
+-- the lines before it are taken, and the line that has begun passes a limit already
+pub record BeginsPast (bytes : List ℕ) : Type 0 where
+  pub taken : (progress bytes).ending ≡ ending.Open
+  pub begun : is_empty (begun_line bytes) ≡ false
+  pub past : passes_limit (progress bytes) (length (begun_line bytes)) (length (begun_line bytes)) ≡ true
+
+-- the first refused line of these bytes passes a limit, whole or begun
+abbrev pub HasPassed : List ℕ → Type 0
+HasPassed bytes = ((progress bytes).ending ≡ ending.PastLimit) ⊎ BeginsPast bytes

@@ -8,12 +8,12 @@ use Rattle.script_text.specs.Items.{item_text}
 use Rattle.replay_model.specs.Built.{is_built, is_built_world}
 use Rattle.replay_model.specs.Script.{line_feed}
 use Rattle.replay_model.specs.World.{World, Step, starting_world, started, asked, sent, executed, answered}
-use Rattle.replay_model.specs.declared.fault.Refusal.{Refusal}
-use Rattle.replay_model.specs.declared.fault.Refusal.TheVariants as refusal
+use Rattle.replay_model.specs.declared.fault.LineRefusal.{LineRefusal}
+use Rattle.replay_model.specs.declared.fault.LineRefusal.TheVariants as refusal
 
 -- what a line gains, with the world that it leaves, or why it is refused
 abbrev pub Taken : Type 0
-Taken = Result (World × List Item) Refusal
+Taken = Result (World × List Item) LineRefusal
 
 abbrev pub step : Step → Taken
 step (Ok gained) = Ok gained

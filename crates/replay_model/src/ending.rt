@@ -1,7 +1,7 @@
 ghost use Rattle.std.specs.Prelude.{◌≡◌};
 ghost use Rattle.replay_model.specs.Endings.{is_open};
 
-use crate::fault::Refusal;
+use crate::fault::LineRefusal;
 
 /// How far a script was taken.
 #[derive(Clone, Copy, Debug, PartialEq, Eq)]
@@ -9,7 +9,7 @@ pub enum Ending {
     /// No line was refused so far.
     Open,
     /// The line of this number, from 1, is the first that was refused.
-    Refused { number: u64, refusal: Refusal },
+    Refused { number: u64, refusal: LineRefusal },
     /// The first refused line passes a limit.
     PastLimit,
 }

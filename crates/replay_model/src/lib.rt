@@ -10,5 +10,5 @@ mod limits;
 
 pub use call::{Asked, SentCall};
 pub use ending::Ending;
-pub use fault::{Refusal, WorldFault};
-pub use limits::{MOST_BYTES, MOST_LINE_BYTES, MOST_LINES};
+pub use fault::{LineRefusal, WorldFault};
+pub use limits::{MOST_BYTES, MOST_LINE_BYTES, MOST_LINES, limits_are_stated};
