@@ -1,16 +1,17 @@
 -- A piece of a script, byte by byte, and what of its transcript is written and what is pending.
-use Rattle.std.proofs.Common.{◌≡◌, ◌≤◌, ◌<◌, ℕ, ◌+◌, true, false, List, [], ◌∷◌, ◌++◌, length, take, get_or, refl, sym, ◌∙◌, ap, subst, append_assoc, append-nil}
+use Rattle.std.proofs.Common.{◌≡◌, ◌≤◌, ◌<◌, ℕ, ◌+◌, true, false, List, [], ◌∷◌, ◌++◌, length, take, drop, get_or, refl, sym, ◌∙◌, ap, subst, append_assoc, append-nil}
 use Rattle.std.specs.Prelude.{Option}
-use Rattle.std.proofs.lemmas.List.{take_more, take_at, drop_at}
+use Rattle.std.proofs.lemmas.List.{take_more, take-append-drop}
 use Rattle.std.proofs.KnownBytes.{Appends-trans}
 use Rattle.std.specs.Io.KnownBytes.{Appends}
 use Rattle.outside.specs.Streams.{WritesFront}
 use Rattle.replay_model.specs.Endings.{is_open}
-use Rattle.replay_model.specs.Progress.{finished}
-use Rattle.std.proofs.Math.Seq.{take-add}
+use Rattle.replay_model.specs.Progress.{Progress}
+use Rattle.replay_model.specs.Transcript.{transcript_text}
+use Rattle.replay_model.proofs.Growing.{is_open-true, progress_grows, progress_stays, passed_more, passed_adds_nothing}
 use Rattle.replay_model.specs.declared.ending.Ending.{Ending}
 use Rattle.replay_model.specs.declared.ending.Ending.TheVariants as ending
-use Rattle.etcd_proxy.specs.Replay.{Follows, Writes, TakesByte, Fed, Feeds, WritesSome, text_so_far, text_of}
+use Rattle.etcd_proxy.specs.Replay.{Follows, Writes, HasRefused, TakesByte, Fed, Stopped, Feeds, text_so_far}
 use Rattle.etcd_proxy.specs.declared.replay.Replay.{Replay}
 
 -- what is added to the text is added to what is pending
@@ -52,12 +53,7 @@ next_front bytes piece i byte within is =
 fed_byte : (start written : Option (List ℕ)) (old new : Replay) (bytes : List ℕ) (byte : ℕ) → Fed start written old bytes
     → TakesByte old new bytes byte ending.Open → Fed start written new (bytes ++ byte ∷ [])
 fed_byte start written old new bytes byte f t =
-    record { follows = t.follows refl; writes = writes_more new.pending.items (text_so_far (bytes ++ byte ∷ [])) t.added f.writes t.pending t.so_far }
-
-pub is_open-true : (e : Ending) → is_open e ≡ true → e ≡ ending.Open
-is_open-true ending.Open h = refl
-is_open-true (ending.Refused number refusal) h = absurd (cc)
-is_open-true ending.PastLimit h = absurd (cc)
+    record { follows = t.follows refl; writes = writes_more new.pending.items (text_so_far (bytes ++ byte ∷ [])) t.added f.writes t.pending t.text }
 
 -- one byte more of a piece was taken
 pub fed_more : (start written : Option (List ℕ)) (old new : Replay) (bytes piece : List ℕ) (i byte : ℕ) (e : Ending) → i < length piece → byte ≡ get_or piece i 0
@@ -67,40 +63,53 @@ fed_more start written old new bytes piece i byte e within is opened f t =
     subst (Fed start written new) (sym (next_front bytes piece i byte within is))
     (fed_byte start written old new (bytes ++ take i piece) byte f (subst (TakesByte old new (bytes ++ take i piece) byte) (is_open-true e opened) t))
 
-refused_by : (start written : Option (List ℕ)) (old new : Replay) (bytes piece : List ℕ) (i byte : ℕ) (e : Ending) → bytes ++ take (i + 1) piece ≡ (bytes ++ take i piece) ++ byte ∷ []
-    → is_open e ≡ false → Fed start written old (bytes ++ take i piece) → TakesByte old new (bytes ++ take i piece) byte e
-    → Feeds start written new bytes piece e
-refused_by start written old new bytes piece i byte ending.Open is closed f t = absurd (cc)
-refused_by start written old new bytes piece i byte (ending.Refused number refusal) is closed f t = record {
-  count = i + 1;
-  ended = ap (λ (bs : List ℕ). (finished bs).ending) is ∙ t.ended;
-  writes = writes_more new.pending.items (text_of (bytes ++ take (i + 1) piece)) t.added f.writes t.pending (ap text_of is ∙ t.text);
-}
-refused_by start written old new bytes piece i byte ending.PastLimit is closed f t = record {
-  count = i + 1;
-  ended = ap (λ (bs : List ℕ). (finished bs).ending) is ∙ t.ended;
-  writes = writes_more new.pending.items (text_of (bytes ++ take (i + 1) piece)) t.added f.writes t.pending (ap text_of is ∙ t.text);
-}
+-- a refused line is the first one whatever follows
+refused_more : (e : Ending) (bytes more : List ℕ) → HasRefused bytes e → HasRefused (bytes ++ more) e
+refused_more ending.Open bytes more h = absurd h
+refused_more (ending.Refused number refusal) bytes more h = ap (λ (p : Progress). p.ending) (progress_stays bytes more (ap is_open h)) ∙ h
+refused_more ending.PastLimit bytes more h = passed_more bytes more h
+
+text_stays : (e : Ending) (bytes more : List ℕ) → HasRefused bytes e → text_so_far (bytes ++ more) ≡ text_so_far bytes
+text_stays ending.Open bytes more h = absurd h
+text_stays (ending.Refused number refusal) bytes more h = ap (λ (p : Progress). transcript_text p.items) (progress_stays bytes more (ap is_open h))
+text_stays ending.PastLimit bytes more h = ap transcript_text (passed_adds_nothing bytes more h)
+
+feeds_by : (start written : Option (List ℕ)) (new : Replay) (bytes : List ℕ) (e : Ending) → Stopped start written new bytes e → Feeds start written new bytes e
+feeds_by start written new bytes ending.Open s = absurd s.refused
+feeds_by start written new bytes (ending.Refused number refusal) s = s
+feeds_by start written new bytes ending.PastLimit s = s
+
+parts_of : (bytes piece : List ℕ) (n : ℕ) → (bytes ++ take n piece) ++ drop n piece ≡ bytes ++ piece
+parts_of bytes piece n = append_assoc bytes (take n piece) (drop n piece) ∙ ap (λ (bs : List ℕ). bytes ++ bs) (take-append-drop n piece)
 
 -- a byte refused a line
 pub refused_at : (start written : Option (List ℕ)) (old new : Replay) (bytes piece : List ℕ) (i byte : ℕ) (e : Ending) → i < length piece → byte ≡ get_or piece i 0
     → is_open e ≡ false → Fed start written old (bytes ++ take i piece) → TakesByte old new (bytes ++ take i piece) byte e
-    → Feeds start written new bytes piece e
+    → Feeds start written new (bytes ++ piece) e
 refused_at start written old new bytes piece i byte e within is closed f t =
-    refused_by start written old new bytes piece i byte e (next_front bytes piece i byte within is) closed f t
+    let cut = (bytes ++ take i piece) ++ byte ∷ [] in
+    let more = drop (i + 1) piece in
+    let all : cut ++ more ≡ bytes ++ piece =
+    ap (λ (bs : List ℕ). bs ++ more) (sym (next_front bytes piece i byte within is)) ∙ parts_of bytes piece (i + 1) in
+    let refused = t.refused closed in
+    let written_of_cut : Writes start written new.pending.items (text_so_far cut) =
+    writes_more new.pending.items (text_so_far cut) t.added f.writes t.pending t.text in
+    subst (λ (bs : List ℕ). Feeds start written new bs e) all (feeds_by start written new (cut ++ more) e (record {
+      refused = refused_more e cut more refused;
+      writes = subst (Writes start written new.pending.items) (sym (text_stays e cut more refused)) written_of_cut;
+    }))
 
--- what stands written is of a front of the bytes
-pub stopped_at : (start written : Option (List ℕ)) (bytes piece : List ℕ) (i : ℕ) → i ≤ length piece
-    → WritesFront start written (text_so_far (bytes ++ take i piece)) → WritesSome start written (bytes ++ piece)
-stopped_at start written bytes piece i within w = record {
-  count = length bytes + i;
-  front = subst (λ (bs : List ℕ). WritesFront start written (text_so_far bs)) (sym is) w;
-}
-  where
-    is : take (length bytes + i) (bytes ++ piece) ≡ bytes ++ take i piece
-    is =
-        take-add (length bytes) i (bytes ++ piece)
-        ∙ (λ j. take_at bytes piece (length bytes) refl j ++ take i (drop_at bytes piece (length bytes) refl j))
+-- what stands written is of a front of the bytes, and so of all
+pub stopped_at : (start written : Option (List ℕ)) (bytes piece : List ℕ) (i : ℕ)
+    → WritesFront start written (text_so_far (bytes ++ take i piece)) → WritesFront start written (text_so_far (bytes ++ piece))
+stopped_at start written bytes piece i w =
+    let g = progress_grows (bytes ++ take i piece) (drop i piece) in
+    subst (λ (bs : List ℕ). WritesFront start written (text_so_far bs)) (parts_of bytes piece i) (record {
+      front = w.front;
+      rest = w.rest ++ g.added;
+      parts = g.text ∙ ap (λ (bs : List ℕ). bs ++ g.added) w.parts ∙ append_assoc w.front w.rest g.added;
+      written = w.written;
+    })
 
 -- what is pending says nothing of the bytes that were taken
 pub kept_follows : (old new : Replay) (bytes : List ℕ) → new ≡ record old { pending = new.pending } → Follows old bytes → Follows new bytes

@@ -1,6 +1,7 @@
 -- A byte of a script, in the program's replay and in the progress that it stands for.
-use Rattle.std.proofs.Common.{◌≡◌, ℕ, Bool, true, false, cond, ◌==◌, List, [], ◌∷◌, ◌++◌, length, refl, sym, ◌∙◌, ap, subst, append-nil, eqb-true, arith}
+use Rattle.std.proofs.Common.{◌≡◌, ℕ, Bool, true, false, cond, ◌==◌, List, [], ◌∷◌, ◌++◌, length, refl, sym, ◌∙◌, ap, subst, append-nil, eqb-true, arith, inl, inr}
 use Rattle.etcd_types.specs.Keys.{is_empty}
+use Rattle.replay_model.specs.Endings.{is_open}
 use Rattle.replay_model.specs.Progress.{Progress, progress, finished, on_line, after_line, passes_limit}
 use Rattle.replay_model.specs.Script.{line_feed, begun_line}
 use Rattle.replay_model.specs.Transcript.{transcript_text}
@@ -8,16 +9,16 @@ use Rattle.replay_model.specs.declared.ending.Ending.{Ending}
 use Rattle.replay_model.specs.declared.ending.Ending.TheVariants as ending
 use Rattle.replay_model.proofs.Progresses.{on_open, progress-append_one, finished-whole, finished-begun, past_limit}
 use Rattle.replay_model.proofs.ScriptLines.{begun_line-append_one}
-use Rattle.etcd_proxy.specs.Replay.{Follows, reached, TakesByte, TakesEnd}
+use Rattle.etcd_proxy.specs.Replay.{Follows, HasRefused, TakesByte, TakesEnd}
 use Rattle.etcd_proxy.specs.Script.{Adds, Stands, IsReady}
 use Rattle.etcd_proxy.specs.declared.replay.Replay.{Replay}
 use Rattle.etcd_proxy.specs.declared.script.Script.{Script}
 
--- behind a line feed it makes no difference whether the begun line counts, since there is none
-reached_by : (e : Ending) (bytes : List ℕ) → begun_line bytes ≡ [] → reached e bytes ≡ progress bytes
-reached_by ending.Open bytes none = refl
-reached_by (ending.Refused number refusal) bytes none = finished-whole bytes none
-reached_by ending.PastLimit bytes none = finished-whole bytes none
+-- the first refused line is a whole one
+refused_whole : (e : Ending) (bytes : List ℕ) → (progress bytes).ending ≡ e → is_open e ≡ false → HasRefused bytes e
+refused_whole ending.Open bytes h closed = absurd (cc)
+refused_whole (ending.Refused number refusal) bytes h closed = h
+refused_whole ending.PastLimit bytes h closed = inl h
 
 nothing_begun : (line : List ℕ) → line ≡ [] → is_empty line ≡ false → ⊥
 nothing_begun [] e some = cc
@@ -35,9 +36,8 @@ takes_feed old new bytes byte e f feed a cleared =
     ∙ ap (λ (b : Bool). cond b (on_line (progress bytes) (begun_line bytes) true) (progress bytes)) feed
     ∙ on_open (progress bytes) (begun_line bytes) true f.stands.ending
     ∙ ap (λ (line : List ℕ). after_line (progress bytes) line true) (sym f.begun) in
-    let there : reached e bytes' ≡ p' = reached_by e bytes' begun ∙ goes in
     record {
-      ended = ap (λ (p : Progress). p.ending) there ∙ a.ended;
+      refused = refused_whole e bytes' (ap (λ (p : Progress). p.ending) goes ∙ a.ended);
       follows = λ is_open. record {
         stands = subst (λ (p : Progress). Stands new.script p) (sym goes) (a.stands is_open);
         within = λ some. absurd (nothing_begun (begun_line bytes') begun some);
@@ -45,8 +45,7 @@ takes_feed old new bytes byte e f feed a cleared =
         begun = cleared ∙ sym begun;
       };
       added = a.added;
-      text = ap (λ (p : Progress). transcript_text p.items) there ∙ a.text;
-      so_far = ap (λ (p : Progress). transcript_text p.items) goes ∙ a.text;
+      text = ap (λ (p : Progress). transcript_text p.items) goes ∙ a.text;
       pending = a.out;
     }
 
@@ -68,7 +67,7 @@ takes_other old new bytes byte f other script line pending within =
     let begun : new.line.items ≡ begun_line (bytes ++ byte ∷ []) =
     line ∙ ap (λ (l : List ℕ). l ++ byte ∷ []) f.begun ∙ sym (begun_grows bytes byte other) in
     record {
-      ended = ap (λ (p : Progress). p.ending) goes ∙ f.stands.ending;
+      refused = λ closed. absurd (cc);
       follows = λ _. record {
         stands = subst (λ (p : Progress). Stands new.script p) (sym goes) (subst (λ (s : Script). Stands s (progress bytes)) (sym script) f.stands);
         within = λ _. (λ i. passes_limit (goes i) (length (sym begun i)) (length (sym begun i))) ∙ within;
@@ -77,7 +76,6 @@ takes_other old new bytes byte f other script line pending within =
       };
       added = [];
       text = ap (λ (p : Progress). transcript_text p.items) goes ∙ sym (append-nil (transcript_text (progress bytes).items));
-      so_far = ap (λ (p : Progress). transcript_text p.items) goes ∙ sym (append-nil (transcript_text (progress bytes).items));
       pending = pending ∙ sym (append-nil old.pending.items);
     }
 
@@ -95,16 +93,15 @@ takes_too_much old new bytes byte f other line pending past =
     let grown = begun_grows bytes byte other in
     let begun : new.line.items ≡ begun_line bytes' = line ∙ ap (λ (l : List ℕ). l ++ byte ∷ []) f.begun ∙ sym grown in
     let goes = progress_stays bytes byte other in
-    let there : finished bytes' ≡ record (progress bytes) { ending = ending.PastLimit } =
-    finished-begun bytes' (ap is_empty grown ∙ is_begun (begun_line bytes) byte)
-    ∙ (λ i. on_line (goes i) (sym begun i) false)
-    ∙ past_limit (progress bytes) new.line.items f.stands.ending past in
     record {
-      ended = ap (λ (p : Progress). p.ending) there;
+      refused = λ closed. inr (record {
+        taken = ap (λ (p : Progress). p.ending) goes ∙ f.stands.ending;
+        begun = ap is_empty grown ∙ is_begun (begun_line bytes) byte;
+        past = (λ i. passes_limit (goes i) (length (sym begun i)) (length (sym begun i))) ∙ past;
+      });
       follows = λ e. absurd (cc);
       added = [];
-      text = ap (λ (p : Progress). transcript_text p.items) there ∙ sym (append-nil (transcript_text (progress bytes).items));
-      so_far = ap (λ (p : Progress). transcript_text p.items) goes ∙ sym (append-nil (transcript_text (progress bytes).items));
+      text = ap (λ (p : Progress). transcript_text p.items) goes ∙ sym (append-nil (transcript_text (progress bytes).items));
       pending = pending ∙ sym (append-nil old.pending.items);
     }
 

@@ -11,14 +11,15 @@ use Rattle.replay_model.specs.Script.{line_feed}
 use Rattle.replay_model.specs.Transcript.{Taken, next, taken, transcript_text}
 use Rattle.replay_model.specs.World.{World as Model}
 use Rattle.replay_model.specs.declared.ending.Ending.TheVariants as ending
-use Rattle.replay_model.specs.declared.fault.Refusal.{Refusal}
 use Rattle.replay_model.specs.declared.limits.TheConstants.{MOST_LINES}
 use Rattle.replay_laws.proofs.WorldFits.{Leaves, taken_leaves, begun_leaves}
 use Rattle.etcd_proxy.specs.Script.{StandsIfThere, FitsIfThere, Stands, IsReady, Gains, Refuses, Gives, Adds}
 use Rattle.etcd_proxy.specs.World as world
+use Rattle.etcd_proxy.specs.declared.refused.NotTaken.{NotTaken}
+use Rattle.etcd_proxy.specs.declared.refused.NotTaken.TheVariants.{Refused, NoMemory}
 use Rattle.etcd_proxy.specs.declared.script.Script.{Script}
 use Rattle.etcd_proxy.specs.declared.world.World.{World}
-use Rattle.etcd_proxy.proofs.Worlds.{stands_once, fits_more}
+use Rattle.etcd_proxy.proofs.Worlds.{fits_alike, fits_more}
 
 -- a world of the script can be given a line
 pub world_is_ready : (o : Option World) (w : World) (lines : ℕ) → o ≡ Some w → lines ≤ MOST_LINES
@@ -26,15 +27,16 @@ pub world_is_ready : (o : Option World) (w : World) (lines : ℕ) → o ≡ Some
 world_is_ready o w lines e few ready = λ m h.
     fits_more lines MOST_LINES m few (ready (Some m) (subst (λ (p : Option World). StandsIfThere p (Some m)) (sym e) h))
 
-gives_line : (new : World) (r : Result (List Item) Refusal) (m : Model) (line : Line) (read : Result Line ℕ) → read ≡ Ok line
+gives_line : (new : World) (r : Result (List Item) NotTaken) (m : Model) (line : Line) (read : Result Line ℕ) → read ≡ Ok line
     → world.Gives new r (taken m line) → Gives (Some new) r (Some m) read
 gives_line new (Ok items) m line read e g =
     record { line = line; after = g.after; read_so = e; taken_so = g.taken_so; stands = g.stands }
-gives_line new (Err why) m line read e g =
-    λ n. subst (λ (r : Result Line ℕ). Refuses why (Some m) r) (sym e) (g n)
+gives_line new (Err (Refused why)) m line read e g =
+    subst (λ (r : Result Line ℕ). Refuses why (Some m) r) (sym e) g
+gives_line new (Err NoMemory) m line read e g = tt
 
 -- what the world gave to a line that was read
-pub world_gives : (o : Option World) (w new : World) (r : Result (List Item) Refusal) (line : Line) (read : Result Line ℕ) → o ≡ Some w → read ≡ Ok line
+pub world_gives : (o : Option World) (w new : World) (r : Result (List Item) NotTaken) (line : Line) (read : Result Line ℕ) → o ≡ Some w → read ≡ Ok line
     → ((m : Model) → world.Stands w m → world.Gives new r (taken m line))
     → (m : Option Model) → StandsIfThere o m → Gives (Some new) r m read
 world_gives o w new r line read e f g None h =
@@ -56,7 +58,7 @@ ready_by : (o : Option World) (lines : ℕ) (after : Model) → StandsIfThere o 
     → (m : Option Model) → StandsIfThere o m → FitsIfThere lines m
 ready_by None lines after s f m h = absurd s
 ready_by (Some w) lines after s f None h = tt
-ready_by (Some w) lines after s f (Some m) h = subst (Fits lines lines) (stands_once w after m s h) f
+ready_by (Some w) lines after s f (Some m) h = fits_alike lines lines w after m s h f
 
 -- the progress behind a line within the limits that was read and taken
 goes_to : (p : Progress) (bytes : List ℕ) (feed : Bool) (line : Line) (after : Model) (items : List Item)

@@ -1,31 +1,24 @@
 -- A turn of the replay, at each of its ends.
-use Rattle.std.proofs.Common.{◌≡◌, ◌≢◌, ◌≤◌, ℕ, ◌+◌, Bool, true, false, cond, List, [], ◌∷◌, ◌++◌, length, take, Result, Ok, Err, IfOk, IfErr, refl, sym, ◌∙◌, ap, subst, append_assoc, append-nil, arith}
+use Rattle.std.proofs.Common.{◌≡◌, ◌≢◌, ◌≤◌, ℕ, Bool, true, false, List, [], ◌++◌, length, take, Result, Ok, Err, IfOk, IfErr, inl, inr, refl, sym, ◌∙◌, ap, subst, append_assoc, append-nil, arith}
 use Rattle.std.specs.Prelude.{Option}
-use Rattle.std.proofs.lemmas.List.{take_all, take_at, drop_at}
-use Rattle.std.proofs.lemmas.Grind.{flat_map-append}
-use Rattle.std.proofs.Math.Seq.{take-add}
 use Rattle.std.proofs.KnownBytes.{Consumes-trans, Consumes-kept, Consumes-nil, Appends-nil}
-use Rattle.outside.specs.Faults.{Rose}
-use Rattle.replay_model.specs.declared.limits.TheConstants.{MOST_BYTES}
 use Rattle.std.specs.Io.KnownBytes.{Appends, Consumes, Keeps, IsAtEnd}
 use Rattle.etcd_types.specs.Keys.{is_empty}
+use Rattle.outside.specs.Faults.{Rose}
 use Rattle.outside.specs.Streams.{WritesFront}
-use Rattle.script_text.specs.declared.item.Item.{Item}
-use Rattle.script_text.specs.declared.line.Line.{Line}
-use Rattle.script_text.specs.Items.{item_text}
-use Rattle.script_text.specs.Lines.{line_at}
+use Rattle.replay_model.specs.Answers.{AnswersAreTheStores}
 use Rattle.replay_model.specs.Endings.{is_open}
-use Rattle.replay_model.specs.Progress.{Progress, finished, progress, on_line, after_reading, after_step, passes_limit, size_of, next_number}
-use Rattle.replay_model.specs.Script.{begun_line, line_feed}
-use Rattle.replay_model.specs.Transcript.{Taken, next, transcript_text}
+use Rattle.replay_model.specs.Progress.{Progress, finished, progress, passes_limit}
+use Rattle.replay_model.specs.Script.{begun_line}
+use Rattle.replay_model.specs.Transcript.{transcript_text}
 use Rattle.replay_model.specs.declared.ending.Ending.{Ending}
 use Rattle.replay_model.specs.declared.ending.Ending.TheVariants as ending
-use Rattle.etcd_proxy.specs.Replay.{Follows, Writes, Feeds, Fed, Moves, Breaks, Refused, WritesSome, Finishes, taken_of, text_of, text_so_far}
-use Rattle.replay_model.specs.Answers.{AnswersAreTheStores}
+use Rattle.replay_model.specs.declared.limits.TheConstants.{MOST_BYTES}
+use Rattle.replay_model.proofs.Growing.{is_open-true, finished_grows, finished_stays, finished_passed, refused_adds_nothing}
 use Rattle.replay_laws.proofs.Transcripts.{progress_has, finished_has, items_are}
 use Rattle.replay_laws.proofs.TrueAnswers.{answers_are_the_stores}
-use Rattle.etcd_proxy.specs.declared.replay.TheConstants.{ROOM}
-use Rattle.etcd_proxy.specs.Replays.{IsTrueTranscript, NoneIsRefused, Replays, Refuses, Interrupts, BreaksOff, Stops, Has}
+use Rattle.etcd_proxy.specs.Replay.{Follows, HasRefused, Writes, Feeds, Fed, Moves, Breaks, Finishes, taken_of, text_of, text_so_far}
+use Rattle.etcd_proxy.specs.Replays.{IsTrueTranscript, NoneIsRefused, IsWhole, Replays, Refuses, Interrupts, BreaksOff, Stops, Has, most_at_once}
 use Rattle.etcd_proxy.specs.declared.replay.Replay.{Replay}
 use Rattle.etcd_proxy.specs.declared.stop.Stop.{Stop}
 use Rattle.etcd_proxy.specs.declared.stop.Stop.TheVariants as stop
@@ -52,38 +45,6 @@ pub has_writes : (left start left' written : Option (List ℕ)) (replay : Replay
 has_writes left start left' written replay read h =
     subst (λ (pending : List ℕ). Writes start written pending (text_so_far read)) (sym h.nothing) h.writes
 
--- what a line gains comes behind what the lines before it gained
-record Grows (p q : Progress) : Type 0 where
-  pub added : List ℕ
-  pub text : transcript_text q.items ≡ transcript_text p.items ++ added
-
-grows_not : (p : Progress) → Grows p p
-grows_not p = record { added = []; text = sym (append-nil (transcript_text p.items)) }
-
-step_grows : (p : Progress) (size : ℕ) (line : Line) (t : Taken) → Grows p (after_step p size line t)
-step_grows p size line (Ok gained) = record {
-  added = transcript_text gained.1;
-  text = flat_map-append (λ (item : Item). item_text item ++ line_feed ∷ []) p.items gained.1;
-}
-step_grows p size line (Err why) = record { added = []; text = sym (append-nil (transcript_text p.items)) }
-
-reading_grows : (p : Progress) (size : ℕ) (r : Result Line ℕ) → Grows p (after_reading p size r)
-reading_grows p size (Ok line) = step_grows p size line (next p.world line)
-reading_grows p size (Err place) = record { added = []; text = sym (append-nil (transcript_text p.items)) }
-
-line_grows : (limit is_first : Bool) (p : Progress) (size : ℕ) (line : List ℕ)
-    → Grows p (cond is_first (cond limit (record p { ending = ending.PastLimit }) (after_reading p size (line_at (next_number p) line))) p)
-line_grows limit false p size line = grows_not p
-line_grows true true p size line = record { added = []; text = sym (append-nil (transcript_text p.items)) }
-line_grows false true p size line = reading_grows p size (line_at (next_number p) line)
-
-finished_grows : (bytes : List ℕ) → Grows (progress bytes) (finished bytes)
-finished_grows bytes = by (is_empty (begun_line bytes))
-  where
-    by : (b : Bool) → Grows (progress bytes) (cond b (progress bytes) (on_line (progress bytes) (begun_line bytes) false))
-    by true = grows_not (progress bytes)
-    by false = line_grows (passes_limit (progress bytes) (length (begun_line bytes)) (size_of (begun_line bytes) false)) (is_open (progress bytes).ending) (progress bytes) (size_of (begun_line bytes) false) (begun_line bytes)
-
 -- a front of the text of the whole lines is one of the text of all
 pub front_of_all : (start written : Option (List ℕ)) (bytes : List ℕ) → WritesFront start written (text_so_far bytes) → WritesFront start written (text_of bytes)
 front_of_all start written bytes w =
@@ -95,22 +56,14 @@ front_of_all start written bytes w =
       written = w.written;
     }
 
-consumed_nothing : (a b c : Option (List ℕ)) (bytes : List ℕ) → Consumes a b bytes → Consumes b c [] → Consumes a c bytes
-consumed_nothing a b c bytes first second = subst (Consumes a c) (append-nil bytes) (Consumes-trans a b c bytes [] first second)
-
-front_is : (bytes piece : List ℕ) (count : ℕ) → take (length bytes + count) (bytes ++ piece) ≡ bytes ++ take count piece
-front_is bytes piece count =
-    take-add (length bytes) count (bytes ++ piece)
-    ∙ (λ j. take_at bytes piece (length bytes) refl j ++ take count (drop_at bytes piece (length bytes) refl j))
-
-whole_is : (bytes : List ℕ) → take (length bytes) bytes ≡ bytes
-whole_is bytes = take_all (length bytes) bytes (omega arith)
-
-breaks_off : (left left' start written : Option (List ℕ)) (read : List ℕ) (count : ℕ) (s : Stop) → s ≢ stop.ReadFault → Consumes left left' read
-    → WritesFront start written (text_of (take count read)) → Stops left left' start written s
-breaks_off left left' start written read count stop.ReadFault n c w = absurd (n refl)
-breaks_off left left' start written read count stop.WriteFault n c w = record { read = read; count = count; consumed = c; writes = w }
-breaks_off left left' start written read count stop.NoMemory n c w = record { read = read; count = count; consumed = c; writes = w }
+-- what stands written breaks off, where a line that has begun isn't one
+breaks_off : (left left' start written : Option (List ℕ)) (before piece : List ℕ) (s : Stop) → s ≢ stop.ReadFault → NoneIsRefused before → length piece ≤ most_at_once
+    → Consumes left left' (before ++ piece) → WritesFront start written (text_so_far (before ++ piece)) → Stops left left' start written s
+breaks_off left left' start written before piece stop.ReadFault n none small c w = absurd (n refl)
+breaks_off left left' start written before piece stop.WriteFault n none small c w =
+    record { before = before; piece = piece; consumed = c; none_before = none; one_piece = small; writes = inl w }
+breaks_off left left' start written before piece stop.NoMemory n none small c w =
+    record { before = before; piece = piece; consumed = c; none_before = none; one_piece = small; writes = inl w }
 
 none_refused : {left start l written : Option (List ℕ)} {replay : Replay} {read : List ℕ} → Has left start l written replay read → NoneIsRefused read
 none_refused h = record { whole = h.follows.stands.ending; within = h.follows.within }
@@ -127,80 +80,106 @@ read_failed left start l l' written replay read h k = record {
 }
 
 -- the input ended, and the last line couldn't be taken or written
-pub end_stopped : (left start l l' old written : Option (List ℕ)) (replay : Replay) (read : List ℕ) (s : Stop) → Has left start l old replay read → Consumes l l' []
+stops_at_end : (left left' start written : Option (List ℕ)) (read : List ℕ) (s : Stop) → s ≢ stop.ReadFault → BreaksOff left left' start written → Stops left left' start written s
+stops_at_end left left' start written read stop.ReadFault n b = absurd (n refl)
+stops_at_end left left' start written read stop.WriteFault n b = b
+stops_at_end left left' start written read stop.NoMemory n b = b
+
+pub end_stopped : (left start l l' old written : Option (List ℕ)) (replay : Replay) (read : List ℕ) (s : Stop) → Has left start l old replay read → Consumes l l' [] → IsAtEnd l'
     → s ≢ stop.ReadFault → WritesFront start written (text_of read) → Stops left l' start written s
-end_stopped left start l l' old written replay read s h c n w =
-    breaks_off left l' start written read (length read) s n (consumed_nothing left l l' read h.consumed c)
-    (subst (λ (bs : List ℕ). WritesFront start written (text_of bs)) (sym (whole_is read)) w)
+end_stopped left start l l' old written replay read s h c at_end n w = stops_at_end left l' start written read s n (record {
+  before = read;
+  piece = [];
+  consumed = Consumes-trans left l l' read [] h.consumed c;
+  none_before = none_refused h;
+  one_piece = omega arith;
+  writes = inr (at_end, subst (λ (bs : List ℕ). WritesFront start written (text_of bs)) (sym (append-nil read)) w);
+})
+
+-- what has the first refused line ends so
+has_ended : (e : Ending) (bytes : List ℕ) → HasRefused bytes e → (finished bytes).ending ≡ e
+has_ended ending.Open bytes h = absurd h
+has_ended (ending.Refused number refusal) bytes h = ap (λ (p : Progress). p.ending) (finished_stays bytes (ap is_open h)) ∙ h
+has_ended ending.PastLimit bytes h = finished_passed bytes h
+
+is_whole : (e : Ending) (left : Option (List ℕ)) (bytes : List ℕ) → HasRefused bytes e → IsWhole left bytes e
+is_whole ending.Open left bytes h = absurd h
+is_whole (ending.Refused number refusal) left bytes h = inl h
+is_whole ending.PastLimit left bytes h = tt
+
+is_whole_at_end : (e : Ending) (left : Option (List ℕ)) (bytes : List ℕ) → IsAtEnd left → IsWhole left bytes e
+is_whole_at_end ending.Open left bytes at_end = tt
+is_whole_at_end (ending.Refused number refusal) left bytes at_end = inr at_end
+is_whole_at_end ending.PastLimit left bytes at_end = tt
+
+-- a refused line adds nothing to the text
+text_of_refused : (e : Ending) (bytes : List ℕ) → is_open e ≡ false → (finished bytes).ending ≡ e → text_of bytes ≡ text_so_far bytes
+text_of_refused e bytes closed ended = ap transcript_text (refused_adds_nothing bytes (ap is_open ended ∙ closed))
 
 -- at the end of the input the last piece is empty
-refused_last : (left start l' written : Option (List ℕ)) (read : List ℕ) (e : Ending) → NoneIsRefused read → Consumes left l' read → Finishes start written read e
+refused_last : (left start l' written : Option (List ℕ)) (read : List ℕ) (e : Ending) → NoneIsRefused read → Consumes left l' (read ++ []) → IsAtEnd l' → Finishes start written read e
     → Refuses left l' start written e
-refused_last left start l' written read e none c f =
-    let is : read ≡ read ++ take 0 [] = sym (append-nil read) in
-    record {
-      before = read;
-      piece = [];
-      count = 0;
-      none_before = none;
-      one_piece = omega arith;
-      consumed = subst (Consumes left l') is c;
-      ended = ap (λ (bs : List ℕ). (finished bs).ending) (sym is) ∙ f.ended;
-      writes = subst (λ (bs : List ℕ). Appends start written (text_of bs)) is f.writes;
-      headline = finished_true (read ++ take 0 []);
-    }
-
-finishes_by : (left start l' written : Option (List ℕ)) (read : List ℕ) (e : Ending) → NoneIsRefused read → Consumes left l' read → IsAtEnd l'
-    → Finishes start written read e → Replays left l' start written e
-finishes_by left start l' written read ending.Open none c at_end f =
-    record { read = read; consumed = c; at_end = at_end; ended = f.ended; writes = f.writes; headline = finished_true read }
-finishes_by left start l' written read (ending.Refused number refusal) none c at_end f =
-    refused_last left start l' written read (ending.Refused number refusal) none c f
-finishes_by left start l' written read ending.PastLimit none c at_end f =
-    refused_last left start l' written read ending.PastLimit none c f
+refused_last left start l' written read e none c at_end f = record {
+  before = read;
+  piece = [];
+  consumed = c;
+  none_before = none;
+  one_piece = omega arith;
+  ended = ap (λ (bs : List ℕ). (finished bs).ending) (append-nil read) ∙ f.ended;
+  whole = is_whole_at_end e l' (read ++ []) at_end;
+  writes = subst (λ (bs : List ℕ). Appends start written (text_of bs)) (sym (append-nil read)) f.writes;
+  headline = finished_true (read ++ []);
+}
 
 -- the input ended
+finishes_by : (left start l' written : Option (List ℕ)) (read : List ℕ) (e : Ending) → NoneIsRefused read → Consumes left l' (read ++ []) → IsAtEnd l'
+    → Finishes start written read e → Replays left l' start written e
+finishes_by left start l' written read ending.Open none c at_end f = record {
+  read = read;
+  consumed = subst (Consumes left l') (append-nil read) c;
+  at_end = at_end;
+  ended = f.ended;
+  writes = f.writes;
+  headline = finished_true read;
+}
+finishes_by left start l' written read (ending.Refused number refusal) none c at_end f =
+    refused_last left start l' written read (ending.Refused number refusal) none c at_end f
+finishes_by left start l' written read ending.PastLimit none c at_end f = refused_last left start l' written read ending.PastLimit none c at_end f
+
 pub end_reached : (left start l l' old written : Option (List ℕ)) (replay : Replay) (read : List ℕ) (e : Ending) → Has left start l old replay read → Consumes l l' []
     → IsAtEnd l' → Finishes start written read e → Replays left l' start written e
 end_reached left start l l' old written replay read e h c at_end f =
-    finishes_by left start l' written read e (none_refused h) (consumed_nothing left l l' read h.consumed c) at_end f
+    finishes_by left start l' written read e (none_refused h) (Consumes-trans left l l' read [] h.consumed c) at_end f
 
 -- a piece couldn't be taken
-pub piece_stopped : (left start l l' old written : Option (List ℕ)) (replay : Replay) (read piece : List ℕ) (s : Stop) → Has left start l old replay read → Consumes l l' piece
-    → s ≢ stop.ReadFault → WritesSome start written (read ++ piece) → Stops left l' start written s
-piece_stopped left start l l' old written replay read piece s h c n w =
-    breaks_off left l' start written (read ++ piece) w.count s n (Consumes-trans left l l' read piece h.consumed c)
-    (front_of_all start written (take w.count (read ++ piece)) w.front)
+pub piece_stopped : (left start l l' old written : Option (List ℕ)) (replay : Replay) (read piece : List ℕ) (s : Stop) → Has left start l old replay read → length piece ≤ most_at_once
+    → Consumes l l' piece → s ≢ stop.ReadFault → WritesFront start written (text_so_far (read ++ piece)) → Stops left l' start written s
+piece_stopped left start l l' old written replay read piece s h small c n w =
+    breaks_off left l' start written read piece s n (none_refused h) small (Consumes-trans left l l' read piece h.consumed c) w
 
-flush_by : (left start l' old written : Option (List ℕ)) (new : Replay) (read piece : List ℕ) (e : Ending) (s : Stop) → s ≢ stop.ReadFault → Consumes left l' (read ++ piece)
-    → Feeds start old new read piece e → Breaks old written new.pending.items → Stops left l' start written s
-flush_by left start l' old written new read piece ending.Open s n c f b =
-    breaks_off left l' start written (read ++ piece) (length (read ++ piece)) s n c
-    (subst (λ (bs : List ℕ). WritesFront start written (text_of bs)) (sym (whole_is (read ++ piece))) (front_of_all start written (read ++ piece) (b start (text_so_far (read ++ piece)) f.writes)))
-flush_by left start l' old written new read piece (ending.Refused number refusal) s n c f b =
-    breaks_off left l' start written (read ++ piece) (length read + f.count) s n c
-    (subst (λ (bs : List ℕ). WritesFront start written (text_of bs)) (sym (front_is read piece f.count)) (b start (text_of (read ++ take f.count piece)) f.writes))
-flush_by left start l' old written new read piece ending.PastLimit s n c f b =
-    breaks_off left l' start written (read ++ piece) (length read + f.count) s n c
-    (subst (λ (bs : List ℕ). WritesFront start written (text_of bs)) (sym (front_is read piece f.count)) (b start (text_of (read ++ take f.count piece)) f.writes))
+fed_writes : (start mid : Option (List ℕ)) (new : Replay) (bytes : List ℕ) (e : Ending) → Feeds start mid new bytes e → Writes start mid new.pending.items (text_so_far bytes)
+fed_writes start mid new bytes ending.Open f = f.writes
+fed_writes start mid new bytes (ending.Refused number refusal) f = f.writes
+fed_writes start mid new bytes ending.PastLimit f = f.writes
 
 -- what a piece gained couldn't be written
 pub flush_stopped : (left start l l' mid old written : Option (List ℕ)) (replay new : Replay) (read piece : List ℕ) (e : Ending) (s : Stop) → Has left start l old replay read
-    → Consumes l l' piece → s ≢ stop.ReadFault → Feeds start mid new read piece e → Breaks mid written new.pending.items → Stops left l' start written s
-flush_stopped left start l l' mid old written replay new read piece e s h c n f b =
-    flush_by left start l' mid written new read piece e s n (Consumes-trans left l l' read piece h.consumed c) f b
+    → length piece ≤ most_at_once → Consumes l l' piece → s ≢ stop.ReadFault → Feeds start mid new (read ++ piece) e → Breaks mid written new.pending.items → Stops left l' start written s
+flush_stopped left start l l' mid old written replay new read piece e s h small c n f b =
+    breaks_off left l' start written read piece s n (none_refused h) small (Consumes-trans left l l' read piece h.consumed c)
+    (b start (text_so_far (read ++ piece)) (fed_writes start mid new (read ++ piece) e f))
 
-open_by : (start mid : Option (List ℕ)) (new : Replay) (read piece : List ℕ) (e : Ending) → is_open e ≡ true → Feeds start mid new read piece e → Fed start mid new (read ++ piece)
-open_by start mid new read piece ending.Open o f = f
-open_by start mid new read piece (ending.Refused number refusal) o f = absurd (cc)
-open_by start mid new read piece ending.PastLimit o f = absurd (cc)
+open_by : (start mid : Option (List ℕ)) (new : Replay) (bytes : List ℕ) (e : Ending) → is_open e ≡ true → Feeds start mid new bytes e → Fed start mid new bytes
+open_by start mid new bytes ending.Open o f = f
+open_by start mid new bytes (ending.Refused number refusal) o f = absurd (cc)
+open_by start mid new bytes ending.PastLimit o f = absurd (cc)
 
 -- a piece was taken, and no line is refused
 pub goes_on : (left start l l' mid old written : Option (List ℕ)) (replay new last : Replay) (read piece : List ℕ) (e : Ending) → Has left start l old replay read
-    → Consumes l l' piece → is_open e ≡ true → Feeds start mid new read piece e → Moves mid written new.pending.items last.pending.items
+    → Consumes l l' piece → is_open e ≡ true → Feeds start mid new (read ++ piece) e → Moves mid written new.pending.items last.pending.items
     → last ≡ record new { pending = last.pending } → last.pending.items ≡ [] → Has left start l' written last (read ++ piece)
 goes_on left start l l' mid old written replay new last read piece e h c o f m same none =
-    let fed = open_by start mid new read piece e o f in
+    let fed = open_by start mid new (read ++ piece) e o f in
     record {
       consumed = Consumes-trans left l l' read piece h.consumed c;
       follows = kept_follows new last (read ++ piece) same fed.follows;
@@ -208,36 +187,35 @@ goes_on left start l l' mid old written replay new last read piece e h c o f m s
       writes = subst (λ (pending : List ℕ). Writes start written pending (text_so_far (read ++ piece))) none (m start (text_so_far (read ++ piece)) fed.writes);
     }
 
-refused_by : (left start l' mid written : Option (List ℕ)) (new : Replay) (pending : List ℕ) (read piece : List ℕ) (e : Ending) → NoneIsRefused read
-    → length piece ≤ ROOM → Consumes left l' (read ++ piece) → Refused start mid new read piece e → Moves mid written new.pending.items pending → pending ≡ []
-    → Refuses left l' start written e
-refused_by left start l' mid written new pending read piece e none small c f m written_all = record {
+refused_by : (left start l' written : Option (List ℕ)) (read piece : List ℕ) (e : Ending) → NoneIsRefused read → length piece ≤ most_at_once → Consumes left l' (read ++ piece)
+    → is_open e ≡ false → HasRefused (read ++ piece) e → Appends start written (text_so_far (read ++ piece)) → Refuses left l' start written e
+refused_by left start l' written read piece e none small c closed refused w = record {
   before = read;
   piece = piece;
-  count = f.count;
   consumed = c;
   none_before = none;
   one_piece = small;
-  ended = f.ended;
-  writes = all_written start written pending _ (m start (text_of (read ++ take f.count piece)) f.writes) written_all;
-  headline = finished_true (read ++ take f.count piece);
+  ended = has_ended e (read ++ piece) refused;
+  whole = is_whole e l' (read ++ piece) refused;
+  writes = subst (Appends start written) (sym (text_of_refused e (read ++ piece) closed (has_ended e (read ++ piece) refused))) w;
+  headline = finished_true (read ++ piece);
 }
 
-refused_piece : (left start l' mid written : Option (List ℕ)) (new : Replay) (pending : List ℕ) (read piece : List ℕ) (e : Ending) → NoneIsRefused read
-    → length piece ≤ ROOM → Consumes left l' (read ++ piece) → is_open e ≡ false → Feeds start mid new read piece e → Moves mid written new.pending.items pending
-    → pending ≡ [] → Replays left l' start written e
-refused_piece left start l' mid written new pending read piece ending.Open none small c o f m written_all = absurd (cc)
-refused_piece left start l' mid written new pending read piece (ending.Refused number refusal) none small c o f m written_all =
-    refused_by left start l' mid written new pending read piece (ending.Refused number refusal) none small c f m written_all
-refused_piece left start l' mid written new pending read piece ending.PastLimit none small c o f m written_all =
-    refused_by left start l' mid written new pending read piece ending.PastLimit none small c f m written_all
-
 -- a line of the piece is refused
+refused_piece : (left start l' mid written : Option (List ℕ)) (new : Replay) (read piece : List ℕ) (e : Ending) → NoneIsRefused read → length piece ≤ most_at_once
+    → Consumes left l' (read ++ piece) → is_open e ≡ false → Feeds start mid new (read ++ piece) e → Appends start written (text_so_far (read ++ piece)) → Replays left l' start written e
+refused_piece left start l' mid written new read piece ending.Open none small c o f w = absurd (cc)
+refused_piece left start l' mid written new read piece (ending.Refused number refusal) none small c o f w =
+    refused_by left start l' written read piece (ending.Refused number refusal) none small c o f.refused w
+refused_piece left start l' mid written new read piece ending.PastLimit none small c o f w =
+    refused_by left start l' written read piece ending.PastLimit none small c o f.refused w
+
 pub refuses : (left start l l' mid old written : Option (List ℕ)) (replay new last : Replay) (read piece : List ℕ) (e : Ending) → Has left start l old replay read
-    → length piece ≤ ROOM → Consumes l l' piece → is_open e ≡ false → Feeds start mid new read piece e → Moves mid written new.pending.items last.pending.items
+    → length piece ≤ most_at_once → Consumes l l' piece → is_open e ≡ false → Feeds start mid new (read ++ piece) e → Moves mid written new.pending.items last.pending.items
     → last.pending.items ≡ [] → Replays left l' start written e
 refuses left start l l' mid old written replay new last read piece e h small c o f m written_all =
-    refused_piece left start l' mid written new last.pending.items read piece e (none_refused h) small (Consumes-trans left l l' read piece h.consumed c) o f m written_all
+    refused_piece left start l' mid written new read piece e (none_refused h) small (Consumes-trans left l l' read piece h.consumed c) o f
+    (all_written start written last.pending.items _ (m start (text_so_far (read ++ piece)) (fed_writes start mid new (read ++ piece) e f)) written_all)
 
 -- a read of no bytes takes nothing
 pub none_read : (l l' : Option (List ℕ)) (count : ℕ) (room : List ℕ) → count ≡ 0 → Consumes l l' (take count room) → Consumes l l' []
@@ -249,10 +227,12 @@ not_read s e f = let different : stop.WriteFault ≡ stop.ReadFault = sym e ∙ 
 -- nothing was read or written
 pub nothing_done : (left written : Option (List ℕ)) → BreaksOff left left written written
 nothing_done left written = record {
-  read = [];
-  count = 0;
+  before = [];
+  piece = [];
   consumed = Consumes-nil left;
-  writes = record { front = []; rest = text_of (take 0 []); parts = refl; written = Appends-nil written };
+  none_before = record { whole = refl; within = λ some. absurd (cc) };
+  one_piece = omega arith;
+  writes = inl (record { front = []; rest = text_so_far []; parts = refl; written = Appends-nil written });
 }
 
 pub at_start : (left written : Option (List ℕ)) (replay : Replay) → Follows replay [] → replay.pending.items ≡ [] → Has left written left written replay []
@@ -272,31 +252,53 @@ rose_since a b n le rose = omega (arith, rose)
 front_of_text : (start written : Option (List ℕ)) (text : List ℕ) → Appends start written text → WritesFront start written text
 front_of_text start written text a = record { front = text; rest = []; parts = sym (append-nil text); written = a }
 
-refused_off : (left left' written written' : Option (List ℕ)) (e : Ending) → Refuses left left' written written' e → BreaksOff left left' written written'
-refused_off left left' written written' e r = record {
-  read = r.before ++ r.piece;
-  count = length r.before + r.count;
+refused_off : (left left' written written' : Option (List ℕ)) (e : Ending) → is_open e ≡ false → Refuses left left' written written' e → BreaksOff left left' written written'
+refused_off left left' written written' e closed r = record {
+  before = r.before;
+  piece = r.piece;
   consumed = r.consumed;
-  writes = subst (λ (bs : List ℕ). WritesFront written written' (text_of bs)) (sym (front_is r.before r.piece r.count))
-      (front_of_text written written' (text_of (r.before ++ take r.count r.piece)) r.writes);
+  none_before = r.none_before;
+  one_piece = r.one_piece;
+  writes = inl (subst (WritesFront written written') (text_of_refused e (r.before ++ r.piece) closed r.ended)
+      (front_of_text written written' (text_of (r.before ++ r.piece)) r.writes));
 }
 
--- whatever came of a replay, a front of the transcript of some of the bytes read is written
+-- where the end of a script finds no refused line, none of its bytes refuses one
+none_by_end : (bytes : List ℕ) → (finished bytes).ending ≡ ending.Open → NoneIsRefused bytes
+none_by_end bytes ended = record { whole = by (is_open (progress bytes).ending) refl; within = λ some. within_by some (passes_limit (progress bytes) (length (begun_line bytes)) (length (begun_line bytes))) refl }
+  where
+    by : (b : Bool) → is_open (progress bytes).ending ≡ b → (progress bytes).ending ≡ ending.Open
+    by true e = is_open-true (progress bytes).ending e
+    by false e = ap (λ (p : Progress). p.ending) (sym (finished_stays bytes e)) ∙ ended
+
+    within_by : is_empty (begun_line bytes) ≡ false → (b : Bool) → passes_limit (progress bytes) (length (begun_line bytes)) (length (begun_line bytes)) ≡ b
+        → passes_limit (progress bytes) (length (begun_line bytes)) (length (begun_line bytes)) ≡ false
+    within_by some true e =
+        let both : ending.PastLimit ≡ ending.Open =
+        sym (finished_passed bytes (inr (record { taken = by (is_open (progress bytes).ending) refl; begun = some; past = e }))) ∙ ended in
+        absurd (cc)
+    within_by some false e = e
+
+-- whatever came of a replay, a front of the transcript of the lines read is written
 pub left_off : (left left' written written' : Option (List ℕ)) (outcome : Result Ending Stop) → IfOk outcome (Replays left left' written written')
     → IfErr outcome (Stops left left' written written') → BreaksOff left left' written written'
 left_off left left' written written' (Ok ending.Open) r s = record {
-  read = r.read;
-  count = length r.read;
-  consumed = r.consumed;
-  writes = subst (λ (bs : List ℕ). WritesFront written written' (text_of bs)) (sym (whole_is r.read)) (front_of_text written written' (text_of r.read) r.writes);
+  before = r.read;
+  piece = [];
+  consumed = subst (Consumes left left') (sym (append-nil r.read)) r.consumed;
+  none_before = none_by_end r.read r.ended;
+  one_piece = omega arith;
+  writes = inr (r.at_end, subst (λ (bs : List ℕ). WritesFront written written' (text_of bs)) (sym (append-nil r.read)) (front_of_text written written' (text_of r.read) r.writes));
 }
-left_off left left' written written' (Ok (ending.Refused number refusal)) r s = refused_off left left' written written' (ending.Refused number refusal) r
-left_off left left' written written' (Ok ending.PastLimit) r s = refused_off left left' written written' ending.PastLimit r
+left_off left left' written written' (Ok (ending.Refused number refusal)) r s = refused_off left left' written written' (ending.Refused number refusal) refl r
+left_off left left' written written' (Ok ending.PastLimit) r s = refused_off left left' written written' ending.PastLimit refl r
 left_off left left' written written' (Err stop.ReadFault) r s = record {
-  read = s.read;
-  count = length s.read;
-  consumed = s.consumed;
-  writes = subst (λ (bs : List ℕ). WritesFront written written' (text_of bs)) (sym (whole_is s.read)) (front_of_all written written' s.read (front_of_text written written' (text_so_far s.read) s.writes));
+  before = s.read;
+  piece = [];
+  consumed = subst (Consumes left left') (sym (append-nil s.read)) s.consumed;
+  none_before = s.none_refused;
+  one_piece = omega arith;
+  writes = inl (subst (λ (bs : List ℕ). WritesFront written written' (text_so_far bs)) (sym (append-nil s.read)) (front_of_text written written' (text_so_far s.read) s.writes));
 }
 left_off left left' written written' (Err stop.WriteFault) r s = s
 left_off left left' written written' (Err stop.NoMemory) r s = s

@@ -1,32 +1,25 @@
 -- The program's world and the one that it stands for.
-use Rattle.std.proofs.Common.{◌≡◌, ◌≤◌, ℕ, zero, suc, ◌-◌, ◌==◌, ◌&&◌, Bool, true, false, cond, List, [], ◌∷◌, None, Some, refl, sym, ◌∙◌, ap, arith, slice_get}
+use Rattle.std.proofs.Common.{◌≡◌, ◌≤◌, ◌<◌, ℕ, zero, suc, ◌+◌, ◌-◌, ◌==◌, Bool, true, false, cond, List, [], ◌∷◌, Option, None, Some, refl, sym, ◌∙◌, ap, subst, arith, slice_get}
 use Rattle.std.specs.List.{list_all}
+use Rattle.etcd_types.proofs.Bools.{and_first, and_second}
 use Rattle.etcd_types.specs.declared.request.Request.{Request}
 use Rattle.etcd_types.specs.declared.request.Request.TheVariants as request
 use Rattle.store_model.specs.Step.{IsExecuted}
-use Rattle.store_world.specs.Store as store
+use Rattle.store_world.proofs.Stores.{stands_for_some, states_agree}
 use Rattle.replay_model.specs.Built.{is_built}
-use Rattle.replay_model.specs.Fits.{Fits}
-use Rattle.replay_model.specs.World.{World as Model, call_at}
+use Rattle.replay_model.specs.Fits.{Fits, due_of}
+use Rattle.replay_model.specs.World.{World as Model, Proxy, call_at}
 use Rattle.replay_model.specs.declared.call.SentCall.{SentCall}
 use Rattle.etcd_proxy.specs.World.{Stands}
 use Rattle.etcd_proxy.specs.declared.world.World.{World}
-
-second_true : (a b : Bool) → a && b ≡ true → b ≡ true
-second_true true b e = e
-second_true false b e = absurd (cc)
-
-first_true : (a b : Bool) → a && b ≡ true → a ≡ true
-first_true true b e = refl
-first_true false b e = e
 
 some-is : {A : Type 0} (x y : A) → Some x ≡ Some y → x ≡ y
 some-is x y e = cc
 
 all_at : {A : Type 0} (p : A → Bool) (xs : List A) (i : ℕ) (x : A) → list_all p xs ≡ true → slice_get xs i ≡ Some x → p x ≡ true
 all_at p [] i x all e = absurd (cc)
-all_at p (y ∷ ys) zero x all e = ap p (sym (some-is y x e)) ∙ first_true (p y) _ all
-all_at p (y ∷ ys) (suc i) x all e = all_at p ys i x (second_true (p y) _ all) e
+all_at p (y ∷ ys) zero x all e = ap p (sym (some-is y x e)) ∙ and_first (p y) _ all
+all_at p (y ∷ ys) (suc i) x all e = all_at p ys i x (and_second (p y) _ all) e
 
 pub call_is_built : (calls : List SentCall) (number : ℕ) (call : SentCall) → list_all (λ call. is_built call.request) calls ≡ true
     → call_at calls number ≡ Some call → is_built call.request ≡ true
@@ -49,23 +42,30 @@ is_executed (request.KeepAlive lease) e = tt
 is_executed (request.TimeToLive lease keys) e = tt
 is_executed request.Leases e = tt
 
--- the world that it stands for, where the store stands for its state
+-- a world that it stands for
 abbrev pub model_of : World → Model
-model_of world =
-    record { namespace = world.namespace; proxy = world.proxy; calls = world.calls.items; store = store.state_of world.store; lines = world.lines }
-
-pub stands_for_model : (world : World) → Stands world (model_of world)
-stands_for_model world = record { namespace = refl; proxy = refl; calls = refl; store = refl; lines = refl }
-
--- a world stands for one alone
-pub stands_once : (world : World) (v w : Model) → Stands world v → Stands world w → v ≡ w
-stands_once world v w a b = λ i. record {
-  namespace = (a.namespace ∙ sym b.namespace) i;
-  proxy = (a.proxy ∙ sym b.proxy) i;
-  calls = (a.calls ∙ sym b.calls) i;
-  store = (a.store ∙ sym b.store) i;
-  lines = (a.lines ∙ sym b.lines) i;
+model_of world = record {
+  namespace = world.namespace;
+  proxy = world.proxy;
+  calls = world.calls.items;
+  store = (stands_for_some world.store).0;
+  lines = world.lines;
 }
 
+pub stands_for_model : (world : World) → Stands world (model_of world)
+stands_for_model world =
+    record { namespace = refl; proxy = refl; calls = refl; store = (stands_for_some world.store).1; lines = refl }
+
+-- of the worlds that it stands for each fits, where one does
+pub fits_alike : (lines counted : ℕ) (world : World) (v w : Model) → Stands world v → Stands world w → Fits lines counted v → Fits lines counted w
+fits_alike lines counted world v w a b f =
+    let agree = states_agree world.store v.store w.store a.store b.store in
+    record {
+      few = subst (λ n. n < counted) (a.lines ∙ sym b.lines) f.few;
+      revisions = subst (λ n. n ≤ lines + 1) agree.newest f.revisions;
+      due = ap (λ (o : Option Proxy). list_all (λ asked. is_built asked.request) (due_of o)) (b.proxy ∙ sym a.proxy) ∙ f.due;
+      calls = ap (λ (calls : List SentCall). list_all (λ call. is_built call.request) calls) (b.calls ∙ sym a.calls) ∙ f.calls;
+    }
+
 pub fits_more : (a b : ℕ) (w : Model) → a ≤ b → Fits a a w → Fits b b w
-fits_more a b w le f = record { revisions = omega (arith, f.revisions); few = omega (arith, f.few); member = f.member; due = f.due; calls = f.calls }
+fits_more a b w le f = record { revisions = omega (arith, f.revisions); few = omega (arith, f.few); due = f.due; calls = f.calls }

@@ -1,12 +1,13 @@
 -- How the program's replay stands for the bytes of a script that it took, and what stands written.
-use Rattle.std.specs.Prelude.{◌≡◌, false, ℕ, ◌+◌, length, List, [], ◌∷◌, ◌++◌, take, Option}
+use Rattle.std.specs.Prelude.{◌≡◌, false, ℕ, ◌+◌, length, List, [], ◌∷◌, ◌++◌, Option}
 use Rattle.std.specs.Io.KnownBytes.{Appends}
 use Rattle.etcd_types.specs.Keys.{is_empty}
-use Rattle.replay_model.specs.Progress.{Progress, progress, finished, passes_limit}
+use Rattle.replay_model.specs.Endings.{is_open}
+use Rattle.replay_model.specs.Progress.{progress, finished, passes_limit, HasPassed}
 use Rattle.replay_model.specs.Script.{begun_line}
 use Rattle.replay_model.specs.Transcript.{transcript_text}
 use Rattle.replay_model.specs.declared.ending.Ending.{Ending}
-use Rattle.replay_model.specs.declared.ending.Ending.TheVariants.{Open}
+use Rattle.replay_model.specs.declared.ending.Ending.TheVariants.{Open, Refused, PastLimit}
 use Rattle.outside.specs.Streams.{WritesFront}
 use Rattle.etcd_proxy.specs.Script as script
 use Rattle.etcd_proxy.specs.declared.replay.Replay.{Replay}
@@ -41,18 +42,18 @@ pub record Writes (old new : Option (List ℕ)) (pending text : List ℕ) : Type
   pub parts : text ≡ front ++ pending
   pub written : Appends old new front
 
--- how far these bytes took the replay: where a line was refused, a line that had begun counts
-abbrev pub reached : Ending → List ℕ → Progress
-reached Open bytes = progress bytes
-reached _ bytes = finished bytes
+-- These bytes have the first refused line, and this is why: a whole line is refused, or one that has begun passes a limit.
+abbrev pub HasRefused : List ℕ → Ending → Type 0
+HasRefused bytes Open = ⊥
+HasRefused bytes (Refused number refusal) = (progress bytes).ending ≡ Refused number refusal
+HasRefused bytes PastLimit = HasPassed bytes
 
 -- what one more byte adds to the text, and where it leaves the replay
 pub record TakesByte (old new : Replay) (bytes : List ℕ) (byte : ℕ) (ending : Ending) : Type 0 where
-  pub ended : (reached ending (bytes ++ byte ∷ [])).ending ≡ ending
+  pub refused : is_open ending ≡ false → HasRefused (bytes ++ byte ∷ []) ending
   pub follows : ending ≡ Open → Follows new (bytes ++ byte ∷ [])
   pub added : List ℕ
-  pub text : transcript_text (reached ending (bytes ++ byte ∷ [])).items ≡ text_so_far bytes ++ added
-  pub so_far : text_so_far (bytes ++ byte ∷ []) ≡ text_so_far bytes ++ added
+  pub text : text_so_far (bytes ++ byte ∷ []) ≡ text_so_far bytes ++ added
   pub pending : new.pending.items ≡ old.pending.items ++ added
 
 -- what the end of the input adds: a last line without line feed is taken
@@ -67,20 +68,14 @@ pub record Fed (start written : Option (List ℕ)) (new : Replay) (bytes : List 
   pub follows : Follows new bytes
   pub writes : Writes start written new.pending.items (text_so_far bytes)
 
--- a front of a piece was taken, up to the byte with which a line was refused
-pub record Refused (start written : Option (List ℕ)) (new : Replay) (bytes piece : List ℕ) (ending : Ending) : Type 0 where
-  pub count : ℕ
-  pub ended : (finished (bytes ++ take count piece)).ending ≡ ending
-  pub writes : Writes start written new.pending.items (text_of (bytes ++ take count piece))
+-- a line of these bytes was refused, and of the text of those before it the rest is pending
+pub record Stopped (start written : Option (List ℕ)) (new : Replay) (bytes : List ℕ) (ending : Ending) : Type 0 where
+  pub refused : HasRefused bytes ending
+  pub writes : Writes start written new.pending.items (text_so_far bytes)
 
-abbrev pub Feeds : Option (List ℕ) → Option (List ℕ) → Replay → List ℕ → List ℕ → Ending → Type 0
-Feeds start written new bytes piece Open = Fed start written new (bytes ++ piece)
-Feeds start written new bytes piece ending = Refused start written new bytes piece ending
-
--- Of the text of some front of these bytes a front was written.
-pub record WritesSome (start written : Option (List ℕ)) (bytes : List ℕ) : Type 0 where
-  pub count : ℕ
-  pub front : WritesFront start written (text_so_far (take count bytes))
+abbrev pub Feeds : Option (List ℕ) → Option (List ℕ) → Replay → List ℕ → Ending → Type 0
+Feeds start written new bytes Open = Fed start written new bytes
+Feeds start written new bytes ending = Stopped start written new bytes ending
 
 -- what was pending, with what is pending now, is written as far as it isn't pending
 abbrev pub Moves : Option (List ℕ) → Option (List ℕ) → List ℕ → List ℕ → Type 0

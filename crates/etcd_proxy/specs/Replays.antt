@@ -1,17 +1,20 @@
 -- What a whole replay takes of its input and writes to its output.
-use Rattle.std.specs.Prelude.{◌≡◌, ◌≤◌, ℕ, List, [], ◌++◌, length, take, Option, None, Some, Result, Ok, Err}
+use Rattle.std.specs.Prelude.{◌≡◌, ◌≤◌, ◌⊎◌, ℕ, List, [], ◌++◌, length, Option, None, Some, Result, Ok, Err}
 use Rattle.std.specs.Io.KnownBytes.{Appends, Consumes, IsAtEnd}
 use Rattle.replay_model.specs.Progress.{Progress, finished, progress}
 use Rattle.replay_model.specs.Answers.{AnswersAreTheStores}
 use Rattle.replay_model.specs.Transcript.{transcript}
 use Rattle.replay_model.specs.declared.ending.Ending.{Ending}
-use Rattle.replay_model.specs.declared.ending.Ending.TheVariants.{Open}
+use Rattle.replay_model.specs.declared.ending.Ending.TheVariants.{Open, Refused}
 use Rattle.outside.specs.Streams.{WritesFront}
 use Rattle.etcd_proxy.specs.Replay.{Follows, BeginsWithin, Writes, text_of, text_so_far}
-use Rattle.etcd_proxy.specs.declared.replay.TheConstants.{ROOM}
 use Rattle.etcd_proxy.specs.declared.replay.Replay.{Replay}
 use Rattle.etcd_proxy.specs.declared.stop.Stop.{Stop}
 use Rattle.etcd_proxy.specs.declared.stop.Stop.TheVariants as stop
+
+-- the most bytes that are read at once
+abbrev pub most_at_once : ℕ
+most_at_once = 65536
 
 -- The items are the transcript of the lines taken, and each of its answers is the store's.
 pub record IsTrueTranscript (p : Progress) : Type 0 where
@@ -32,18 +35,24 @@ pub record NoneIsRefused (bytes : List ℕ) : Type 0 where
   pub whole : (progress bytes).ending ≡ Open
   pub within : BeginsWithin bytes
 
--- With so many bytes of the last piece the first line is refused, and the transcript of those before it is written. The piece was
--- read while no line of the bytes before it was refused, and is at most what is read at once.
+-- A line is refused for its words or for its step once it is whole: its line feed was read, or the input is at its end. One that
+-- passes a limit is refused with the byte that does.
+abbrev pub IsWhole : Option (List ℕ) → List ℕ → Ending → Type 0
+IsWhole left read (Refused number refusal) = ((progress read).ending ≡ Refused number refusal) ⊎ IsAtEnd left
+IsWhole left read _ = Unit {0}
+
+-- A line of the bytes read is the first that is refused, and the transcript of those before it is written. The last piece of them
+-- was read while none was refused, and is at most what is read at once.
 pub record Refuses (left left' written written' : Option (List ℕ)) (ending : Ending) : Type 0 where
   pub before : List ℕ
   pub piece : List ℕ
-  pub count : ℕ
   pub consumed : Consumes left left' (before ++ piece)
   pub none_before : NoneIsRefused before
-  pub one_piece : length piece ≤ ROOM
-  pub ended : (finished (before ++ take count piece)).ending ≡ ending
-  pub writes : Appends written written' (text_of (before ++ take count piece))
-  pub headline : IsTrueTranscript (finished (before ++ take count piece))
+  pub one_piece : length piece ≤ most_at_once
+  pub ended : (finished (before ++ piece)).ending ≡ ending
+  pub whole : IsWhole left' (before ++ piece) ending
+  pub writes : Appends written written' (text_of (before ++ piece))
+  pub headline : IsTrueTranscript (finished (before ++ piece))
 
 abbrev pub Replays : Option (List ℕ) → Option (List ℕ) → Option (List ℕ) → Option (List ℕ) → Ending → Type 0
 Replays left left' written written' Open = ReadsAll left left' written written'
@@ -57,12 +66,15 @@ pub record Interrupts (left left' written written' : Option (List ℕ)) : Type 0
   pub writes : Appends written written' (text_so_far read)
   pub headline : IsTrueTranscript (progress read)
 
--- a front of the transcript of some of the bytes read is written
+-- A front of the transcript of the lines before the first refused one is written. A last line without line feed is a line only where
+-- the input is at its end. The last piece was read while no line was refused.
 pub record BreaksOff (left left' written written' : Option (List ℕ)) : Type 0 where
-  pub read : List ℕ
-  pub count : ℕ
-  pub consumed : Consumes left left' read
-  pub writes : WritesFront written written' (text_of (take count read))
+  pub before : List ℕ
+  pub piece : List ℕ
+  pub consumed : Consumes left left' (before ++ piece)
+  pub none_before : NoneIsRefused before
+  pub one_piece : length piece ≤ most_at_once
+  pub writes : WritesFront written written' (text_so_far (before ++ piece)) ⊎ (IsAtEnd left' × WritesFront written written' (text_of (before ++ piece)))
 
 abbrev pub Stops : Option (List ℕ) → Option (List ℕ) → Option (List ℕ) → Option (List ℕ) → Stop → Type 0
 Stops left left' written written' stop.ReadFault = Interrupts left left' written written'

@@ -5,7 +5,7 @@ use Rattle.std.specs.Fmt.{decimal}
 use Rattle.outside.specs.Faults.{Rose}
 use Rattle.outside.specs.Streams.{WritesFront}
 use Rattle.replay_model.specs.Refusals.{refusal_text}
-use Rattle.replay_model.specs.declared.fault.Refusal.{Refusal}
+use Rattle.replay_model.specs.declared.fault.LineRefusal.{LineRefusal}
 use Rattle.replay_model.specs.declared.ending.Ending.{Ending}
 use Rattle.replay_model.specs.declared.ending.Ending.TheVariants as ending
 use Rattle.etcd_proxy.specs.Replays.{Replays, Stops}
@@ -20,7 +20,7 @@ status_of (Err stop.ReadFault) = 3
 status_of (Err stop.WriteFault) = 4
 status_of (Err stop.NoMemory) = 5
 
-abbrev pub refused_text : ℕ → Refusal → List ℕ
+abbrev pub refused_text : ℕ → LineRefusal → List ℕ
 refused_text number refusal = codes "line " ++ decimal number ++ codes ": " ++ refusal_text refusal ++ codes "\n"
 
 -- the text of a status, which names a refused line by its number and its fault
@@ -52,8 +52,10 @@ pub record Runs (left left' written written' told told' : Option (List ℕ)) (fa
   pub leaves : Leaves left left' written written' outcome
   pub tells : Tells told told' faults faults' (text_of_status outcome)
 
--- a text was written with status 0, or the output failed with status 4
-pub record Prints (old new : Option (List ℕ)) (faults faults' : ℕ) (text : List ℕ) (status : ℕ) : Type 0 where
+-- A text is written to the output with status 0, and nothing is told; or the output failed with status 4, a front of the text is
+-- written, and that is told.
+pub record Prints (written written' : Option (List ℕ)) (faults faults' : ℕ) (told told' : Option (List ℕ)) (told_faults told_faults' : ℕ) (text : List ℕ) (status : ℕ) : Type 0 where
   pub whole : Bool
-  pub all : whole ≡ true → (status ≡ 0) × Appends old new text
-  pub front : whole ≡ false → (status ≡ 4) × WritesFront old new text × Rose faults faults'
+  pub all : whole ≡ true → (status ≡ 0) × Appends written written' text × (told' ≡ told)
+  pub front : whole ≡ false → (status ≡ 4) × WritesFront written written' text × Rose faults faults'
+  pub tells : whole ≡ false → Tells told told' told_faults told_faults' (text_of_status (Err stop.WriteFault))

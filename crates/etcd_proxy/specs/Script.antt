@@ -1,17 +1,18 @@
 -- How the program's script stands for a progress of the definitions.
-use Rattle.std.specs.Prelude.{◌≡◌, ℕ, List, ◌++◌, length, Option, None, Some, Result, Ok, Err, false}
+use Rattle.std.specs.Prelude.{◌≡◌, ℕ, List, ◌++◌, length, Option, None, Some, Result, Ok, Err}
 use Rattle.script_text.specs.declared.line.Line.{Line}
 use Rattle.script_text.specs.declared.item.Item.{Item}
 use Rattle.replay_model.specs.Fits.{Fits}
 use Rattle.replay_model.specs.World.{World as Model}
 use Rattle.replay_model.specs.Progress.{Progress}
-use Rattle.replay_model.specs.Refusals.{is_memory}
 use Rattle.replay_model.specs.Transcript.{next, transcript_text}
 use Rattle.replay_model.specs.declared.ending.Ending.{Ending}
 use Rattle.replay_model.specs.declared.ending.Ending.TheVariants.{Open}
-use Rattle.replay_model.specs.declared.fault.Refusal.{Refusal}
-use Rattle.replay_model.specs.declared.fault.Refusal.TheVariants as refusal
+use Rattle.replay_model.specs.declared.fault.LineRefusal.{LineRefusal}
+use Rattle.replay_model.specs.declared.fault.LineRefusal.TheVariants.{BadLine}
 use Rattle.etcd_proxy.specs.World as world
+use Rattle.etcd_proxy.specs.declared.refused.NotTaken.{NotTaken}
+use Rattle.etcd_proxy.specs.declared.refused.NotTaken.TheVariants.{Refused, NoMemory}
 use Rattle.etcd_proxy.specs.declared.world.World.{World}
 use Rattle.etcd_proxy.specs.declared.script.Script.{Script}
 
@@ -45,13 +46,15 @@ pub record Gains (new : Option World) (items : List Item) (w : Option Model) (re
   pub stands : StandsIfThere new (Some after)
 
 -- why a line was refused, by its reading or its step
-abbrev pub Refuses : Refusal → Option Model → Result Line ℕ → Type 0
+abbrev pub Refuses : LineRefusal → Option Model → Result Line ℕ → Type 0
 Refuses why w (Ok line) = next w line ≡ Err why
-Refuses why w (Err place) = why ≡ refusal.BadLine place
+Refuses why w (Err place) = why ≡ BadLine place
 
-abbrev pub Gives : Option World → Result (List Item) Refusal → Option Model → Result Line ℕ → Type 0
+-- want of memory says nothing of the line
+abbrev pub Gives : Option World → Result (List Item) NotTaken → Option Model → Result Line ℕ → Type 0
 Gives new (Ok items) w read = Gains new items w read
-Gives new (Err why) w read = is_memory why ≡ false → Refuses why w read
+Gives new (Err (Refused why)) w read = Refuses why w read
+Gives new (Err NoMemory) w read = Unit {0}
 
 -- what a line adds to the transcript's text, and where it leaves the script
 pub record Adds (new : Script) (before after : List ℕ) (ending : Ending) (p p' : Progress) : Type 0 where

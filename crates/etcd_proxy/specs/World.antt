@@ -1,13 +1,13 @@
 -- How the program's world stands for the world of the definitions.
-use Rattle.std.specs.Prelude.{◌≡◌, false, List, Result, Ok, Err}
+use Rattle.std.specs.Prelude.{◌≡◌, List, Result, Ok, Err}
 use Rattle.script_text.specs.declared.item.Item.{Item}
 use Rattle.store_world.specs.Store as store
 use Rattle.replay_model.specs.Fits.{Fits}
 use Rattle.replay_model.specs.declared.limits.TheConstants.{MOST_LINES}
 use Rattle.replay_model.specs.World.{World as Model}
 use Rattle.replay_model.specs.Transcript.{Taken}
-use Rattle.replay_model.specs.declared.fault.Refusal.{Refusal}
-use Rattle.replay_model.specs.Refusals.{is_memory}
+use Rattle.etcd_proxy.specs.declared.refused.NotTaken.{NotTaken}
+use Rattle.etcd_proxy.specs.declared.refused.NotTaken.TheVariants.{Refused, NoMemory}
 use Rattle.etcd_proxy.specs.declared.world.World.{World}
 
 pub record Stands (world : World) (w : Model) : Type 0 where
@@ -27,15 +27,16 @@ pub record Takes (new : World) (items : List Item) (taken : Taken) : Type 0 wher
   pub taken_so : taken ≡ Ok (after, items)
   pub stands : Stands new after
 
--- a line was refused as the definition says, unless memory was wanting
-abbrev pub Refuses : Refusal → Taken → Type 0
-Refuses why taken = is_memory why ≡ false → taken ≡ Err why
+-- a line was refused as the definition says; want of memory says nothing of it
+abbrev pub Refuses : NotTaken → Taken → Type 0
+Refuses (Refused why) taken = taken ≡ Err why
+Refuses NoMemory taken = Unit {0}
 
-abbrev pub Gives : World → Result (List Item) Refusal → Taken → Type 0
+abbrev pub Gives : World → Result (List Item) NotTaken → Taken → Type 0
 Gives new (Ok items) taken = Takes new items taken
 Gives new (Err why) taken = Refuses why taken
 
 -- the world that a first line makes
-abbrev pub Begins : Result (World × List Item) Refusal → Taken → Type 0
+abbrev pub Begins : Result (World × List Item) NotTaken → Taken → Type 0
 Begins (Ok made) taken = Takes made.0 made.1 taken
 Begins (Err why) taken = Refuses why taken

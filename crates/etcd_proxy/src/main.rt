@@ -3,6 +3,7 @@
 
 mod built;
 mod proxy;
+mod refused;
 mod replay;
 mod run;
 mod script;
@@ -12,21 +13,32 @@ mod tests;
 mod words;
 mod world;
 
+use crate::words::NoWords;
 use outside::{Reading, Writing};
 use std::process::ExitCode;
 use std::{env, io};
 
-fn main(rt: HostRuntime) -> io::Result<ExitCode> {
+fn main(rt: HostRuntime) -> ExitCode {
+    let mut errors = Writing::new(rt.stderr());
+    let all = match env::args(&rt) {
+        Ok(all) => all,
+        Err(error) if error.kind() == io::ErrorKind::InvalidData => {
+            return ExitCode::from(run::tell_no_words(NoWords::NotText, &mut errors));
+        }
+        Err(_) => return ExitCode::from(run::tell_no_words(NoWords::NoMemory, &mut errors)),
+    };
     let mut words = Vec::new(rt.alloc());
-    for word in env::args(&rt)?.skip(1) {
-        words.push(word)?;
+    for word in all.skip(1) {
+        if words.push(word).is_err() {
+            return ExitCode::from(run::tell_no_words(NoWords::NoMemory, &mut errors));
+        }
     }
     let status = run::run(
         rt.alloc(),
         words.as_slice(),
         &mut Reading::new(rt.stdin()),
         &mut Writing::new(rt.stdout()),
-        &mut Writing::new(rt.stderr()),
+        &mut errors,
     );
-    Ok(ExitCode::from(status))
+    ExitCode::from(status)
 }

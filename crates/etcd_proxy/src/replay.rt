@@ -3,7 +3,7 @@ ghost use Rattle.outside.specs.Faults.{HasCause, Rose};
 ghost use Rattle.outside.specs.Streams.{WritesFront};
 ghost use Rattle.replay_model.specs.Endings.{is_open};
 ghost use Rattle.replay_model.specs.declared.limits.TheConstants.{MOST_BYTES};
-ghost use Rattle.etcd_proxy.specs.Replays.{Replays, Stops, Has, Turns};
+ghost use Rattle.etcd_proxy.specs.Replays.{Replays, Stops, Has, Turns, most_at_once};
 
 use crate::script::Script;
 use crate::stop::Stop;
@@ -24,7 +24,7 @@ pub(crate) struct Replay {
 }
 
 impl Replay {
-    ghost use Rattle.etcd_proxy.specs.Replay.{Follows, IsUnderWay, TakesByte, TakesEnd, Feeds, Writes, WritesSome, Moves, Breaks, Finishes, taken_of, text_so_far, text_of};
+    ghost use Rattle.etcd_proxy.specs.Replay.{Follows, IsUnderWay, TakesByte, TakesEnd, Feeds, Writes, Moves, Breaks, Finishes, taken_of, text_so_far, text_of};
 
     pub(crate) fn new(alloc: Global) -> Replay
         ensures follows { Follows result [] }
@@ -109,10 +109,10 @@ impl Replay {
         requires { IsUnderWay self.old }
         ensures fed { (start : Option (List ℕ)) (bytes : List ℕ) → Follows self.old bytes
             → Writes start (K.written output.old) self.old.pending.items (text_so_far bytes)
-            → IfOk result (Feeds start (K.written output.new) self.new bytes piece.now) }
+            → IfOk result (Feeds start (K.written output.new) self.new (bytes ++ piece.now)) }
         ensures stopped { (start : Option (List ℕ)) (bytes : List ℕ) → Follows self.old bytes
             → Writes start (K.written output.old) self.old.pending.items (text_so_far bytes)
-            → OnErr result (WritesSome start (K.written output.new) (bytes ++ piece.now)) }
+            → OnErr result (WritesFront start (K.written output.new) (text_so_far (bytes ++ piece.now))) }
         ensures count { IfOk result (λ ending. is_open ending ≡ true → taken_of self.new ≡ taken_of self.old + length piece.now) }
         ensures few { IfOk result (λ ending. is_open ending ≡ true → 0 < length piece.now → taken_of self.new ≤ MOST_BYTES) }
         ensures kept { K.faults output.old ≤ K.faults output.new }
@@ -156,7 +156,7 @@ impl Replay {
     ) -> Result<Option<Ending>, Stop>
         requires way { IsUnderWay self.old }
         requires room { 0 < length room.old }
-        requires small { length room.old ≤ ROOM }
+        requires small { length room.old ≤ most_at_once }
         ensures turned { (left start : Option (List ℕ)) (read : List ℕ)
             → Has left start (S.left input.old) (K.written output.old) self.old read
             → Turns left start (S.left input.new) (K.written output.new) self.new result }

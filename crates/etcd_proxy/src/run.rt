@@ -1,16 +1,17 @@
-ghost use Rattle.std.specs.Prelude.{◌≡◌, ◌≢◌, ◌↔◌, Some, None, IfOk, codes};
+ghost use Rattle.std.specs.Prelude.{◌≡◌, ◌≢◌, ◌↔◌, Some, None, Err, IfOk, codes};
 ghost use Rattle.std.specs.Io.KnownBytes.{Appends};
 ghost use Rattle.outside.specs.Faults.{Rose};
 ghost use Rattle.outside.specs.Streams.{WritesFront};
 ghost use Rattle.etcd_proxy.specs.Run.{Runs, Tells, Prints, status_of, text_of_status, refused_text};
+ghost use Rattle.etcd_proxy.specs.Texts.{usage_text, help_text, version_text};
 ghost use Rattle.etcd_proxy.specs.Words.{command_of};
 
 use crate::replay::replay_script;
 use crate::stop::Stop;
-use crate::words::{Command, command_of};
+use crate::words::{Command, NoWords, command_of};
 use etcd_types::NoMemory;
 use outside::{Failed, Sink, Source, write_whole};
-use replay_model::{Ending, Refusal};
+use replay_model::{Ending, LineRefusal};
 use std::alloc::Global;
 
 const USAGE: &[u8] = b"usage: etcd_proxy replay\n";
@@ -39,8 +40,20 @@ pub fn run<S: Source, K: Sink, E: Sink>(
     output: &mut K,
     errors: &mut E,
 ) -> u8
-    // Status 2 comes exactly where the words are none of the forms.
+    // Status 2 comes exactly where the words are none of the forms, and then the usage is told and nothing is written.
     ensures usage { (result ≡ 2) ↔ (command_of words.now ≡ None) }
+    ensures tells_usage { command_of words.now ≡ None
+        → Tells (E.written errors.old) (E.written errors.new) (E.faults errors.old) (E.faults errors.new) usage_text }
+    ensures unwritten { command_of words.now ≡ None → output.new ≡ output.old }
+
+    // The texts are written to the output, and without `replay` nothing is read.
+    ensures help { command_of words.now ≡ Some Command.Help
+        → Prints (K.written output.old) (K.written output.new) (K.faults output.old) (K.faults output.new)
+        (E.written errors.old) (E.written errors.new) (E.faults errors.old) (E.faults errors.new) help_text result }
+    ensures version { command_of words.now ≡ Some Command.Version
+        → Prints (K.written output.old) (K.written output.new) (K.faults output.old) (K.faults output.new)
+        (E.written errors.old) (E.written errors.new) (E.faults errors.old) (E.faults errors.new) version_text result }
+    ensures unread { command_of words.now ≢ Some Command.Replay → input.new ≡ input.old }
 
     // A script's transcript is written, and each of its answers is the store's.
     ensures replays { command_of words.now ≡ Some Command.Replay
@@ -58,6 +71,26 @@ pub fn run<S: Source, K: Sink, E: Sink>(
         Some(Command::Help) => print(output, errors, HELP),
         Some(Command::Version) => print(output, errors, VERSION),
         Some(Command::Replay) => replay(alloc, input, output, errors),
+    }
+}
+
+/// Tells why the words of the command line can't be had, and answers the exit status: 2 where one of them isn't UTF-8, which
+/// is none of the forms, and 5 where memory was wanting.
+pub fn tell_no_words<E: Sink>(why: NoWords, errors: &mut E) -> u8
+    ensures usage { why ≡ NoWords.NotText → (result ≡ 2)
+        × Tells (E.written errors.old) (E.written errors.new) (E.faults errors.old) (E.faults errors.new) usage_text }
+    ensures memory { why ≡ NoWords.NoMemory → (result ≡ 5)
+        × Tells (E.written errors.old) (E.written errors.new) (E.faults errors.old) (E.faults errors.new) (text_of_status (Err Stop.NoMemory)) }
+{
+    match why {
+        NoWords::NotText => {
+            tell(errors, USAGE);
+            2
+        }
+        NoWords::NoMemory => {
+            tell(errors, b"no memory\n");
+            5
+        }
     }
 }
 
@@ -88,7 +121,8 @@ fn replay<S: Source, K: Sink, E: Sink>(
 
 /// Writes a text to the output.
 fn print<K: Sink, E: Sink>(output: &mut K, errors: &mut E, text: &[u8]) -> u8
-    ensures { Prints (K.written output.old) (K.written output.new) (K.faults output.old) (K.faults output.new) text.now result }
+    ensures { Prints (K.written output.old) (K.written output.new) (K.faults output.old) (K.faults output.new)
+        (E.written errors.old) (E.written errors.new) (E.faults errors.old) (E.faults errors.new) text.now result }
 {
     match write_whole(output, text) {
         Ok(()) => 0,
@@ -133,7 +167,7 @@ fn text_of(alloc: Global, outcome: &Result<Ending, Stop>) -> Result<Vec<u8>, NoM
     }
 }
 
-fn refused_text(alloc: Global, number: u64, refusal: &Refusal) -> Result<Vec<u8>, NoMemory>
+fn refused_text(alloc: Global, number: u64, refusal: &LineRefusal) -> Result<Vec<u8>, NoMemory>
     ensures { IfOk result (λ text. text.items ≡ refused_text number refusal.now) }
 {
     let text = format!(in alloc; "line {number}: {refusal}\n")?;

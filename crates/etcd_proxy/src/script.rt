@@ -6,9 +6,10 @@ ghost use Rattle.replay_model.specs.Progress.{size_of};
 ghost use Rattle.etcd_proxy.specs.World.{Begins};
 
 use crate::built::is_built_world;
+use crate::refused::NotTaken;
 use crate::world::{World, one};
 use etcd_types::{List, NoMemory};
-use replay_model::{Ending, MOST_BYTES, MOST_LINE_BYTES, MOST_LINES, Refusal};
+use replay_model::{Ending, LineRefusal, MOST_BYTES, MOST_LINE_BYTES, MOST_LINES};
 use script_text::{Item, Line, LineFault, read_line, write_item};
 use std::alloc::Global;
 
@@ -82,25 +83,23 @@ impl Script {
                 self.bytes += size;
                 Ok(Ending::Open)
             }
-            Err(refusal) => {
-                if refusal.is_memory() {
-                    return Err(NoMemory);
-                }
-                Ok(Ending::Refused { number, refusal })
-            }
+            Err(NotTaken::Refused(refusal)) => Ok(Ending::Refused { number, refusal }),
+            Err(NotTaken::NoMemory) => Err(NoMemory),
         }
     }
 
     /// Reads a line and takes it.
-    fn gain(&mut self, number: u64, line: &[u8]) -> Result<List<Item>, Refusal>
+    fn gain(&mut self, number: u64, line: &[u8]) -> Result<List<Item>, NotTaken>
         requires { IsReady self.old }
         ensures gained { (w : Option Model) → StandsIfThere self.old.world w → Gives self.new.world result w (line_at number line.now) }
         ensures same { self.new ≡ record self.old { world = self.new.world } }
     {
         let line = match read_line(self.alloc, number, line) {
             Ok(line) => line,
-            Err(LineFault::BadLine { place, .. }) => return Err(Refusal::BadLine { place }),
-            Err(LineFault::NoMemory) => return Err(Refusal::from(NoMemory)),
+            Err(LineFault::BadLine { place, .. }) => {
+                return Err(NotTaken::from(LineRefusal::BadLine { place }));
+            }
+            Err(LineFault::NoMemory) => return Err(NotTaken::NoMemory),
         };
         match &mut self.world {
             Some(world) => world.take(line),
@@ -114,7 +113,7 @@ impl Script {
 }
 
 /// Makes the world of the first line, and says what it gained.
-fn begin(alloc: Global, line: Line) -> Result<(World, List<Item>), Refusal>
+fn begin(alloc: Global, line: Line) -> Result<(World, List<Item>), NotTaken>
     ensures { Begins result (begun line) }
 {
     let Line::World {
@@ -123,10 +122,10 @@ fn begin(alloc: Global, line: Line) -> Result<(World, List<Item>), Refusal>
         leasing,
     } = line
     else {
-        return Err(Refusal::BadLine { place: 1 });
+        return Err(NotTaken::from(LineRefusal::BadLine { place: 1 }));
     };
     if !is_built_world(members, &leasing) {
-        return Err(Refusal::NotBuilt);
+        return Err(NotTaken::from(LineRefusal::NotBuilt));
     }
     let world = World::new(alloc, namespace.copy(alloc)?)?;
     let item = Item::World {

@@ -9,6 +9,14 @@ pub(crate) enum Command {
     Version,
 }
 
+/// Why the words of the command line can't be had.
+#[derive(Clone, Copy, Debug, PartialEq, Eq)]
+pub(crate) enum NoWords {
+    /// One of them isn't UTF-8.
+    NotText,
+    NoMemory,
+}
+
 /// What these words ask for, or nothing where they are none of the forms.
 pub(crate) fn command_of(words: &[String]) -> Option<Command>
     ensures { result ≡ command_of words.now }

@@ -3,8 +3,7 @@ use Rattle.std.proofs.Common.{◌≤◌, sym, arith, ℕ, List, [], length, subs
 use Rattle.std.specs.Prelude.{Option}
 use Rattle.std.proofs.lemmas.Result.{err_from_is_err_and}
 use Rattle.replay_model.specs.declared.ending.Ending.{Ending}
-use Rattle.etcd_proxy.specs.Replays.{Turns}
-use Rattle.etcd_proxy.specs.declared.replay.TheConstants.{ROOM}
+use Rattle.etcd_proxy.specs.Replays.{Turns, most_at_once}
 use Rattle.etcd_proxy.proofs.Turns.{nothing_done, at_start, nothing_taken, rose_since}
 use Rattle.etcd_proxy.proofs.replay.replay_script.Goals as goal
 
@@ -25,7 +24,7 @@ turns-init g c = record {
 
 pub turn-requires-clause-small : goal.turn-requires-clause-small
 turn-requires-clause-small g c =
-    subst (λ (bytes : List ℕ). length bytes ≤ ROOM) (sym c.as_mut_slice.ensures.value) c.turns.invariant.small
+    subst (λ (bytes : List ℕ). length bytes ≤ most_at_once) (sym c.as_mut_slice.ensures.value) c.turns.invariant.small
 
 pub returns-in_err-ending-clause-stopped : goal.returns-in_err-ending-clause-stopped
 returns-in_err-ending-clause-stopped g c =

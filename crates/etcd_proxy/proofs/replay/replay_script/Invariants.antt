@@ -2,8 +2,7 @@
 use Rattle.std.proofs.Common.{◌≤◌, ◌<◌, ◌+◌, ◌-◌, ℕ, List, length}
 use Rattle.replay_model.specs.declared.limits.TheConstants.{MOST_BYTES}
 use Rattle.etcd_proxy.specs.Replay.{taken_of}
-use Rattle.etcd_proxy.specs.declared.replay.TheConstants.{ROOM}
-use Rattle.etcd_proxy.specs.Replays.{Has}
+use Rattle.etcd_proxy.specs.Replays.{Has, most_at_once}
 use Rattle.etcd_proxy.proofs.replay.replay_script.Given as goal
 
 abbrev pub invariant-turns : goal.invariant-turns
@@ -11,7 +10,7 @@ invariant-turns g l = record {
   so_far : (read : List ℕ) × Has (g.S.Source.left l.fn.input) (g.K.Sink.written l.fn.output) (g.S.Source.left l.input) (g.K.Sink.written l.output) l.replay read;
   few : taken_of l.replay ≤ MOST_BYTES;
   room : 0 < length l.room.items;
-  small : length l.room.items ≤ ROOM;
+  small : length l.room.items ≤ most_at_once;
   kept_input : g.S.Source.faults l.fn.input ≤ g.S.Source.faults l.input;
   kept_output : g.K.Sink.faults l.fn.output ≤ g.K.Sink.faults l.output;
 }

@@ -3,8 +3,9 @@ use Rattle.std.proofs.Common.{◌+◌, ◌≤◌, ◌++◌, ℕ, List, refl, sym
 use Rattle.std.proofs.lemmas.List.{take_all}
 use Rattle.replay_model.specs.declared.limits.TheConstants.{MOST_BYTES}
 use Rattle.outside.proofs.Results.{on_err}
+use Rattle.replay_model.proofs.Growing.{is_open-true}
 use Rattle.etcd_proxy.specs.Replay.{Fed, taken_of}
-use Rattle.etcd_proxy.proofs.Feeding.{fed_more, refused_at, stopped_at, writes_front, kept_follows, is_open-true}
+use Rattle.etcd_proxy.proofs.Feeding.{fed_more, refused_at, stopped_at, writes_front, kept_follows}
 use Rattle.etcd_proxy.proofs.replay.Replay.feed.Goals as goal
 
 pub returns-then-not-is_open-clause-fed : goal.returns-then-not-is_open-clause-fed
@@ -15,13 +16,13 @@ returns-then-not-is_open-clause-fed g c = λ start bytes f w.
 pub returns-in_err-ending-clause-stopped : goal.returns-in_err-ending-clause-stopped
 returns-in_err-ending-clause-stopped g c = λ start bytes f w.
     let fed = c.loop-byte.invariant.fed start bytes f w in
-    on_err c.from_residual.result (stopped_at start _ bytes c.args.piece.now c.loop-byte.byte-index (omega arith) (writes_front fed.writes))
+    on_err c.from_residual.result (stopped_at start _ bytes c.args.piece.now c.loop-byte.byte-index (writes_front fed.writes))
 
 pub returns-in_err-flush_much-clause-stopped : goal.returns-in_err-flush_much-clause-stopped
 returns-in_err-flush_much-clause-stopped g c = λ start bytes f w.
     let fed = c.loop-byte.invariant.fed start bytes f w in
     let more = fed_more start _ c.loop-byte.self c.take_byte.new.self bytes c.args.piece.now c.loop-byte.byte-index _ c.in_ok-ending.ending (omega arith) refl (sym c.is_open.ensures ∙ c.if-not-is_open.false) fed (c.in_ok-ending.ensures.byte _ fed.follows) in
-    on_err c.from_residual-in_err-flush_much.result (stopped_at start _ bytes c.args.piece.now (c.loop-byte.byte-index + 1) (omega arith) (c.in_err-flush_much.ensures.err start _ more.writes))
+    on_err c.from_residual-in_err-flush_much.result (stopped_at start _ bytes c.args.piece.now (c.loop-byte.byte-index + 1) (c.in_err-flush_much.ensures.err start _ more.writes))
 
 pub loop-byte-preserved : goal.loop-byte-preserved
 loop-byte-preserved g c =

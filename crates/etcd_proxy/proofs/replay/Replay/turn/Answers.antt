@@ -12,7 +12,7 @@ pub returns-in_err-finish-clause-turned : goal.returns-in_err-finish-clause-turn
 returns-in_err-finish-clause-turned g c = λ left start read h.
     let p = err_from_is_err_and c.from_residual.result c.from_residual.ensures.1 in
     let w = has_writes left start _ _ c.args.self.now read h in
-    rw (p.1, p.2) (end_stopped left start _ _ _ _ c.args.self.now read c.in_err-finish.field-0.0 h (none_read _ _ c.in-Ok.count c.read.new.room c.if-count-eq0.true c.in-Ok.ensures.bytes.0) c.in_err-finish.ensures.no_read (c.in_err-finish.ensures.stopped start read h.follows w))
+    rw (p.1, p.2) (end_stopped left start _ _ _ _ c.args.self.now read c.in_err-finish.field-0.0 h (none_read _ _ c.in-Ok.count c.read.new.room c.if-count-eq0.true c.in-Ok.ensures.bytes.0) (c.in-Ok.ensures.bytes.1 c.if-count-eq0.true (omega (arith, c.requires.room))) c.in_err-finish.ensures.no_read (c.in_err-finish.ensures.stopped start read h.follows w))
 
 pub returns-then-count-eq0-clause-turned : goal.returns-then-count-eq0-clause-turned
 returns-then-count-eq0-clause-turned g c = λ left start read h.
@@ -23,13 +23,13 @@ pub returns-in_err-ending-clause-turned : goal.returns-in_err-ending-clause-turn
 returns-in_err-ending-clause-turned g c = λ left start read h.
     let p = err_from_is_err_and c.from_residual-in_err-ending.result c.from_residual-in_err-ending.ensures.1 in
     let w = has_writes left start _ _ c.args.self.now read h in
-    rw (p.1, p.2) (piece_stopped left start _ _ _ _ c.args.self.now read (take c.in-Ok.count c.read.new.room) c.in_err-ending.field-0.0 h c.in-Ok.ensures.bytes.0 c.in_err-ending.ensures.no_read (c.in_err-ending.ensures.stopped start read h.follows w))
+    rw (p.1, p.2) (piece_stopped left start _ _ _ _ c.args.self.now read (take c.in-Ok.count c.read.new.room) c.in_err-ending.field-0.0 h (omega (arith, length-take {A = ℕ}, c.requires.small)) c.in-Ok.ensures.bytes.0 c.in_err-ending.ensures.no_read (c.in_err-ending.ensures.stopped start read h.follows w))
 
 pub returns-in_err-flush-clause-turned : goal.returns-in_err-flush-clause-turned
 returns-in_err-flush-clause-turned g c = λ left start read h.
     let p = err_from_is_err_and c.from_residual-in_err-flush.result c.from_residual-in_err-flush.ensures.1 in
     let w = has_writes left start _ _ c.args.self.now read h in
-    rw (p.1, p.2) (flush_stopped left start _ _ _ _ _ c.args.self.now c.feed.new.self read (take c.in-Ok.count c.read.new.room) c.in_ok-ending.ending c.in_err-flush.field-0.0 h c.in-Ok.ensures.bytes.0 (not_read c.in_err-flush.field-0.0 c.in_err-flush.ensures.fault) (c.in_ok-ending.ensures.fed start read h.follows w) c.in_err-flush.ensures.err)
+    rw (p.1, p.2) (flush_stopped left start _ _ _ _ _ c.args.self.now c.feed.new.self read (take c.in-Ok.count c.read.new.room) c.in_ok-ending.ending c.in_err-flush.field-0.0 h (omega (arith, length-take {A = ℕ}, c.requires.small)) c.in-Ok.ensures.bytes.0 (not_read c.in_err-flush.field-0.0 c.in_err-flush.ensures.fault) (c.in_ok-ending.ensures.fed start read h.follows w) c.in_err-flush.ensures.err)
 
 pub returns-then-is_open-clause-turned : goal.returns-then-is_open-clause-turned
 returns-then-is_open-clause-turned g c = λ left start read h.

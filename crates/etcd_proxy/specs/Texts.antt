@@ -1,0 +1,16 @@
+-- What the command tells of itself.
+use Rattle.std.specs.Prelude.{ℕ, List, ◌++◌, codes}
+
+abbrev pub usage_text : List ℕ
+usage_text = codes "usage: etcd_proxy replay\n"
+
+abbrev pub help_text : List ℕ
+help_text =
+    codes "etcd_proxy replays scripted schedules of etcd proxies over a small store.\n\n"
+    ++ codes "usage: etcd_proxy replay < SCRIPT\n\n"
+    ++ codes "  replay      reads a script from the input and writes its transcript to the output\n"
+    ++ codes "  --help      shows this\n"
+    ++ codes "  --version   shows the version\n"
+
+abbrev pub version_text : List ℕ
+version_text = codes "etcd_proxy 0.1.0\n"
