@@ -1,0 +1,9 @@
+pub mod Phases
+pub mod Turns
+pub mod Passes
+pub mod FoundWrite
+pub mod Endings
+pub mod Kept
+pub mod Steps
+pub mod Sendings
+pub mod OwnersShown

@@ -1,0 +1,7 @@
+-- Those so far are done, and the others as they were.
+use Rattle.std.proofs.Common.{◌≡◌, ◌++◌, true, map, take, drop}
+use Rattle.wait_model.specs.ForeignOwnership.{gone_if}
+use Rattle.wait_model.proofs.found.lose_all_in.Given as goal
+
+abbrev pub invariant-loop-found : goal.invariant-loop-found
+invariant-loop-found l = l.found-items ≡ map (λ f. gone_if true f) (take l.found-index l.initial.found-items) ++ drop l.found-index l.initial.found-items
