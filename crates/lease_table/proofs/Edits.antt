@@ -7,10 +7,10 @@ use Rattle.std.specs.FinMap.Entries.{below_all}
 use Rattle.etcd_types.specs.declared.key_range.KeyRange.{KeyRange}
 use Rattle.proxy_model.specs.declared.lease.Entry.{Entry}
 use Rattle.proxy_model.specs.Keyed.{Keyed, at, with_at, is_in_order}
-use Rattle.proxy_model.specs.LeaseTable.{Table, change, hold, given_up_in}
+use Rattle.proxy_model.specs.LeaseTable.{Table, change, hold, given_up, given_up_in}
 use Rattle.proxy_model.proofs.KeyedLaws.{to_T, in_order-with_at}
-use Rattle.lease_table.specs.Places.{IsPlace, IsGap}
-use Rattle.lease_table.proofs.Places.{changed-place, changed-gap, in_order-changed, place-is_some, put-gap, without-place, without-gap}
+use Rattle.keyed_rows.specs.Places.{IsPlace, IsGap}
+use Rattle.keyed_rows.proofs.Places.{changed-place, changed-gap, in_order-changed, place-is_some, put-gap, without-place, without-gap}
 
 -- Another entry at the place of the key.
 
@@ -44,6 +44,9 @@ removed es k i s p = sym (without-place es k i (to_T _ s) p)
 
 pub none_removed : (es : Keyed Entry) (k : List ℕ) (i : ℕ) → IsTrue (is_in_order es) → IsGap es k i → es ≡ with_at es k None
 none_removed es k i s g = sym (without-gap es k i (to_T _ s) g)
+
+abbrev pub given_up_row : List ℕ × Entry → List ℕ × Entry
+given_up_row row = (row.0, given_up row.1)
 
 -- Each entry of a range given up: every key stays.
 

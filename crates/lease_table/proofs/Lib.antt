@@ -1,2 +1,1 @@
 mod Edits
-mod Places

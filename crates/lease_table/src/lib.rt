@@ -4,15 +4,18 @@
 //! by `reserve`, so that an entry can be added where no memory may be wanting.
 #![tactic(auto)]
 
-ghost use Rattle.std.specs.Prelude.{◌≡◌, ◌<◌, ◌≤◌, IsTrue, None, Some, OnOk, OnErr, length, [], is_some, IfOk, IfErr};
+ghost use Rattle.std.specs.Prelude.{◌≡◌, ◌<◌, ◌≤◌, ◌==◌, if◌then◌else◌, true, false, IsTrue, None, Some, OnOk, OnErr, length, [], is_some, IfOk, IfErr};
 ghost use Rattle.std.specs.List.{list_any};
 ghost use Rattle.std.specs.Ordering.{nat_cmp};
 ghost use Rattle.std.specs.Cmp.Lexicographic.{slice_cmp};
 ghost use Rattle.std.specs.Option.{option_copied};
-ghost use Rattle.lease_table.specs.Places.{IsPlace, IsGap};
+ghost use Rattle.keyed_rows.specs.Places.{IsPlace, IsGap};
 ghost use Rattle.etcd_types.specs.Ranges.{contains};
 ghost use Rattle.proxy_model.specs.Keyed.{at, with_at, is_in_order};
-ghost use Rattle.proxy_model.specs.LeaseTable.{empty_table, room, is_held, is_writing, hold, change, leave_range, writing, written, unwritten, marked, leaving, in_phase, phase_after_write, phase_given_up, phase_left, given_up_in};
+ghost use Rattle.proxy_model.specs.LeaseTable.{empty_table, room, is_held, is_writing, hold, change, leave_range, writing, written, unwritten, marked, leaving, in_phase, phase_after_write, phase_given_up, phase_left, given_up, given_up_in};
+ghost use Rattle.wait_model.specs.DueOrder.{first_rescind};
+ghost use Rattle.wait_model.specs.Edits.{each};
+ghost use Rattle.wait_model.specs.Phases.{is_rescind_due, phase_sent, rescind_sent};
 
 use etcd_types::{Bytes, KeyRange, Kv, NoMemory};
 pub use proxy_model::{Entry, Phase};
@@ -181,6 +184,56 @@ impl LeaseTable {
         }
     }
 
+    /// The key is given up: at once where it is held, once its owner write is answered where it is being written.
+    pub fn give_up(&mut self, key: &Bytes)
+        ensures { self.new ≡ change self.old key.now given_up }
+    {
+        if let Ok(place) = self.place(key) {
+            let entry = &mut self.rows[place].1;
+            entry.phase = phase_given_up(entry.phase);
+        }
+    }
+
+    /// Each key is given up.
+    pub fn give_up_all(&mut self)
+        ensures { self.new ≡ record self.old { entries = each (λ k e. given_up e) self.old.entries } }
+    {
+        for row in self.rows.iter_mut() {
+            give_up_row(row);
+        }
+    }
+
+    /// The rescind of the key was sent, where its entry leaves.
+    pub fn rescind_sent(&mut self, key: &Bytes)
+        ensures { self.new ≡ change self.old key.now (rescind_sent true) }
+    {
+        if let Ok(place) = self.place(key) {
+            let entry = &mut self.rows[place].1;
+            entry.phase = phase_sent(entry.phase, true);
+        }
+    }
+
+    /// The rescind of the key's ownership key of this create revision was lost, and is due again where that entry leaves.
+    pub fn rescind_lost(&mut self, key: &Bytes, create: u64)
+        ensures { self.new ≡ change self.old key.now (λ e. if e.create == create then rescind_sent false e else e) }
+    {
+        if let Ok(place) = self.place(key) {
+            unsend(&mut self.rows[place].1, create);
+        }
+    }
+
+    /// The first entry that leaves and whose rescind is to be sent.
+    pub fn first_rescind(&self) -> Option<&(Bytes, Entry)>
+        ensures { option_copied result ≡ first_rescind self.now.entries }
+    {
+        for row in &self.rows {
+            if is_rescind_due(&row.1) {
+                return Some(row);
+            }
+        }
+        None
+    }
+
     /// Where the key's row is, or where it would go.
     fn place(&self, key: &Bytes) -> Result<usize, usize>
         ensures found { IfOk result (IsPlace self.now.entries key.now) }
@@ -231,6 +284,36 @@ fn phase_given_up(phase: Phase) -> Phase
         Phase::Writing { .. } => Phase::Writing { revoked: true },
         Phase::Leaving { .. } => phase,
     }
+}
+
+/// The phase where its rescind was sent or wasn't.
+fn phase_sent(phase: Phase, sent: bool) -> Phase
+    ensures { result ≡ phase_sent sent phase }
+{
+    match phase {
+        Phase::Leaving { .. } => Phase::Leaving { sent },
+        Phase::Held | Phase::Writing { .. } => phase,
+    }
+}
+
+fn unsend(entry: &mut Entry, create: u64)
+    ensures { entry.new ≡ (if entry.old.create == create then rescind_sent false entry.old else entry.old) }
+{
+    if entry.create == create {
+        entry.phase = phase_sent(entry.phase, false);
+    }
+}
+
+fn is_rescind_due(entry: &Entry) -> bool
+    ensures { result ≡ is_rescind_due entry.now }
+{
+    matches!(entry.phase, Phase::Leaving { sent: false })
+}
+
+fn give_up_row(row: &mut (Bytes, Entry))
+    ensures { row.new ≡ (row.old.0, given_up row.old.1) }
+{
+    row.1.phase = phase_given_up(row.1.phase);
 }
 
 /// Gives the row's key up where it is in the range.

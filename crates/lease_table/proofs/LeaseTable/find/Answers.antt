@@ -3,8 +3,8 @@ use Rattle.std.proofs.Common.{sym, ap, subst, ◌∙◌}
 use Rattle.proxy_model.proofs.KeyedLaws.{to_T}
 use Rattle.proxy_model.specs.Keyed.{at}
 use Rattle.proxy_model.specs.LeaseTable.{Table}
-use Rattle.lease_table.specs.Places.{IsPlace, IsGap}
-use Rattle.lease_table.proofs.Places.{found-place, at-gap}
+use Rattle.keyed_rows.specs.Places.{IsPlace, IsGap}
+use Rattle.keyed_rows.proofs.Places.{found-place, at-gap}
 use Rattle.lease_table.proofs.LeaseTable.find.Goals as goal
 
 pub returns-in-Ok : goal.returns-in-Ok

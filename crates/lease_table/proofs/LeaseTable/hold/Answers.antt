@@ -2,7 +2,7 @@
 use Rattle.std.proofs.Common.{◌-◌, ◌<◌, vec_len, sym, ap, subst, ◌∙◌, arith}
 use Rattle.std.specs.Vec.{vec_capacity}
 use Rattle.proxy_model.specs.LeaseTable.{Table, hold}
-use Rattle.lease_table.specs.Places.{IsGap}
+use Rattle.keyed_rows.specs.Places.{IsGap}
 use Rattle.lease_table.proofs.Edits.{not_absent, in_order-held, held_table}
 use Rattle.lease_table.proofs.LeaseTable.hold.Goals as goal
 

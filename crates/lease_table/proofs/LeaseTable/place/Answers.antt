@@ -4,7 +4,7 @@ use Rattle.std.proofs.lemmas.Fn.{always_returns_same}
 use Rattle.std.specs.Ordering.{nat_cmp}
 use Rattle.std.specs.Cmp.Lexicographic.{slice_cmp}
 use Rattle.proxy_model.proofs.KeyedLaws.{to_T}
-use Rattle.lease_table.proofs.Places.{searched}
+use Rattle.keyed_rows.proofs.Places.{searched}
 use Rattle.lease_table.proofs.LeaseTable.place.Goals as goal
 
 pub returns : goal.returns

@@ -2,7 +2,7 @@
 use Rattle.std.proofs.Common.{◌≡◌, None, sym, ap, subst, ◌∙◌}
 use Rattle.proxy_model.specs.Keyed.{with_at}
 use Rattle.proxy_model.specs.LeaseTable.{Table}
-use Rattle.lease_table.specs.Places.{IsPlace, IsGap}
+use Rattle.keyed_rows.specs.Places.{IsPlace, IsGap}
 use Rattle.lease_table.proofs.Edits.{in_order-removed, removed, none_removed}
 use Rattle.lease_table.proofs.LeaseTable.remove.Goals as goal
 

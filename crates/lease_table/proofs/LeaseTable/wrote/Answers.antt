@@ -1,7 +1,7 @@
 -- The entry at the key's place is changed, and where there is none nothing is.
 use Rattle.std.proofs.Common.{◌≡◌, sym, ap, subst, ◌∙◌}
 use Rattle.proxy_model.specs.LeaseTable.{Table, change, written}
-use Rattle.lease_table.specs.Places.{IsPlace, IsGap}
+use Rattle.keyed_rows.specs.Places.{IsPlace, IsGap}
 use Rattle.lease_table.proofs.Edits.{changed_table, unchanged_table, in_order-changed_table}
 use Rattle.lease_table.proofs.LeaseTable.wrote.Goals as goal
 

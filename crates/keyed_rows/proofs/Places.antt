@@ -13,9 +13,10 @@ use Rattle.std.proofs.lemmas.Bool.{cases_lt}
 use Rattle.std.proofs.lemmas.Cmp.{nat_list_cmp_total}
 use Rattle.std.proofs.lemmas.Map.Lookups.{exact_bytes}
 use Rattle.etcd_types.specs.Keys.{same}
-use Rattle.proxy_model.specs.Keyed.{Keyed, at, with_at, option_map, changed_at, is_in_order}
+use Rattle.proxy_model.specs.Keyed.{Keyed, at, with_at, changed_at, is_in_order}
+use Rattle.std.specs.Option.{option_map}
 use Rattle.proxy_model.proofs.KeyedLaws.{to_T, in_order-with_at}
-use Rattle.lease_table.specs.Places.{IsPlace, IsGap}
+use Rattle.keyed_rows.specs.Places.{IsPlace, IsGap}
 
 abbrev order : List ℕ → List ℕ → Ordering
 order = slice_cmp nat_cmp

@@ -1,0 +1,17 @@
+-- The row at the place is the key's, and at a gap there is none.
+use Rattle.std.proofs.Common.{sym, ap, subst, ◌∙◌}
+use Rattle.proxy_model.proofs.KeyedLaws.{to_T}
+use Rattle.proxy_model.specs.Keyed.{Keyed, at}
+use Rattle.keyed_rows.specs.Places.{IsPlace, IsGap}
+use Rattle.keyed_rows.proofs.Places.{found-place, at-gap}
+use Rattle.keyed_rows.proofs.Rows.find.Goals as goal
+
+pub returns-in-Ok : goal.returns-in-Ok
+returns-in-Ok g c =
+    let place = subst (λ (t : Keyed _). IsPlace t c.args.key.now c.in-Ok.at) (sym c.self.view_is) c.in-Ok.ensures.found in
+    found-place _ _ _ _ place c.index.ensures ∙ ap (λ (t : Keyed _). at t c.args.key.now) c.self.view_is
+
+pub returns-in-Err : goal.returns-in-Err
+returns-in-Err g c =
+    let gap = subst (λ (t : Keyed _). IsGap t c.args.key.now c.in-Err.field-0) (sym c.self.view_is) c.in-Err.ensures.absent in
+    sym (at-gap _ _ _ (to_T _ c.self.invariant) gap) ∙ ap (λ (t : Keyed _). at t c.args.key.now) c.self.view_is

@@ -1,0 +1,16 @@
+-- The closure compares a row's key with the one looked for, and the slice is the rows.
+use Rattle.std.proofs.Common.{rules}
+use Rattle.std.proofs.lemmas.Fn.{always_returns_same}
+use Rattle.std.specs.Ordering.{nat_cmp}
+use Rattle.std.specs.Cmp.Lexicographic.{slice_cmp}
+use Rattle.proxy_model.proofs.KeyedLaws.{to_T}
+use Rattle.keyed_rows.proofs.Places.{searched}
+use Rattle.keyed_rows.proofs.Rows.place.Goals as goal
+
+pub returns : goal.returns
+returns g c =
+    let facts = c.binary_search_by.ensures in
+    let by_key = facts.position (λ row. slice_cmp nat_cmp row.0 c.args.key.now) (always_returns_same _ _ _ (λ a r g called. (search rules, search rules))) in
+    let in_order = to_T _ c.self.invariant in
+    let found = searched _ c.args.key.now (rw c.deref.ensures.value in_order) _ facts.bound by_key in
+    rw (← c.self.view_is, ← c.deref.ensures.value) found

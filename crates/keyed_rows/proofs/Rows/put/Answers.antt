@@ -1,0 +1,26 @@
+-- The value at the key's place is another one, and where there is none its row goes into the gap.
+use Rattle.std.proofs.Common.{◌≡◌, Some, sym, ap, subst, ◌∙◌}
+use Rattle.proxy_model.specs.Keyed.{Keyed, with_at}
+use Rattle.keyed_rows.specs.Places.{IsPlace, IsGap}
+use Rattle.keyed_rows.proofs.Edits.{put_in_place, in_order-put_in_place, put_in_gap, in_order-put_in_gap}
+use Rattle.keyed_rows.proofs.Rows.put.Goals as goal
+
+pub invariant_of-self : goal.invariant_of-self
+invariant_of-self g c =
+    let place = subst (λ (t : Keyed _). IsPlace t c.args.key c.in-Ok.at) (sym c.self.view_is) c.in-Ok.ensures.found in
+    in_order-put_in_place _ c.args.key c.args.value _ _ c.self.invariant place c.index_mut.ensures.value
+
+pub returns-in-Ok-clause-ok : goal.returns-in-Ok-clause-ok
+returns-in-Ok-clause-ok g c =
+    let place = subst (λ (t : Keyed _). IsPlace t c.args.key c.in-Ok.at) (sym c.self.view_is) c.in-Ok.ensures.found in
+    put_in_place _ c.args.key c.args.value _ _ place c.index_mut.ensures.value ∙ ap (λ (t : Keyed _). with_at t c.args.key (Some c.args.value)) c.self.view_is
+
+pub invariant_of-self-in-Continue-1 : goal.invariant_of-self-in-Continue-1
+invariant_of-self-in-Continue-1 g c =
+    let gap = subst (λ (t : Keyed _). IsGap t c.args.key c.in-Err.gap) (sym c.self.view_is) c.in-Err.ensures.absent in
+    rw c.in_ok-insert-in-Err.ensures.items (in_order-put_in_gap _ c.args.key c.args.value _ c.self.invariant gap)
+
+pub returns-in_ok-insert-in-Err-clause-ok : goal.returns-in_ok-insert-in-Err-clause-ok
+returns-in_ok-insert-in-Err-clause-ok g c =
+    let gap = subst (λ (t : Keyed _). IsGap t c.args.key c.in-Err.gap) (sym c.self.view_is) c.in-Err.ensures.absent in
+    c.in_ok-insert-in-Err.ensures.items ∙ put_in_gap _ c.args.key c.args.value _ gap ∙ ap (λ (t : Keyed _). with_at t c.args.key (Some c.args.value)) c.self.view_is
