@@ -1,0 +1,23 @@
+//! The whole machine of one proxy, as definitions: what it keeps, and what comes to it and from it. Client watches aren't in it yet.
+//!
+//! The types that the definitions speak of are declared here, and given on by the crates that work with them.
+#![tactic(auto)]
+
+ghost use Rattle.core_model.specs.State.{BeginsWithNothing};
+
+mod acquire;
+mod asked;
+mod event;
+mod out_call;
+mod settings;
+
+pub use acquire::Acquire;
+pub use asked::{Asked, Stage, Verdict};
+pub use event::{CoreEvent, Job, Outcome, StepFault};
+pub use out_call::{CallKind, OutCall, OutJob};
+pub use settings::Settings;
+
+/// At its start a proxy has asked and owns nothing.
+pub fn at_the_start()
+    ensures { BeginsWithNothing }
+{}
