@@ -1,0 +1,12 @@
+-- One more write is done in its place.
+use Rattle.std.proofs.Common.{true, sym, ap, ◌∙◌}
+use Rattle.std.proofs.lemmas.List.Edits.{map_over_more}
+use Rattle.etcd_types.specs.Keys.{same}
+use Rattle.wait_model.specs.ForeignOwnership.{write_gone}
+use Rattle.wait_model.specs.SessionEnd.{write_ended}
+use Rattle.revoke_core.proofs.gone.lose_all.Goals as goal
+
+pub loop-write-preserved : goal.loop-write-preserved
+loop-write-preserved c =
+    rw (c.lose_all_found.ensures ∙ ap (write_gone (λ k. true)) (sym c.write-item.is))
+    (map_over_more (write_gone (λ k. true)) _ _ _ _ c.loop-write-test.true c.loop-write.invariant c.write-item.is)

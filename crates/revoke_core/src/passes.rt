@@ -1,0 +1,41 @@
+ghost use Rattle.std.specs.Prelude.{◌≡◌, ◌<◌, [], take, drop, length};
+ghost use Rattle.std.specs.List.{list_any};
+ghost use Rattle.wait_model.specs.Covers.{shares};
+ghost use Rattle.wait_model.specs.Passes.{passed};
+ghost use Rattle.revoke_core.specs.Steps.{is_blocked};
+
+use crate::turns::{shares, take_turn};
+use keyed_rows::Rows;
+use lease_table::LeaseTable;
+use wait_model::Write;
+
+/// One pass over the writes, in order of asking.
+pub(crate) fn pass(
+    writes: &mut Vec<Write>,
+    spoiled: &mut Rows<bool>,
+    table: &mut LeaseTable,
+    step: u64,
+)
+    ensures writes { writes.new.items ≡ (passed step [] table.old.entries spoiled.old writes.old.items).writes }
+    ensures spoiled { spoiled.new ≡ (passed step [] table.old.entries spoiled.old writes.old.items).spoiled }
+    ensures entries { table.new.entries ≡ (passed step [] table.old.entries spoiled.old writes.old.items).entries }
+{
+    for at in 0..writes.len() {
+        let blocked = is_blocked(writes, at);
+        take_turn(&mut writes[at], blocked, spoiled, table, step);
+    }
+}
+
+/// Whether the write at this place shares a key with an earlier one.
+fn is_blocked(writes: &[Write], at: usize) -> bool
+    requires { at < length writes.now }
+    ensures { result ≡ is_blocked writes.now at }
+{
+    shares_any(&writes[at], &writes[..at])
+}
+
+fn shares_any(write: &Write, earlier: &[Write]) -> bool
+    ensures { result ≡ list_any (shares write.now) earlier.now }
+{
+    earlier.iter().any(|other| shares(write, other))
+}

@@ -1,0 +1,184 @@
+ghost use Rattle.std.specs.Prelude.{◌≡◌, ◌≤◌, OnOk, OnErr, [], map};
+ghost use Rattle.std.specs.Option.{option_copied};
+ghost use Rattle.wait_model.specs.Asked.{acquire_begun, acquire_spoiled, acquire_ended, is_spoiled, is_true};
+ghost use Rattle.wait_model.specs.DueOrder.{first_place};
+ghost use Rattle.wait_model.specs.Endings.{lost, forgotten};
+
+ghost use Rattle.wait_model.specs.Leaving.{quiet_of, moment_or_zero};
+ghost use Rattle.wait_model.specs.LeasingStream.{resynced, all_given_up};
+ghost use Rattle.wait_model.specs.Passes.{proceeded};
+ghost use Rattle.wait_model.specs.SessionEnd.{session_ended};
+ghost use Rattle.wait_model.specs.State.{first_waits, owned, step_begun};
+
+use crate::due::first_place;
+use crate::gone::{end_all, lose_all};
+use crate::losses::{forget_write, lose_job};
+use crate::passes::pass;
+use crate::places::take_job;
+use etcd_types::{Bytes, NoMemory};
+use keyed_rows::Rows;
+use lease_table::LeaseTable;
+use std::alloc::Global;
+use std::marker::Model;
+use wait_model::{Place, Settled, WaitCall, Write};
+
+/// The unanswered writes, the acquires that are due or out, and what both wait for. The lease table stands beside it.
+#[derive(Debug, Drop)]
+pub struct Waits {
+    alloc: Global,
+    prefix: Bytes,
+    step: u64,
+    writes: Vec<Write>,
+    spoiled: Rows<bool>,
+    quiet: Rows<u64>,
+    out: Vec<WaitCall>,
+}
+
+impl Model for Waits {
+    ghost use Rattle.std.specs.Prelude.{IsTrue};
+    ghost use Rattle.wait_model.specs.State.{Waits as Value'};
+    ghost use Rattle.wait_model.specs.Fits.{are_proper};
+    ghost use Rattle.std.specs.Coded.{codes};
+    ghost use Rattle.etcd_types.specs.contracts.operation.Op as operation;
+
+    ghost Value = { Value' };
+
+    ghost coded = { Prim.hlevel (codes, operation.the_row.coded) };
+
+    ghost view = { λ w. record { prefix = w.prefix; step = w.step; writes = w.writes.items; spoiled = w.spoiled; quiet = w.quiet; out = w.out.items } };
+
+    ghost invariant = { λ w. IsTrue (are_proper w.writes.items) };
+}
+
+impl Waits {
+    /// No writes and no acquires, under this leasing prefix. It takes no memory.
+    pub fn new(alloc: Global, prefix: Bytes) -> Waits
+        ensures { result ≡ first_waits prefix }
+    {
+        Waits {
+            alloc,
+            prefix,
+            step: 0,
+            writes: Vec::new(alloc),
+            spoiled: Rows::new(alloc),
+            quiet: Rows::new(alloc),
+            out: Vec::new(alloc),
+        }
+    }
+
+    /// What becomes due from here on became due at this step.
+    pub fn begin_step(&mut self, step: u64)
+        ensures { self.new ≡ (step_begun step (owned [] self.old)).waits }
+    {
+        self.step = step;
+    }
+
+    /// An acquire of the key is due. Where memory was wanting all is as before.
+    pub fn begin_acquire(&mut self, key: &Bytes) -> Result<(), NoMemory>
+        ensures ok { OnOk result (self.new ≡ (acquire_begun key.now (owned [] self.old)).waits) }
+        ensures err { OnErr result (self.new ≡ self.old) }
+    {
+        self.spoiled.put(key.copy(self.alloc)?, false)?;
+        Ok(())
+    }
+
+    /// The acquire of the key is over; whether it was spoiled.
+    pub fn end_acquire(&mut self, key: &Bytes) -> bool
+        ensures spoiled { result ≡ is_spoiled key.now (owned [] self.old) }
+        ensures waits { self.new ≡ (acquire_ended key.now (owned [] self.old)).waits }
+    {
+        let spoiled = is_true(self.spoiled.find(key));
+        self.spoiled.remove(key);
+        spoiled
+    }
+
+    /// The acquire of the key is spoiled, where one is due or out: it holds nothing when it is answered.
+    pub fn spoil(&mut self, key: &Bytes)
+        ensures { self.new ≡ (acquire_spoiled key.now (owned [] self.old)).waits }
+    {
+        self.spoiled.replace(key, true);
+    }
+
+    /// The moment of the proxy's clock before which no acquire of the key begins, in milliseconds; 0 where none bars it.
+    pub fn quiet(&self, key: &Bytes) -> u64
+        ensures { result ≡ quiet_of (owned [] self.now) key.now }
+    {
+        moment_or_zero(self.quiet.find(key))
+    }
+
+    /// Takes each waiting write as far as its rule lets it, in order of asking.
+    pub fn proceed(&mut self, table: &mut LeaseTable)
+        ensures waits { self.new ≡ (proceeded (owned table.old.entries self.old)).waits }
+        ensures entries { table.new.entries ≡ (proceeded (owned table.old.entries self.old)).entries }
+    {
+        pass(&mut self.writes, &mut self.spoiled, table, self.step);
+    }
+
+    /// The call of this number was lost.
+    pub fn lost(&mut self, call: u64, table: &mut LeaseTable) -> Settled
+        ensures waits { self.new ≡ (lost call (owned table.old.entries self.old)).own.waits }
+        ensures entries { table.new.entries ≡ (lost call (owned table.old.entries self.old)).own.entries }
+        ensures settled { result ≡ (lost call (owned table.old.entries self.old)).settled }
+    {
+        let job = take_job(&mut self.out, call);
+        lose_job(&mut self.writes, call, job, table)
+    }
+
+    /// The request of this ticket timed out or left, and its write with it.
+    pub fn forget(&mut self, ticket: u64, table: &mut LeaseTable)
+        ensures waits { self.new ≡ (forgotten ticket (owned table.old.entries self.old)).waits }
+        ensures entries { table.new.entries ≡ (forgotten ticket (owned table.old.entries self.old)).entries }
+    {
+        forget_write(&mut self.writes, ticket, table);
+    }
+
+    /// Where the first due call of a write stands among all due jobs; nothing where none is due. Due rescinds stand at the table.
+    pub fn first_place(&self) -> Option<Place>
+        ensures { result ≡ first_place self.now.writes }
+    {
+        first_place(&self.writes)
+    }
+
+    /// The session ended: all entries are gone, and what was due under it becomes due without it.
+    pub fn end_session(&mut self, table: &mut LeaseTable)
+        ensures waits { self.new ≡ (session_ended (owned table.old.entries self.old)).waits }
+        ensures entries { table.new.entries ≡ (session_ended (owned table.old.entries self.old)).entries }
+    {
+        table.drop_all();
+        end_all(&mut self.writes);
+    }
+
+    /// The leasing stream began anew: all owners that were found count as gone.
+    pub fn resynced(&mut self)
+        ensures { self.new ≡ (resynced (owned [] self.old)).waits }
+    {
+        lose_all(&mut self.writes);
+    }
+
+    /// The leasing stream lost what it was to tell: each key is given up, and each acquire is spoiled.
+    pub fn give_all_up(&mut self, table: &mut LeaseTable)
+        ensures waits { self.new ≡ (all_given_up (owned table.old.entries self.old)).waits }
+        ensures entries { table.new.entries ≡ (all_given_up (owned table.old.entries self.old)).entries }
+    {
+        table.give_up_all();
+        self.spoiled.raise_all();
+    }
+}
+
+fn is_true(flag: Option<&bool>) -> bool
+    ensures { result ≡ is_true (option_copied flag.entry) }
+{
+    match flag {
+        Some(flag) => *flag,
+        None => false,
+    }
+}
+
+fn moment_or_zero(moment: Option<&u64>) -> u64
+    ensures { result ≡ moment_or_zero (option_copied moment.entry) }
+{
+    match moment {
+        Some(moment) => *moment,
+        None => 0,
+    }
+}
