@@ -43,9 +43,9 @@ job_parts call own (Some (job.Revoke k)) = write_lost-parts (asks call) own (fir
 job_parts call own (Some job.Write) = write_lost-parts (sends call) own (first_by (sends call) own.waits.writes) refl
 
 pub lost-parts : (call : ℕ) (own : Ownership) → ◌≡◌ {A = Ending} (lost call own) (record {
-    own = record { entries = lost_entries call (job_of call own.waits.out) own.waits.writes own.entries; waits = record own.waits { writes = lost_writes call (job_of call own.waits.out) own.waits.writes; out = without_call call own.waits.out } };
-    settled = lost_settled call (job_of call own.waits.out) own.waits.writes;
-  })
+  own = record { entries = lost_entries call (job_of call own.waits.out) own.waits.writes own.entries; waits = record own.waits { writes = lost_writes call (job_of call own.waits.out) own.waits.writes; out = without_call call own.waits.out } };
+  settled = lost_settled call (job_of call own.waits.out) own.waits.writes;
+})
 unfolding lost
 lost-parts call own = job_parts call (without_out call own) (job_of call own.waits.out)
 

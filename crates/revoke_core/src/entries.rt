@@ -28,7 +28,11 @@ pub(crate) enum Fate {
 pub(crate) fn fate_of(stage: &WriteStage) -> Fate
     ensures { result ≡ fate_of stage.now }
 {
-    if is_due(stage) { Fate::Back } else { Fate::Left }
+    if is_due(stage) {
+        Fate::Back
+    } else {
+        Fate::Left
+    }
 }
 
 fn is_due(stage: &WriteStage) -> bool

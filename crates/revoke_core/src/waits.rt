@@ -3,7 +3,6 @@ ghost use Rattle.std.specs.Option.{option_copied};
 ghost use Rattle.wait_model.specs.Asked.{acquire_begun, acquire_spoiled, acquire_ended, is_spoiled, is_true};
 ghost use Rattle.wait_model.specs.DueOrder.{first_place};
 ghost use Rattle.wait_model.specs.Endings.{lost, forgotten};
-
 ghost use Rattle.wait_model.specs.Leaving.{quiet_of, moment_or_zero};
 ghost use Rattle.wait_model.specs.LeasingStream.{resynced, all_given_up};
 ghost use Rattle.wait_model.specs.Passes.{proceeded};
