@@ -67,5 +67,16 @@ first_core settings =
       streams = 0;
     }
 
+-- nothing is owned, asked, due or out, and nothing was counted
+pub record IsNothing (c : Core) : Type 0 where
+  pub entries : c.own.entries ≡ []
+  pub writes : c.own.waits.writes ≡ []
+  pub seat : c.seat ≡ None
+  pub asks : c.asks ≡ []
+  pub out : c.out ≡ []
+  pub calls : c.calls ≡ 0
+  pub steps : c.steps ≡ 0
+  pub streams : c.streams ≡ 0
+
 abbrev pub BeginsWithNothing : Type 0
-BeginsWithNothing = (settings : Settings) → ((first_core settings).own.entries ≡ []) × ((first_core settings).asks ≡ []) × ((first_core settings).seat ≡ None)
+BeginsWithNothing = (settings : Settings) → IsNothing (first_core settings)
