@@ -1,0 +1,9 @@
+//! Laws of watches that share streams, over the definitions: nothing is held back, streams merge, queues are bounded.
+//! Each is a public function without a body. Worked scripts stand beside them.
+#![tactic(auto)]
+
+mod laws;
+mod worked;
+
+pub use laws::nothing_is_held_back;
+pub use worked::worked_scripts;

@@ -1,0 +1,21 @@
+use Rattle.std.proofs.Common.{◌≡◌, true, List, map, sym, subst}
+use Rattle.watch_model.specs.State.{Stream, Watch}
+use Rattle.watch_model.specs.Lookups.{numbered, member_changed, tickets_from}
+use Rattle.watch_model.specs.Delivery.{progressed}
+use Rattle.watch_model.proofs.Numbers.{advanced-numbered}
+use Rattle.watch_model.proofs.Tickets.{tickets-map, member-keeps}
+use Rattle.watch_model.proofs.StepTickets.{progressed-keeps}
+use Rattle.watch_queue.specs.Watching.{shown}
+use Rattle.watch_merge.proofs.broadcasts.Broadcasts.deliver_progress.Goals as goal
+
+pub invariant_of-self-then-is_up_to : goal.invariant_of-self-then-is_up_to
+invariant_of-self-then-is_up_to c =
+    let g = progressed c.args.next c.args.header in
+    record {
+      numbers =
+          subst (λ (t : List Stream). numbered 0 c.self.inside.given t ≡ true) (sym c.advance.ensures)
+          (advanced-numbered c.args.stream c.args.header.revision c.self.inside.given c.self.inside.streams.items c.self.invariant.numbers);
+      tickets =
+          subst (λ (t : List Watch). tickets_from 0 t ≡ true) (sym c.in_ok-give_progress.ensures.ok)
+          (tickets-map (member_changed c.args.stream g) (member-keeps c.args.stream g (progressed-keeps c.args.next c.args.header)) 0 (map shown c.self.inside.watches.items) c.self.invariant.tickets);
+    }

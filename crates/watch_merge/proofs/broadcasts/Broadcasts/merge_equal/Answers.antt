@@ -1,0 +1,22 @@
+use Rattle.std.proofs.Common.{◌≡◌, true, map, refl, List, ap, sym, subst, ◌∙◌}
+use Rattle.watch_model.specs.State.{Stream, Watch}
+use Rattle.watch_model.specs.Lookups.{numbered, tickets_from}
+use Rattle.watch_model.specs.Merging.{merged_stream, merged_watch}
+use Rattle.watch_model.proofs.Streams.{numbered-map}
+use Rattle.watch_model.proofs.Numbers.{merged-keeps}
+use Rattle.watch_model.proofs.Tickets.{tickets-map}
+use Rattle.watch_queue.specs.Watching.{shown}
+use Rattle.watch_merge.proofs.broadcasts.Broadcasts.merge_equal.Goals as goal
+
+pub invariant_of-self : goal.invariant_of-self
+invariant_of-self c =
+    let ss = c.self.inside.streams.items in
+    let ws = map shown c.self.inside.watches.items in
+    record {
+      numbers =
+          subst (λ (t : List Stream). numbered 0 c.self.inside.given t ≡ true) (sym c.close_others.ensures)
+          (numbered-map (merged_stream c.args.range.now ss c.self.inside.step) (merged-keeps c.args.range.now ss c.self.inside.step) 0 c.self.inside.given ss c.self.invariant.numbers);
+      tickets =
+          subst (λ (t : List Watch). tickets_from 0 t ≡ true) (sym (c.move_members.ensures ∙ ap (λ (us : List Stream). map (merged_watch c.args.range.now us) ws) c.deref.ensures.value))
+          (tickets-map (merged_watch c.args.range.now ss) (λ w. refl) 0 ws c.self.invariant.tickets);
+    }

@@ -1,0 +1,23 @@
+use Rattle.std.proofs.Common.{◌≡◌, true, List, refl, sym, subst}
+use Rattle.watch_model.specs.State.{Stream}
+use Rattle.watch_model.specs.Lookups.{numbered, changed_stream}
+use Rattle.watch_model.specs.Due.{begun}
+use Rattle.watch_model.proofs.Streams.{numbered-map, numbered-without, changed-keeps}
+use Rattle.watch_merge.proofs.broadcasts.Broadcasts.next_job.Goals as goal
+
+pub invariant_of-self : goal.invariant_of-self
+invariant_of-self c =
+    let ss = c.self.inside.streams.items in
+    record {
+      numbers = subst (λ (t : List Stream). numbered 0 c.self.inside.given t ≡ true) (sym c.drop_stream.ensures) (numbered-without c.in-Some.found.now.number 0 c.self.inside.given ss c.self.invariant.numbers);
+      tickets = c.self.invariant.tickets;
+    }
+
+pub invariant_of-self-in-Due : goal.invariant_of-self-in-Due
+invariant_of-self-in-Due c =
+    let ss = c.self.inside.streams.items in
+    let n = c.in-Some.found.now.number in
+    record {
+      numbers = subst (λ (t : List Stream). numbered 0 c.self.inside.given t ≡ true) (sym c.begin.ensures) (numbered-map (changed_stream n begun) (changed-keeps n begun (λ s. refl)) 0 c.self.inside.given ss c.self.invariant.numbers);
+      tickets = c.self.invariant.tickets;
+    }

@@ -1,0 +1,39 @@
+ghost use Rattle.std.specs.Prelude.{◌≡◌, IfOk, OnErr};
+ghost use Rattle.watch_model.specs.Due.{first_due, next_job};
+
+use super::Broadcasts;
+use crate::due::first_due;
+use crate::streams::{begin, copy_range, drop_stream, next_of};
+use etcd_types::NoMemory;
+use watch_model::{StreamJob, StreamPhase};
+
+impl Broadcasts {
+    /// The first due closing or opening, which is then sent, or none where none is due. Where memory was wanting it is
+    /// still due.
+    pub fn next_job(&mut self) -> Result<Option<StreamJob>, NoMemory>
+        ensures ok { IfOk result (λ job. next_job self.old (first_due self.old.streams) ≡ (self.new, job)) }
+        ensures err { OnErr result (self.new ≡ self.old) }
+    {
+        let Some(found) = first_due(&self.streams) else {
+            return Ok(None);
+        };
+        let stream = found.number;
+        match found.phase {
+            StreamPhase::Begun => Ok(None),
+            StreamPhase::Closing { .. } => {
+                drop_stream(stream, &mut self.streams);
+                Ok(Some(StreamJob::Close { stream }))
+            }
+            StreamPhase::Due { .. } => {
+                let range = copy_range(self.alloc, found)?;
+                let start = next_of(found);
+                begin(stream, &mut self.streams);
+                Ok(Some(StreamJob::Open {
+                    stream,
+                    range,
+                    start,
+                }))
+            }
+        }
+    }
+}

@@ -1,0 +1,4 @@
+pub mod Numbers
+pub mod StepTickets
+pub mod Streams
+pub mod Tickets

@@ -1,0 +1,12 @@
+pub mod Cuts
+pub mod Delivery
+pub mod Due
+pub mod Joining
+pub mod Leaving
+pub mod Lookups
+pub mod Merging
+pub mod Queues
+pub mod Splitting
+pub mod State
+pub mod Story
+pub mod Takes

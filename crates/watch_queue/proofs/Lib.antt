@@ -1,0 +1,5 @@
+pub mod Entered
+pub mod Fates
+pub mod Heads
+pub mod Renumbered
+pub mod Values

@@ -1,0 +1,6 @@
+use Rattle.std.proofs.Common.{◌≡◌, ◌++◌, map, take, drop}
+use Rattle.watch_queue.specs.Fates.{delivered_to}
+use Rattle.watch_queue.proofs.delivery.commit_all.Given as goal
+
+abbrev pub invariant-loop-watch : goal.invariant-loop-watch
+invariant-loop-watch l = l.watch-items ≡ map (delivered_to l.number l.next l.batch) (take l.watch-index l.initial.watch-items) ++ drop l.watch-index l.initial.watch-items

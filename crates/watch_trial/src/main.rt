@@ -1,0 +1,34 @@
+//! A table of calls on shared watches and of what comes of each.
+//!
+//! The standard input has steps, one a line, each with a line `= ANSWER` behind it that says what is to come of it. A step
+//! is `seen HEADER`, which begins anew where the highest header delivered is this one, `ask TICKET WATCH`, `send`,
+//! `item STREAM ITEM`, `cut STREAM`, `take TICKET`, `split TICKET NEXT` or `leave TICKET`. Each answer that differs is
+//! printed, and at the end the number of answers and of those that differ.
+#![tactic(auto)]
+
+mod trial;
+
+use crate::trial::Trial;
+use table_rows::Wrong;
+
+fn main(rt: HostRuntime) -> Result<(), Wrong> {
+    let alloc = rt.alloc();
+    let mut trial = Trial::new(alloc);
+    let mut answers = 0u64;
+    let mut differing = 0u64;
+    for line in rt.lines(alloc) {
+        let line = line?;
+        let line = line.as_str();
+        if let Some(wanted) = line.strip_prefix("= ") {
+            answers = answers.saturating_add(1);
+            if trial.told() != wanted {
+                differing = differing.saturating_add(1);
+                println!(rt; "wanted {wanted}\ncame   {}", trial.told())?;
+            }
+        } else if !line.is_empty() && !line.starts_with("#") {
+            trial.step(line)?;
+        }
+    }
+    println!(rt; "{answers} answers, {differing} differ")?;
+    Ok(())
+}
