@@ -7,7 +7,7 @@ use Rattle.replay_model.specs.Script.{line_feed, begun_line}
 use Rattle.replay_model.specs.Transcript.{transcript_text}
 use Rattle.replay_model.specs.declared.ending.Ending.{Ending}
 use Rattle.replay_model.specs.declared.ending.Ending.TheVariants as ending
-use Rattle.replay_model.proofs.Progresses.{on_open, progress-append_one, finished-whole, finished-begun, past_limit}
+use Rattle.replay_model.proofs.Progresses.{on_open, progress-append_one, finished-whole, finished-begun}
 use Rattle.replay_model.proofs.ScriptLines.{begun_line-append_one}
 use Rattle.etcd_proxy.specs.Replay.{Follows, HasRefused, TakesByte, TakesEnd}
 use Rattle.etcd_proxy.specs.Script.{Adds, Stands, IsReady}

@@ -1,5 +1,5 @@
 -- The program's world and the one that it stands for.
-use Rattle.std.proofs.Common.{◌≡◌, ◌≤◌, ◌<◌, ℕ, zero, suc, ◌+◌, ◌-◌, ◌==◌, Bool, true, false, cond, List, [], ◌∷◌, Option, None, Some, refl, sym, ◌∙◌, ap, subst, arith, slice_get}
+use Rattle.std.proofs.Common.{◌≡◌, ◌≤◌, ◌<◌, ℕ, zero, suc, ◌+◌, ◌-◌, ◌==◌, Bool, true, false, cond, List, [], ◌∷◌, Option, None, Some, MatchOption, refl, sym, ◌∙◌, ap, subst, arith, slice_get}
 use Rattle.std.specs.List.{list_all}
 use Rattle.etcd_types.proofs.Bools.{and_first, and_second}
 use Rattle.etcd_types.specs.declared.request.Request.{Request}
@@ -9,6 +9,7 @@ use Rattle.store_world.proofs.Stores.{stands_for_some, states_agree}
 use Rattle.replay_model.specs.Built.{is_built}
 use Rattle.replay_model.specs.Fits.{Fits, due_of}
 use Rattle.replay_model.specs.World.{World as Model, Proxy, call_at}
+use Rattle.replay_model.specs.declared.call.Asked.{Asked}
 use Rattle.replay_model.specs.declared.call.SentCall.{SentCall}
 use Rattle.etcd_proxy.specs.World.{Stands}
 use Rattle.etcd_proxy.specs.declared.world.World.{World}
@@ -69,3 +70,20 @@ fits_alike lines counted world v w a b f =
 
 pub fits_more : (a b : ℕ) (w : Model) → a ≤ b → Fits a a w → Fits b b w
 fits_more a b w le f = record { revisions = omega (arith, f.revisions); few = omega (arith, f.few); due = f.due; calls = f.calls }
+
+-- what the proxy has to send first is gone from what is due
+pub first_due : (world : World) (before after proxy : Proxy) (r : Option Asked) → world.proxy ≡ Some before
+    → MatchOption r ((before.due ≡ []) × (after ≡ before)) (λ first. (before.due ≡ first ∷ after.due) × (after.tickets ≡ before.tickets))
+    → world.proxy ≡ Some proxy
+    → MatchOption r ((proxy.due ≡ []) × (record world { proxy = Some after } ≡ world))
+    (λ first. (rest : List Asked) × (proxy.due ≡ first ∷ rest) × (record world { proxy = Some after } ≡ record world { proxy = Some (record proxy { due = rest }) }))
+first_due world before after proxy None is h e = (
+  ap (λ (p : Proxy). p.due) (sym (some-is before proxy (sym is ∙ e))) ∙ h.0,
+  (λ i. record world { proxy = Some (h.1 i) }) ∙ (λ i. record world { proxy = sym is i }),
+)
+first_due world before after proxy (Some first) is h e =
+    let same : before ≡ proxy = some-is before proxy (sym is ∙ e) in (
+      after.due,
+      ap (λ (p : Proxy). p.due) (sym same) ∙ h.0,
+      λ i. record world { proxy = Some (record { tickets = (h.1 ∙ ap (λ (p : Proxy). p.tickets) same) i; due = after.due }) },
+    )
