@@ -1,7 +1,6 @@
 ghost use Rattle.std.specs.Prelude.{◌≡◌, ◌++◌, length, drop, map, IfOk, OnOk};
-ghost use Rattle.std.specs.Option.{option_copied};
+ghost use Rattle.std.specs.Option.{option_copied, option_map};
 ghost use Rattle.proxy_model.specs.Foreign.{owner_of, revoke_word};
-ghost use Rattle.proxy_model.specs.Keyed.{option_map};
 ghost use Rattle.proxy_model.specs.Readings.{records_of};
 
 use etcd_types::{Body, Bytes, Kv, List, NoMemory};
