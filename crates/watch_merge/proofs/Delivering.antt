@@ -6,7 +6,7 @@ use Rattle.etcd_types.specs.declared.watch.Event.{Event}
 use Rattle.watch_model.specs.State.{Stream, Broadcasts}
 use Rattle.watch_model.specs.Lookups.{stream_at, is_begun, with_stream, member_changed}
 use Rattle.proxy_model.specs.Upstream.{created}
-use Rattle.watch_merge.specs.Places.{IsAt}
+use Rattle.watch_streams.specs.Places.{IsAt}
 use Rattle.watch_model.specs.Merging.{merged}
 use Rattle.watch_model.specs.Cuts.{cut_stream, cut_at}
 use Rattle.watch_model.specs.Delivery.{is_awaited, created_stream, created_watch, stands_created, on_stream, is_told, found_stream, given_message, delivered_message, delivered_stream, delivered}

@@ -1,8 +1,9 @@
 -- The watch of a ticket: where it stands, all others, and it split off.
-use Rattle.std.specs.Prelude.{ℕ, suc, Bool, not, ◌==◌, nat_lt, if◌then◌else◌, List, [], ◌∷◌, filter, Option, None, Some}
+use Rattle.std.specs.Prelude.{ℕ, suc, ◌≡◌, ◌<◌, Bool, not, ◌==◌, nat_lt, if◌then◌else◌, List, [], ◌∷◌, filter, length, get_or, Option, None, Some}
 use Rattle.watch_model.specs.declared.place.WatchPlace.{WatchPlace}
 use Rattle.watch_model.specs.declared.place.WatchPlace.TheVariants as place
 use Rattle.watch_model.specs.State.{Watch}
+use Rattle.watch_model.specs.Lookups.{watch_at}
 use Rattle.watch_queue.specs.declared.watching.Watching.{Watching}
 
 abbrev pub place_at : Option Watch → Option WatchPlace
@@ -22,3 +23,8 @@ split_to ticket next w = if w.ticket == ticket then record w { next = next; plac
 abbrev pub gap : ℕ → List Watching → ℕ
 gap ticket [] = 0
 gap ticket (w ∷ ws) = if nat_lt w.ticket ticket then suc (gap ticket ws) else 0
+
+-- the place of the first watch with this ticket
+pub record IsWatchAt (ticket : ℕ) (ws : List Watch) (i : ℕ) : Type 0 where
+  pub bound : i < length ws
+  pub is : (d : Watch) → watch_at ticket ws ≡ Some (get_or ws i d)

@@ -2,10 +2,10 @@ ghost use Rattle.std.specs.Prelude.{◌≡◌};
 ghost use Rattle.watch_model.specs.Queues.{is_nil};
 ghost use Rattle.watch_model.specs.Delivery.{is_batch, is_told, changed_key, last_revision};
 
-use crate::streams::next_of;
 use etcd_types::{Bytes, Change, Event, List};
 use watch_model::Stream;
 use watch_queue::revision_of;
+use watch_streams::next_of;
 
 /// Whether it is a message without events.
 pub fn is_nil(events: &List<Event>) -> bool

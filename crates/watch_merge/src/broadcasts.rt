@@ -5,13 +5,13 @@ ghost use Rattle.watch_model.specs.Merging.{merged};
 ghost use Rattle.watch_model.specs.Cuts.{cut_at, cut_answer};
 
 use crate::merging::{close_others, move_members};
-use crate::streams::{is_closing, place_of, reopen};
 use crate::watches::place_of_watch;
 use etcd_types::KeyRange;
 use std::alloc::Global;
 use std::marker::Model;
 use watch_model::Stream;
 use watch_queue::{Watching, renumber};
+use watch_streams::{is_closing, place_of, reopen};
 
 mod deliveries;
 mod jobs;

@@ -4,11 +4,8 @@
 
 mod batches;
 mod broadcasts;
-mod due;
 mod fault;
 mod merging;
-mod seats;
-mod streams;
 mod watches;
 
 pub use broadcasts::Broadcasts;

@@ -3,10 +3,10 @@ ghost use Rattle.watch_model.specs.Lookups.{stream_at};
 ghost use Rattle.watch_model.specs.Merging.{is_of, keeper, kept_by, merged_number, merged_place, merged_stream, merged_watch};
 ghost use Rattle.watch_queue.specs.Watching.{shown, moved_as};
 
-use crate::streams::{next_of, place_of};
 use etcd_types::KeyRange;
 use watch_model::{Stream, StreamPhase, WatchPlace};
 use watch_queue::Watching;
+use watch_streams::{next_of, place_of};
 
 /// Members of streams of the range that become one are those of the one that keeps them.
 pub fn move_members(range: &KeyRange, streams: &[Stream], watches: &mut Vec<Watching>)

@@ -5,8 +5,7 @@ ghost use Rattle.watch_model.specs.Queues.{first_item};
 ghost use Rattle.watch_model.specs.Takes.{is_last};
 ghost use Rattle.watch_model.specs.Splitting.{split};
 ghost use Rattle.watch_queue.specs.Watching.{shown};
-ghost use Rattle.watch_merge.specs.Watches.{place_at, is_other_watch, others, split_to, gap};
-ghost use Rattle.watch_merge.specs.Places.{IsWatchAt};
+ghost use Rattle.watch_merge.specs.Watches.{IsWatchAt, place_at, is_other_watch, others, split_to, gap};
 ghost use Rattle.watch_merge.specs.Taking.{joins_again, is_split, ends};
 
 use etcd_types::{NoMemory, WatchItem};

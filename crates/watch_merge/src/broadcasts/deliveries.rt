@@ -6,11 +6,11 @@ ghost use Rattle.watch_merge.specs.Faults.{IsStreamFault};
 use super::Broadcasts;
 use crate::batches::{is_nil, is_told, last_revision};
 use crate::fault::WatchFault;
-use crate::streams::{
-    advance, copy_range, create, created_next, empty, is_awaited, is_begun, next_of, place_of,
-};
 use etcd_types::{Event, Header, List, NoMemory};
 use watch_queue::{Batch, give, give_created, give_progress, has_member, is_up_to};
+use watch_streams::{
+    advance, copy_range, create, created_next, empty, is_awaited, is_begun, next_of, place_of,
+};
 
 impl Broadcasts {
     /// The created message of a stream came, with this header; `last` is the highest that was delivered.

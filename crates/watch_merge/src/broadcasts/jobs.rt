@@ -2,10 +2,9 @@ ghost use Rattle.std.specs.Prelude.{◌≡◌, IfOk, OnErr};
 ghost use Rattle.watch_model.specs.Due.{first_due, next_job};
 
 use super::Broadcasts;
-use crate::due::first_due;
-use crate::streams::{begin, copy_range, drop_stream, next_of};
 use etcd_types::NoMemory;
 use watch_model::{StreamJob, StreamPhase};
+use watch_streams::{begin, copy_range, drop_stream, first_due, next_of};
 
 impl Broadcasts {
     /// The first due closing or opening, which is then sent, or none where none is due. Where memory was wanting it is

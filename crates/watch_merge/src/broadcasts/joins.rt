@@ -5,12 +5,11 @@ ghost use Rattle.watch_model.specs.Joining.{answered, join_answer, joined, joine
 ghost use Rattle.watch_queue.specs.Watching.{shown};
 
 use super::Broadcasts;
-use crate::seats::stream_to_join;
-use crate::streams::{next_of, open};
 use crate::watches::insert_watch;
 use etcd_types::{Header, NoMemory, WatchAsk};
 use watch_model::{Joined, WatchPlace};
 use watch_queue::{Watching, new_watch, seat};
+use watch_streams::{next_of, open, stream_to_join};
 
 impl Broadcasts {
     /// A watch is asked for, by a ticket that isn't known; `last` is the highest header that was delivered. It joins the

@@ -6,10 +6,10 @@ ghost use Rattle.watch_merge.specs.declared.fault.WatchFault.TheVariants.{NoSuch
 
 use super::Broadcasts;
 use crate::fault::WatchFault;
-use crate::streams::empty;
 use crate::watches::{drop_watch, place_of_watch, split};
 use watch_model::WatchPlace;
 use watch_queue::has_member;
+use watch_streams::empty;
 
 impl Broadcasts {
     /// A watch is left by its client, whatever waits in its queue. Whether it was known.

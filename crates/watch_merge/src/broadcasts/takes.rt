@@ -9,12 +9,11 @@ ghost use Rattle.watch_merge.specs.Taking.{taken_to, opened_for};
 
 use super::Broadcasts;
 use crate::fault::WatchFault;
-use crate::seats::stream_to_join;
-use crate::streams::{next_of, open};
 use crate::watches::{drop_watch, ends, index_of, joins_again, take_into};
 use etcd_types::{Header, NoMemory, WatchItem};
 use watch_model::WatchPlace;
 use watch_queue::{take_and_seat, take_item};
+use watch_streams::{next_of, open, stream_to_join};
 
 impl Broadcasts {
     /// The first item of a watch's queue, which is taken, or none exactly where the queue is empty. A watch that was split

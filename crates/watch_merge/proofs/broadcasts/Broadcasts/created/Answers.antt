@@ -6,7 +6,7 @@ use Rattle.watch_model.proofs.Streams.{numbered-map, changed-keeps}
 use Rattle.watch_model.proofs.Tickets.{tickets-map, member-keeps}
 use Rattle.watch_model.proofs.StepTickets.{created-keeps}
 use Rattle.watch_queue.specs.Watching.{shown}
-use Rattle.watch_merge.specs.Places.{IsAt}
+use Rattle.watch_streams.specs.Places.{IsAt}
 use Rattle.watch_merge.specs.contracts.broadcasts.Broadcasts.{the_view}
 use Rattle.watch_merge.proofs.Delivering.{found_is, created_gives}
 use Rattle.watch_merge.proofs.broadcasts.Broadcasts.created.Goals as goal

@@ -1,12 +1,12 @@
 use Rattle.std.proofs.Common.{◌≡◌, ◌+◌, List, ap, ◌∙◌, sym, subst, true}
 use Rattle.watch_model.specs.State.{Stream, Watch, Broadcasts}
 use Rattle.watch_model.specs.Lookups.{stream_at, numbered, tickets_from}
-use Rattle.watch_merge.specs.Places.{IsAt}
+use Rattle.watch_streams.specs.Places.{IsAt}
 use Rattle.watch_model.specs.Cuts.{cut_at, renumbered}
 use Rattle.watch_model.proofs.Tickets.{tickets-map}
 use Rattle.watch_model.proofs.StepTickets.{renumbered-keeps}
 use Rattle.watch_merge.specs.contracts.broadcasts.Broadcasts.{the_view}
-use Rattle.watch_merge.proofs.Places.{cut_away, cut_again, cut_numbered, again_numbered}
+use Rattle.watch_streams.proofs.Places.{cut_away, cut_again, cut_numbered, again_numbered}
 use Rattle.watch_merge.proofs.broadcasts.Broadcasts.cut.Goals as goal
 
 pub invariant_of-self : goal.invariant_of-self

@@ -1,6 +1,6 @@
 use Rattle.std.proofs.Common.{◌≡◌, List, Some, sym, subst, ◌∙◌}
 use Rattle.watch_model.specs.State.{Stream, Broadcasts}
-use Rattle.watch_merge.specs.Places.{IsAt}
+use Rattle.watch_streams.specs.Places.{IsAt}
 use Rattle.watch_model.specs.Lookups.{stream_at}
 use Rattle.watch_model.specs.Delivery.{delivered}
 use Rattle.watch_merge.specs.contracts.broadcasts.Broadcasts.{the_view}

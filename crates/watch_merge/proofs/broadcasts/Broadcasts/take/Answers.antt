@@ -2,7 +2,7 @@ use Rattle.std.proofs.Common.{false, [], List, get_or, map, ap, subst, ◌∙◌
 use Rattle.watch_model.specs.declared.place.WatchPlace.TheVariants as place
 use Rattle.watch_model.specs.State.{Watch, Broadcasts}
 use Rattle.watch_queue.specs.Watching.{shown}
-use Rattle.watch_merge.specs.Places.{IsWatchAt}
+use Rattle.watch_merge.specs.Watches.{IsWatchAt}
 use Rattle.watch_merge.proofs.Takings.{same_get, taken_is}
 use Rattle.watch_merge.proofs.broadcasts.Broadcasts.take.Goals as goal
 

@@ -1,4 +1,4 @@
-use Rattle.watch_merge.proofs.Places.{numbered-more}
+use Rattle.watch_streams.proofs.Places.{numbered-more}
 use Rattle.watch_merge.proofs.broadcasts.Broadcasts.take_number.Goals as goal
 
 pub invariant_of-self : goal.invariant_of-self

@@ -1,0 +1,195 @@
+ghost use Rattle.std.specs.Prelude.{◌≡◌, ◌<◌, ◌++◌, ◌∷◌, [], length, vec_len, IfSome, IfNone, IfOk, None};
+ghost use Rattle.std.specs.Vec.{vec_capacity};
+ghost use Rattle.watch_model.specs.Lookups.{stream_at, is_closing, is_begun, is_due, is_other, with_stream, without_stream, changed_stream};
+ghost use Rattle.watch_model.specs.Delivery.{advanced, is_awaited, created_stream};
+ghost use Rattle.watch_model.specs.Due.{begun};
+ghost use Rattle.watch_model.specs.Joining.{new_stream};
+ghost use Rattle.proxy_model.specs.Upstream.{created};
+ghost use Rattle.watch_model.specs.Splitting.{closed, emptied_as};
+ghost use Rattle.watch_streams.specs.Places.{IsAt, reopened_at};
+
+use etcd_types::{KeyRange, NoMemory};
+use std::alloc::Global;
+use watch_model::{Stream, StreamPhase};
+use watch_resume::Upstream;
+
+/// The place of the first with this number.
+pub fn place_of(number: u64, streams: &[Stream]) -> Option<usize>
+    ensures found { IfSome result (IsAt number streams.now) }
+    ensures none { IfNone result (stream_at number streams.now ≡ None) }
+{
+    for at in 0..streams.len() {
+        if streams[at].number == number {
+            return Some(at);
+        }
+    }
+    None
+}
+
+/// Whether it is due to be closed.
+pub fn is_closing(phase: StreamPhase) -> bool
+    ensures { result ≡ is_closing phase }
+{
+    matches!(phase, StreamPhase::Closing { .. })
+}
+
+/// Whether its opening was sent, and it isn't due to be closed.
+pub fn is_begun(phase: StreamPhase) -> bool
+    ensures { result ≡ is_begun phase }
+{
+    matches!(phase, StreamPhase::Begun)
+}
+
+fn is_due(phase: StreamPhase) -> bool
+    ensures { result ≡ is_due phase }
+{
+    matches!(phase, StreamPhase::Due { .. })
+}
+
+/// Whether its opening was sent, and its created message hasn't come.
+pub fn is_awaited(stream: &Stream) -> bool
+    ensures { result ≡ is_awaited stream.now }
+{
+    is_begun(stream.phase) && !stream.stream.is_created()
+}
+
+/// Its next revision once its created message came, whose header has this revision.
+pub fn created_next(stream: &Stream, revision: u64) -> u64
+    ensures { result ≡ (created stream.now.stream revision).next }
+{
+    match next_of(stream) {
+        0 => revision.saturating_add(1),
+        next => next,
+    }
+}
+
+/// Its next revision, or 0 as long as only the created message can tell it.
+pub fn next_of(stream: &Stream) -> u64
+    ensures { result ≡ stream.now.stream.next }
+{
+    stream.stream.reopen().1
+}
+
+/// A copy of its range.
+pub fn copy_range(alloc: Global, stream: &Stream) -> Result<KeyRange, NoMemory>
+    ensures { IfOk result (λ range. range ≡ stream.now.stream.range) }
+{
+    stream.stream.reopen().0.copy(alloc)
+}
+
+/// The stream at this place goes to the end, under a new number, due from its next.
+pub fn reopen(at: usize, number: u64, step: u64, streams: &mut Vec<Stream>)
+    requires { at < length streams.old.items }
+    ensures { streams.new.items ≡ reopened_at at number step streams.old.items }
+{
+    let mut stream = streams.remove(at);
+    stream.number = number;
+    stream.phase = StreamPhase::Due { since: step };
+    stream.stream.cut();
+    streams.push(stream).unwrap();
+}
+
+/// All events up to revision `last` were delivered on it.
+pub fn advance(number: u64, last: u64, streams: &mut Vec<Stream>)
+    ensures { streams.new.items ≡ with_stream number (advanced last) streams.old.items }
+{
+    for stream in streams.iter_mut() {
+        advance_one(number, last, stream);
+    }
+}
+
+fn advance_one(number: u64, last: u64, stream: &mut Stream)
+    ensures { stream.new ≡ changed_stream number (advanced last) stream.old }
+{
+    if stream.number == number {
+        stream.stream.advance(last);
+    }
+}
+
+/// The stream has no members: it is due to be closed, or gone where it is still due.
+pub fn empty(number: u64, step: u64, streams: &mut Vec<Stream>)
+    ensures { streams.new.items ≡ emptied_as number step streams.old.items (stream_at number streams.old.items) }
+{
+    let Some(at) = place_of(number, streams) else {
+        return;
+    };
+    if is_due(streams[at].phase) {
+        drop_stream(number, streams);
+    } else {
+        close(number, step, streams);
+    }
+}
+
+/// The stream of this number is gone.
+pub fn drop_stream(number: u64, streams: &mut Vec<Stream>)
+    ensures { streams.new.items ≡ without_stream number streams.old.items }
+{
+    streams.retain(
+        |s: &Stream| -> bool
+            ensures { result ≡ is_other number s.now }
+        { s.number != number },
+    );
+}
+
+fn close(number: u64, step: u64, streams: &mut Vec<Stream>)
+    ensures { streams.new.items ≡ with_stream number (closed step) streams.old.items }
+{
+    for stream in streams.iter_mut() {
+        close_one(number, step, stream);
+    }
+}
+
+fn close_one(number: u64, step: u64, stream: &mut Stream)
+    ensures { stream.new ≡ changed_stream number (closed step) stream.old }
+{
+    if stream.number == number {
+        stream.phase = StreamPhase::Closing { since: step };
+    }
+}
+
+/// Its created message came, whose header has this revision.
+pub fn create(number: u64, revision: u64, streams: &mut Vec<Stream>)
+    ensures { streams.new.items ≡ with_stream number (created_stream revision) streams.old.items }
+{
+    for stream in streams.iter_mut() {
+        create_one(number, revision, stream);
+    }
+}
+
+fn create_one(number: u64, revision: u64, stream: &mut Stream)
+    ensures { stream.new ≡ changed_stream number (created_stream revision) stream.old }
+{
+    if stream.number == number {
+        stream.stream.created(revision);
+    }
+}
+
+/// Its opening is sent.
+pub fn begin(number: u64, streams: &mut Vec<Stream>)
+    ensures { streams.new.items ≡ with_stream number begun streams.old.items }
+{
+    for stream in streams.iter_mut() {
+        begin_one(number, stream);
+    }
+}
+
+fn begin_one(number: u64, stream: &mut Stream)
+    ensures { stream.new ≡ changed_stream number begun stream.old }
+{
+    if stream.number == number {
+        stream.phase = StreamPhase::Begun;
+    }
+}
+
+/// A stream over the range is due to be opened from this start on. There is room for it.
+pub fn open(number: u64, step: u64, range: KeyRange, start: u64, streams: &mut Vec<Stream>)
+    requires { vec_len streams.old < vec_capacity streams.old }
+    ensures { streams.new.items ≡ streams.old.items ++ new_stream number step range start ∷ [] }
+{
+    let stream = Stream {
+        number,
+        phase: StreamPhase::Due { since: step },
+        stream: Upstream::opened(range, start),
+    };
+    streams.push(stream).unwrap();
+}
