@@ -14,7 +14,7 @@ use Rattle.watch_model.specs.declared.place.WatchPlace.TheVariants as place
 use Rattle.watch_model.specs.State.{Stream, Watch, Broadcasts}
 use Rattle.watch_model.specs.Lookups.{same_range, stream_at, place_stream, is_in, is_closing, with_new_watch, without_stream, watch_changed, numbered}
 use Rattle.watch_model.specs.Joining.{decided, told_if, created_header, is_joinable, better, best_of, opening_from_now, or_else, stream_to_join, new_watch, watched_range, seated_in, new_stream, Seated, seated_at, seated, joined}
-use Rattle.watch_model.specs.Cuts.{Left, ended, before, seated_before, left_one, left_over, left_as}
+use Rattle.watch_model.specs.Cuts.{Left, ended, leaving, left_one, left_by, left_over, left_as}
 use Rattle.watch_model.specs.Takes.{with_watch, joined_again}
 use Rattle.watch_model.specs.Story.{Story, Received, received, between, changes, wanted, WatchOk, is_member, EachWatch, Holds}
 use Rattle.watch_laws.proofs.Between.{none_between}
@@ -237,9 +237,6 @@ pub record LeftOk (story : Story) (got : Received) (ss : List Stream) (l : Left)
   pub watches : EachWatch (λ w. WatchOk story (got w.ticket) (place_stream l.streams w.place) w) l.watches
   pub others : (p : WatchPlace) → is_some (place_stream ss p) ≡ is_member p → place_stream l.streams p ≡ place_stream ss p
 
-before_ok : (story : Story) (got : Received) (ss : List Stream) (l : Left) (w : Watch) → WatchOk story (got w.ticket) (place_stream ss w.place) w → LeftOk story got ss l → LeftOk story got ss (before w l)
-before_ok story got ss l w h k = record { numbers = k.numbers; watches = (moved_along story got ss l.streams k.others w h, k.watches); others = k.others }
-
 -- a member of the cancelled stream, and any other watch
 abbrev pub Waits : Story → Received → Stream → List Stream → Watch → Type 0
 Waits story got s ss w =
@@ -248,31 +245,49 @@ Waits story got s ss w =
 waits_along : (story : Story) (got : Received) (s : Stream) (ss us : List Stream) → ((p : WatchPlace) → is_some (place_stream ss p) ≡ is_member p → place_stream us p ≡ place_stream ss p) → (w : Watch) → Waits story got s ss w → Waits story got s us w
 waits_along story got s ss us e w h = (h.0, λ d. moved_along story got ss us e w (h.1 d))
 
-pub left_ok : (story : Story) (got : Received) (s : Stream) (header : Header) (compact step : ℕ) (last : Header) (ss : List Stream) (given : ℕ) (ws : List Watch)
-    → numbered 0 given ss ≡ true → EachWatch (Waits story got s ss) ws → LeftOk story got ss (left_over s header compact step last ss given ws)
-left_ok story got s header compact step last ss given [] n h = record { numbers = n; watches = tt; others = λ p e. refl }
-left_ok story got s header compact step last ss given (w ∷ ws) n h =
-    let rest : List Stream → ℕ → Left = λ us m. left_over s header compact step last us m ws in
-    let v : Watch = record w { next = max w.next s.stream.next; place = place.Split } in
-    let x = seated ss given step last v in
-    let here = left_ok story got s header compact step last ss given ws n h.1 in
-    elim (is_in s.number w.place) as (λ b. is_in s.number w.place ≡ b → LeftOk story got ss (cond b (left_one header compact step last ss given rest v) (before w (rest ss given)))) [
-      | true ↦ λ e.
-          let k = leaves_ok story (got w.ticket) s w (h.0.0 e) in
-          elim (nat_lt v.next compact) as (λ c. LeftOk story got ss (cond c (before (ended header compact v) (rest ss given)) (seated_before rest x))) [
-            | true ↦ before_ok story got ss (rest ss given) (ended header compact v) (ended_ok story (got w.ticket) header compact v k) here
-            | false ↦
-                let o = seat_ok story (got w.ticket) ss given step last v n k in
-                let far = left_ok story got s header compact step last x.streams x.given ws o.numbers (each_along (Waits story got s ss) (Waits story got s x.streams) (waits_along story got s ss x.streams o.others) ws h.1) in
-                let sat : WatchOk story (got x.watch.ticket) (place_stream x.streams x.watch.place) x.watch = subst (λ (t : ℕ). WatchOk story (got t) (place_stream x.streams x.watch.place) x.watch) (sym (ticket_kept ss given step last v)) o.watch in
-                let l = before_ok story got x.streams (rest x.streams x.given) x.watch sat far in
-                record { numbers = l.numbers; watches = l.watches; others = λ p e. l.others p (ap is_some (o.others p e) ∙ e) ∙ o.others p e }
-          ]
-      | false ↦ λ e. before_ok story got ss (rest ss given) w (h.0.1 e) here
+left_one_ok : (story : Story) (got : List Event) (header : Header) (compact step : ℕ) (last : Header) (ss : List Stream) (given : ℕ) (w : Watch)
+    → numbered 0 given ss ≡ true → w.place ≡ place.Split → WatchOk story got None w → SeatedOk story got ss (left_one header compact step last ss given w)
+left_one_ok story got header compact step last ss given w n p k =
+    elim (nat_lt w.next compact) as (λ c. SeatedOk story got ss (cond c (record { streams = ss; given = given; watch = ended header compact w }) (seated ss given step last w))) [
+      | true ↦ record { numbers = n; watch = ended_ok story got header compact w k; others = λ p e. refl }
+      | false ↦ seat_ok story got ss given step last w n k
+    ]
+
+left_by_ok : (story : Story) (got : Received) (s : Stream) (header : Header) (compact step : ℕ) (last : Header) (ss : List Stream) (given : ℕ) (w : Watch)
+    → numbered 0 given ss ≡ true → Waits story got s ss w → SeatedOk story (got w.ticket) ss (left_by s.number s.stream.next header compact step last ss given w)
+left_by_ok story got s header compact step last ss given w n h =
+    elim (is_in s.number w.place) as (λ b. is_in s.number w.place ≡ b → SeatedOk story (got w.ticket) ss (cond b (left_one header compact step last ss given (leaving s.stream.next w)) (record { streams = ss; given = given; watch = w }))) [
+      | true ↦ λ e. left_one_ok story (got w.ticket) header compact step last ss given (leaving s.stream.next w) n refl (leaves_ok story (got w.ticket) s w (h.0 e))
+      | false ↦ λ e. record { numbers = n; watch = h.1 e; others = λ p e. refl }
     ] refl
 
+left_ticket : (n next : ℕ) (header : Header) (compact step : ℕ) (last : Header) (ss : List Stream) (given : ℕ) (w : Watch) → (left_by n next header compact step last ss given w).watch.ticket ≡ w.ticket
+left_ticket n next header compact step last ss given w =
+    let v = leaving next w in
+    let out : Seated = record { streams = ss; given = given; watch = w } in
+    let gone : Seated = record { streams = ss; given = given; watch = ended header compact v } in
+    elim (is_in n w.place) as (λ b. (cond b (left_one header compact step last ss given v) out).watch.ticket ≡ w.ticket) [
+      | true ↦ elim (nat_lt v.next compact) as (λ c. (cond c gone (seated ss given step last v)).watch.ticket ≡ w.ticket) [ true ↦ refl | false ↦ ticket_kept ss given step last v ]
+      | false ↦ refl
+    ]
+
+pub left_ok : (story : Story) (got : Received) (s : Stream) (header : Header) (compact step : ℕ) (last : Header) (ss : List Stream) (given : ℕ) (ws : List Watch)
+    → numbered 0 given ss ≡ true → EachWatch (Waits story got s ss) ws → LeftOk story got ss (left_over s.number s.stream.next header compact step last ss given ws)
+left_ok story got s header compact step last ss given [] n h = record { numbers = n; watches = tt; others = λ p e. refl }
+left_ok story got s header compact step last ss given (w ∷ ws) n h =
+    let x = left_by s.number s.stream.next header compact step last ss given w in
+    let o = left_by_ok story got s header compact step last ss given w n h.0 in
+    let far = left_ok story got s header compact step last x.streams x.given ws o.numbers (each_along (Waits story got s ss) (Waits story got s x.streams) (waits_along story got s ss x.streams o.others) ws h.1) in
+    let sat : WatchOk story (got x.watch.ticket) (place_stream x.streams x.watch.place) x.watch =
+    subst (λ (t : ℕ). WatchOk story (got t) (place_stream x.streams x.watch.place) x.watch) (sym (left_ticket s.number s.stream.next header compact step last ss given w)) o.watch in
+    record {
+      numbers = far.numbers;
+      watches = (moved_along story got x.streams _ far.others x.watch sat, far.watches);
+      others = λ p e. far.others p (ap is_some (o.others p e) ∙ e) ∙ o.others p e;
+    }
+
 pub cancelled_holds : (story : Story) (got : Received) (b : Broadcasts) (s : Stream) (header : Header) (compact : ℕ) (last : Header) → stream_at s.number b.streams ≡ Some s → Holds story got b
-    → Holds story got (left_as b (left_over s header compact b.step last (without_stream s.number b.streams) b.given b.watches))
+    → Holds story got (left_as b (left_over s.number s.stream.next header compact b.step last (without_stream s.number b.streams) b.given b.watches))
 cancelled_holds story got b s header compact last e h =
     let ss = without_stream s.number b.streams in
     let l = left_ok story got s header compact b.step last ss b.given b.watches (numbered-without s.number 0 b.given b.streams h.numbers) (each_along (λ w. WatchOk story (got w.ticket) (place_stream b.streams w.place) w) (Waits story got s ss) waits b.watches h.watches) in

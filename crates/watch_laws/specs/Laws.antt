@@ -41,7 +41,7 @@ CutHoldsNothingBack = (story : Story) (got : Received) (b : Broadcasts) (s : Str
 abbrev pub CancellationHoldsNothingBack : Type 0
 CancellationHoldsNothingBack =
     (story : Story) (got : Received) (b : Broadcasts) (s : Stream) (header : Header) (compact : ℕ) (last : Header) → stream_at s.number b.streams ≡ Some s → Holds story got b
-    → Holds story got (left_as b (left_over s header compact b.step last (without_stream s.number b.streams) b.given b.watches))
+    → Holds story got (left_as b (left_over s.number s.stream.next header compact b.step last (without_stream s.number b.streams) b.given b.watches))
 
 abbrev pub TakeHoldsNothingBack : Type 0
 TakeHoldsNothingBack =

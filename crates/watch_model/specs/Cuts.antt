@@ -32,8 +32,8 @@ abbrev pub cut_answer : Broadcasts → Option Stream → Option ℕ
 cut_answer b None = None
 cut_answer b (Some s) = if is_closing s.phase then None else Some (b.given + 1)
 
--- The members of a cancelled stream, in rising order of tickets: those behind the compaction are given the cancellation, the
--- others join again at their own next.
+-- The members of a cancelled stream leave it, in rising order of tickets: one behind the compaction is given the
+-- cancellation, and any other joins again at its own next.
 pub record Left : Type 0 where
   pub streams : List Stream
   pub given : ℕ
@@ -42,21 +42,27 @@ pub record Left : Type 0 where
 abbrev pub ended : Header → ℕ → Watch → Watch
 ended header compact w = record w { place = place.Ended; queue = w.queue ++ item.Canceled header compact ∷ [] }
 
-abbrev pub before : Watch → Left → Left
-before w l = record l { watches = w ∷ l.watches }
+-- a member of a stream of this next, which is gone
+abbrev pub leaving : ℕ → Watch → Watch
+leaving next w = record w { next = max w.next next; place = place.Split }
 
-abbrev pub seated_before : (List Stream → ℕ → Left) → Seated → Left
-seated_before rest x = before x.watch (rest x.streams x.given)
+abbrev pub left_one : Header → ℕ → ℕ → Header → List Stream → ℕ → Watch → Seated
+left_one header compact step last ss given w =
+    if nat_lt w.next compact then record { streams = ss; given = given; watch = ended header compact w } else seated ss given step last w
 
-abbrev pub left_one : Header → ℕ → ℕ → Header → List Stream → ℕ → (List Stream → ℕ → Left) → Watch → Left
-left_one header compact step last ss given rest w =
-    if nat_lt w.next compact then before (ended header compact w) (rest ss given) else seated_before rest (seated ss given step last w)
+-- a watch, where the stream of this number and next was cancelled
+abbrev pub left_by : ℕ → ℕ → Header → ℕ → ℕ → Header → List Stream → ℕ → Watch → Seated
+left_by n next header compact step last ss given w =
+    if is_in n w.place then left_one header compact step last ss given (leaving next w) else record { streams = ss; given = given; watch = w }
 
-abbrev pub left_over : Stream → Header → ℕ → ℕ → Header → List Stream → ℕ → List Watch → Left
-left_over s header compact step last ss given [] = record { streams = ss; given = given; watches = [] }
-left_over s header compact step last ss given (w ∷ ws) =
-    if is_in s.number w.place then left_one header compact step last ss given (λ rest n. left_over s header compact step last rest n ws) (record w { next = max w.next s.stream.next; place = place.Split })
-    else before w (left_over s header compact step last ss given ws)
+-- the watches behind it see the streams as it left them
+abbrev pub goes_on : (List Stream → ℕ → Left) → Seated → Left
+goes_on rest x = record { streams = (rest x.streams x.given).streams; given = (rest x.streams x.given).given; watches = x.watch ∷ (rest x.streams x.given).watches }
+
+abbrev pub left_over : ℕ → ℕ → Header → ℕ → ℕ → Header → List Stream → ℕ → List Watch → Left
+left_over n next header compact step last ss given [] = record { streams = ss; given = given; watches = [] }
+left_over n next header compact step last ss given (w ∷ ws) =
+    goes_on (λ us m. left_over n next header compact step last us m ws) (left_by n next header compact step last ss given w)
 
 abbrev pub left_as : Broadcasts → Left → Broadcasts
 left_as b l = record b { streams = l.streams; given = l.given; watches = l.watches }
@@ -65,4 +71,4 @@ abbrev pub cancelled_stream : Broadcasts → Stream → Header → ℕ → Heade
 cancelled_stream b s header compact last =
     if not (is_begun s.phase) then b
     else if compact == 0 || s.stream.next == 0 then cut_stream b s
-    else left_as b (left_over s header compact b.step last (without_stream s.number b.streams) b.given b.watches)
+    else left_as b (left_over s.number s.stream.next header compact b.step last (without_stream s.number b.streams) b.given b.watches)
