@@ -20,6 +20,7 @@ use Rattle.watch_model.specs.Story.{Story, Received, received, between, changes,
 use Rattle.watch_laws.proofs.Between.{none_between}
 use Rattle.watch_laws.proofs.Keeping.{queued_events-append}
 use Rattle.watch_model.proofs.Streams.{number_itself, or_stream, at-push, none_above, others-without_stream, numbered-push, numbered-without, each_mapped}
+use Rattle.watch_model.proofs.StepTickets.{joined-keeps, left-keeps}
 use Rattle.watch_laws.proofs.Steps.{same_ranges, in_place}
 use Rattle.watch_laws.proofs.Joining.{seated_ok, seated_fresh_ok}
 
@@ -154,24 +155,6 @@ seat_ok story got ss given step last w n h = go (stream_to_join ss w.ask.range w
 
 -- Joining.
 
-seated_ticket : (last : Header) (s : Stream) (w : Watch) → (seated_in last s w).ticket ≡ w.ticket
-seated_ticket last s w =
-    elim (w.next == 0) as (λ d. (told_if s.stream.created last (record (cond d (record w { start = s.stream.next; next = s.stream.next }) w) { place = place.In s.number })).ticket ≡ w.ticket) [
-      | true ↦ kept s.stream.created (record w { start = s.stream.next; next = s.stream.next; place = place.In s.number })
-      | false ↦ kept s.stream.created (record w { place = place.In s.number })
-    ]
-  where
-    kept : (b : Bool) (v : Watch) → (told_if b last v).ticket ≡ v.ticket
-    kept true v = elim v.told as (λ c. (cond c v (record v { told = true; queue = v.queue ++ item.Created (created_header last v) ∷ [] })).ticket ≡ v.ticket) [ true ↦ refl | false ↦ refl ]
-    kept false v = refl
-
-ticket_kept : (ss : List Stream) (given step : ℕ) (last : Header) (w : Watch) → (seated ss given step last w).watch.ticket ≡ w.ticket
-ticket_kept ss given step last w = go (stream_to_join ss w.ask.range w.next last.revision)
-  where
-    go : (o : Option Stream) → (seated_at ss given step last w o).watch.ticket ≡ w.ticket
-    go (Some s) = seated_ticket last s w
-    go None = refl
-
 moved_along : (story : Story) (got : Received) (ss us : List Stream) → ((p : WatchPlace) → is_some (place_stream ss p) ≡ is_member p → place_stream us p ≡ place_stream ss p)
     → (w : Watch) → WatchOk story (got w.ticket) (place_stream ss w.place) w → WatchOk story (got w.ticket) (place_stream us w.place) w
 moved_along story got ss us e w h = subst (λ (o : Option Stream). WatchOk story (got w.ticket) o w) (sym (e w.place h.member)) h
@@ -202,7 +185,7 @@ joined_holds story got b ticket ask last e h =
       numbers = k.numbers;
       watches =
           each_inserted (λ w. WatchOk story (got w.ticket) (place_stream x.streams w.place) w) x.watch b.watches
-          (subst (λ (es : List Event). WatchOk story es (place_stream x.streams x.watch.place) x.watch) (sym (ap got (ticket_kept b.streams b.given b.step last (new_watch ticket ask)) ∙ e)) k.watch)
+          (subst (λ (es : List Event). WatchOk story es (place_stream x.streams x.watch.place) x.watch) (sym (ap got (joined-keeps b.streams b.given b.step last (new_watch ticket ask)) ∙ e)) k.watch)
           (each_along _ _ (moved_along story got b.streams x.streams k.others) b.watches h.watches);
     }
 
@@ -261,16 +244,6 @@ left_by_ok story got s header compact step last ss given w n h =
       | false ↦ λ e. record { numbers = n; watch = h.1 e; others = λ p e. refl }
     ] refl
 
-left_ticket : (n next : ℕ) (header : Header) (compact step : ℕ) (last : Header) (ss : List Stream) (given : ℕ) (w : Watch) → (left_by n next header compact step last ss given w).watch.ticket ≡ w.ticket
-left_ticket n next header compact step last ss given w =
-    let v = leaving next w in
-    let out : Seated = record { streams = ss; given = given; watch = w } in
-    let gone : Seated = record { streams = ss; given = given; watch = ended header compact v } in
-    elim (is_in n w.place) as (λ b. (cond b (left_one header compact step last ss given v) out).watch.ticket ≡ w.ticket) [
-      | true ↦ elim (nat_lt v.next compact) as (λ c. (cond c gone (seated ss given step last v)).watch.ticket ≡ w.ticket) [ true ↦ refl | false ↦ ticket_kept ss given step last v ]
-      | false ↦ refl
-    ]
-
 pub left_ok : (story : Story) (got : Received) (s : Stream) (header : Header) (compact step : ℕ) (last : Header) (ss : List Stream) (given : ℕ) (ws : List Watch)
     → numbered 0 given ss ≡ true → EachWatch (Waits story got s ss) ws → LeftOk story got ss (left_over s.number s.stream.next header compact step last ss given ws)
 left_ok story got s header compact step last ss given [] n h = record { numbers = n; watches = tt; others = λ p e. refl }
@@ -279,7 +252,7 @@ left_ok story got s header compact step last ss given (w ∷ ws) n h =
     let o = left_by_ok story got s header compact step last ss given w n h.0 in
     let far = left_ok story got s header compact step last x.streams x.given ws o.numbers (each_along (Waits story got s ss) (Waits story got s x.streams) (waits_along story got s ss x.streams o.others) ws h.1) in
     let sat : WatchOk story (got x.watch.ticket) (place_stream x.streams x.watch.place) x.watch =
-    subst (λ (t : ℕ). WatchOk story (got t) (place_stream x.streams x.watch.place) x.watch) (sym (left_ticket s.number s.stream.next header compact step last ss given w)) o.watch in
+    subst (λ (t : ℕ). WatchOk story (got t) (place_stream x.streams x.watch.place) x.watch) (sym (left-keeps s.number s.stream.next header compact step last ss given w)) o.watch in
     record {
       numbers = far.numbers;
       watches = (moved_along story got x.streams _ far.others x.watch sat, far.watches);
@@ -333,7 +306,7 @@ rejoined_holds story got b last w i e p k h =
     let v : Watch = record w { queue = [] } in
     let x = seated b.streams b.given b.step last v in
     let o = seat_ok story (got w.ticket ++ item_events i) b.streams b.given b.step last v h.numbers (takes_ok story (got w.ticket) None w i [] e k) in
-    let t = ticket_kept b.streams b.given b.step last v in
+    let t = joined-keeps b.streams b.given b.step last v in
     record {
       numbers = o.numbers;
       watches =

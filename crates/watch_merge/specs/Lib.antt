@@ -1,3 +1,4 @@
 pub mod Faults
+pub mod Leavings
 pub mod Taking
 pub mod Watches

@@ -13,6 +13,7 @@ use watch_model::Stream;
 use watch_queue::{Watching, renumber};
 use watch_streams::{is_closing, place_of, reopen};
 
+mod cancellations;
 mod deliveries;
 mod jobs;
 mod joins;

@@ -5,6 +5,7 @@
 mod batches;
 mod broadcasts;
 mod fault;
+mod leavers;
 mod merging;
 mod watches;
 

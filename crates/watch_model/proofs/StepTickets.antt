@@ -1,16 +1,16 @@
 -- Each step keeps the tickets of the watches.
-use Rattle.std.proofs.Common.{◌≡◌, ℕ, ◌+◌, Bool, true, false, cond, ◌&&◌, ◌==◌, nat_le, max, List, [], ◌∷◌, ◌++◌, length, refl, ◌∙◌}
+use Rattle.std.proofs.Common.{◌≡◌, ℕ, ◌+◌, Bool, true, false, cond, ◌&&◌, ◌==◌, nat_le, nat_lt, max, List, [], ◌∷◌, ◌++◌, length, Option, None, Some, refl, sym, subst, ◌∙◌}
 use Rattle.etcd_types.specs.declared.record.Header.{Header}
 use Rattle.etcd_types.specs.declared.watch.Event.{Event}
 use Rattle.etcd_types.specs.declared.watch.WatchItem.TheVariants as item
 use Rattle.watch_model.specs.declared.place.WatchPlace.TheVariants as place
-use Rattle.watch_model.specs.State.{Watch}
-use Rattle.watch_model.specs.Lookups.{is_in}
+use Rattle.watch_model.specs.State.{Stream, Watch}
+use Rattle.watch_model.specs.Lookups.{is_in, tickets_from}
 use Rattle.watch_model.specs.Queues.{would_pass, chosen, with_progress}
-use Rattle.watch_model.specs.Joining.{decided, told, told_if, created_header, seated_as}
+use Rattle.watch_model.specs.Joining.{decided, told, told_if, created_header, seated_as, Seated, seated_at, seated, stream_to_join}
 use Rattle.watch_model.specs.Delivery.{shown_events, queued, given_batch, progressed, created_watch}
-use Rattle.watch_model.specs.Cuts.{renumbered}
-use Rattle.watch_model.proofs.Tickets.{KeepsTicket}
+use Rattle.watch_model.specs.Cuts.{renumbered, ended, leaving, left_one, left_by, left_over}
+use Rattle.watch_model.proofs.Tickets.{KeepsTicket, rest_from, first_from}
 
 queued-keeps : (header : Header) (own : ℕ) (xs : List Event) (w : Watch) → (queued header own xs w).ticket ≡ w.ticket
 queued-keeps header own [] w = refl
@@ -42,3 +42,30 @@ told_if-keeps false last w = refl
 
 pub seated-keeps : (last : Header) (number next : ℕ) (created : Bool) → KeepsTicket (seated_as last number next created)
 seated-keeps last number next created w = told_if-keeps created last (record (decided next w) { place = place.In number }) ∙ decided-keeps next w
+
+pub joined-keeps : (ss : List Stream) (given step : ℕ) (last : Header) (w : Watch) → (seated ss given step last w).watch.ticket ≡ w.ticket
+joined-keeps ss given step last w = go (stream_to_join ss w.ask.range w.next last.revision)
+  where
+    go : (o : Option Stream) → (seated_at ss given step last w o).watch.ticket ≡ w.ticket
+    go (Some s) = seated-keeps last s.number s.stream.next s.stream.created w
+    go None = refl
+
+pub left-keeps : (n next : ℕ) (header : Header) (compact step : ℕ) (last : Header) (ss : List Stream) (given : ℕ) (w : Watch) → (left_by n next header compact step last ss given w).watch.ticket ≡ w.ticket
+left-keeps n next header compact step last ss given w =
+    let v = leaving next w in
+    let out : Seated = record { streams = ss; given = given; watch = w } in
+    let gone : Seated = record { streams = ss; given = given; watch = ended header compact v } in
+    elim (is_in n w.place) as (λ b. (cond b (left_one header compact step last ss given v) out).watch.ticket ≡ w.ticket) [
+      | true ↦ elim (nat_lt v.next compact) as (λ c. (cond c gone (seated ss given step last v)).watch.ticket ≡ w.ticket) [ true ↦ refl | false ↦ joined-keeps ss given step last v ]
+      | false ↦ refl
+    ]
+
+pub left-tickets : (n next : ℕ) (header : Header) (compact step : ℕ) (last : Header) (low : ℕ) (ss : List Stream) (given : ℕ) (ws : List Watch)
+    → tickets_from low ws ≡ true → tickets_from low (left_over n next header compact step last ss given ws).watches ≡ true
+left-tickets n next header compact step last low ss given [] h = refl
+left-tickets n next header compact step last low ss given (w ∷ ws) h =
+    let x = left_by n next header compact step last ss given w in
+    let rest = (left_over n next header compact step last x.streams x.given ws).watches in
+    let p = rest_from low w ws h in
+    subst (λ (t : ℕ). (nat_le low t && tickets_from (t + 1) rest) ≡ true) (sym (left-keeps n next header compact step last ss given w))
+    (first_from low w.ticket rest p.0 (left-tickets n next header compact step last (w.ticket + 1) x.streams x.given ws p.1))

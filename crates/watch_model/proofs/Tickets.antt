@@ -7,10 +7,10 @@ use Rattle.watch_model.specs.Lookups.{is_in, member_changed, watch_at, without_w
 abbrev pub KeepsTicket : (Watch → Watch) → Type 0
 KeepsTicket f = (w : Watch) → (f w).ticket ≡ w.ticket
 
-rest_from : (low : ℕ) (w : Watch) (ws : List Watch) → tickets_from low (w ∷ ws) ≡ true → (low ≤ w.ticket) × (tickets_from (w.ticket + 1) ws ≡ true)
+pub rest_from : (low : ℕ) (w : Watch) (ws : List Watch) → tickets_from low (w ∷ ws) ≡ true → (low ≤ w.ticket) × (tickets_from (w.ticket + 1) ws ≡ true)
 rest_from low w ws h = (grind (arith, nat_tests), grind (arith, nat_tests))
 
-first_from : (low t : ℕ) (ws : List Watch) → low ≤ t → tickets_from (t + 1) ws ≡ true → (nat_le low t && tickets_from (t + 1) ws) ≡ true
+pub first_from : (low t : ℕ) (ws : List Watch) → low ≤ t → tickets_from (t + 1) ws ≡ true → (nat_le low t && tickets_from (t + 1) ws) ≡ true
 first_from low t ws l h = grind (arith, nat_tests)
 
 pub tickets-map : (f : Watch → Watch) → KeepsTicket f → (low : ℕ) (ws : List Watch) → tickets_from low ws ≡ true → tickets_from low (map f ws) ≡ true

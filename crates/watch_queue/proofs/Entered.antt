@@ -1,14 +1,14 @@
 -- A created item, made ready and then queued, is what the definitions say.
-use Rattle.std.proofs.Common.{◌≡◌, ℕ, Bool, true, false, cond, ◌==◌, List, [], ◌∷◌, ◌++◌, Option, map, drop, refl, ap, sym, ◌∙◌}
+use Rattle.std.proofs.Common.{◌≡◌, ℕ, Bool, true, false, cond, ◌==◌, List, [], ◌∷◌, ◌++◌, Option, map, drop, refl, ap, ◌∙◌}
 use Rattle.etcd_types.specs.declared.key_range.KeyRange.{KeyRange}
 use Rattle.etcd_types.specs.declared.record.Header.{Header}
 use Rattle.etcd_types.specs.declared.request.WatchAsk.{WatchAsk}
 use Rattle.etcd_types.specs.declared.watch.WatchItem.TheVariants as item
 use Rattle.watch_model.specs.declared.place.WatchPlace.{WatchPlace}
 use Rattle.watch_model.specs.declared.place.WatchPlace.TheVariants as place
-use Rattle.watch_model.specs.State.{Stream, Watch}
+use Rattle.watch_model.specs.State.{Watch}
 use Rattle.watch_model.specs.Lookups.{is_in, member_changed}
-use Rattle.watch_model.specs.Joining.{created_header, decided, told, told_if, seated_as}
+use Rattle.watch_model.specs.Joining.{created_header, decided, told, seated_as}
 use Rattle.watch_model.specs.Delivery.{created_watch}
 use Rattle.watch_queue.specs.Queued.{Queued}
 use Rattle.watch_queue.specs.declared.watching.Watching.{Watching}

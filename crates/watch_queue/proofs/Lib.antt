@@ -1,5 +1,6 @@
 pub mod Entered
 pub mod Fates
 pub mod Heads
+pub mod Leavers
 pub mod Renumbered
 pub mod Values

@@ -53,7 +53,7 @@ pub fn ready_created(next: u64, last: Header, watch: &mut Watching) -> Result<()
 }
 
 /// The header of the created item of a watch that was asked for from this revision, and begins at that one.
-fn created_header(last: Header, asked: u64, start: u64) -> Header
+pub fn created_header(last: Header, asked: u64, start: u64) -> Header
     ensures { result ≡ created_header_of last asked start }
 {
     let mut header = last;

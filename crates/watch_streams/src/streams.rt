@@ -1,4 +1,4 @@
-ghost use Rattle.std.specs.Prelude.{◌≡◌, ◌<◌, ◌++◌, ◌∷◌, [], length, vec_len, IfSome, IfNone, IfOk, None};
+ghost use Rattle.std.specs.Prelude.{◌≡◌, ◌<◌, ◌≤◌, ◌+◌, ◌++◌, ◌∷◌, [], length, vec_len, IfSome, IfNone, IfOk, None};
 ghost use Rattle.std.specs.Vec.{vec_capacity};
 ghost use Rattle.watch_model.specs.Lookups.{stream_at, is_closing, is_begun, is_due, is_other, with_stream, without_stream, changed_stream};
 ghost use Rattle.watch_model.specs.Delivery.{advanced, is_awaited, created_stream};
@@ -122,7 +122,9 @@ pub fn empty(number: u64, step: u64, streams: &mut Vec<Stream>)
 
 /// The stream of this number is gone.
 pub fn drop_stream(number: u64, streams: &mut Vec<Stream>)
-    ensures { streams.new.items ≡ without_stream number streams.old.items }
+    ensures gone { streams.new.items ≡ without_stream number streams.old.items }
+    ensures fewer { vec_len streams.new ≤ vec_len streams.old }
+    ensures room { vec_capacity streams.new ≡ vec_capacity streams.old }
 {
     streams.retain(
         |s: &Stream| -> bool
@@ -184,7 +186,9 @@ fn begin_one(number: u64, stream: &mut Stream)
 /// A stream over the range is due to be opened from this start on. There is room for it.
 pub fn open(number: u64, step: u64, range: KeyRange, start: u64, streams: &mut Vec<Stream>)
     requires { vec_len streams.old < vec_capacity streams.old }
-    ensures { streams.new.items ≡ streams.old.items ++ new_stream number step range start ∷ [] }
+    ensures opened { streams.new.items ≡ streams.old.items ++ new_stream number step range start ∷ [] }
+    ensures one { vec_len streams.new ≡ vec_len streams.old + 1 }
+    ensures room { vec_capacity streams.old ≤ vec_capacity streams.new }
 {
     let stream = Stream {
         number,

@@ -18,7 +18,7 @@ invariant_of-self-2 c =
     let absent : watch_at c.args.watch.ticket ws ≡ None = ap (λ (b : Broadcasts). watch_at c.args.watch.ticket b.watches) c.self.view_is ∙ c.requires.new in
     record {
       numbers =
-          subst (λ (t : List Stream). numbered 0 (given + 1) t ≡ true) (sym (c.open.ensures ∙ ap (λ (l : List Stream). l ++ new ∷ []) c.reserve-2.ensures.items))
+          subst (λ (t : List Stream). numbered 0 (given + 1) t ≡ true) (sym (c.open.ensures.opened ∙ ap (λ (l : List Stream). l ++ new ∷ []) c.reserve-2.ensures.items))
           (numbered-push 0 given ss new (omega arith) refl c.self.invariant.numbers);
       tickets = subst (λ (t : List Watch). tickets_from 0 t ≡ true) (sym (c.insert_watch.ensures ∙ ap (λ l. with_new_watch v (map shown l)) c.reserve.ensures.items)) (tickets-new v 0 ws (omega arith) absent c.self.invariant.tickets);
     }

@@ -9,7 +9,7 @@ pub invariant_of-self : goal.invariant_of-self
 invariant_of-self c =
     let ss = c.self.inside.streams.items in
     record {
-      numbers = subst (λ (t : List Stream). numbered 0 c.self.inside.given t ≡ true) (sym c.drop_stream.ensures) (numbered-without c.in-Some.found.now.number 0 c.self.inside.given ss c.self.invariant.numbers);
+      numbers = subst (λ (t : List Stream). numbered 0 c.self.inside.given t ≡ true) (sym c.drop_stream.ensures.gone) (numbered-without c.in-Some.found.now.number 0 c.self.inside.given ss c.self.invariant.numbers);
       tickets = c.self.invariant.tickets;
     }
 

@@ -39,7 +39,7 @@ invariant_of-self-2 c =
     let new : Stream = new_stream (given + 1) c.self.inside.step c.in_ok-range.range c.index-watch.result.now.next in
     record {
       numbers =
-          subst (λ (t : List Stream). numbered 0 (given + 1) t ≡ true) (sym (c.open.ensures ∙ ap (λ (l : List Stream). l ++ new ∷ []) c.reserve.ensures.items))
+          subst (λ (t : List Stream). numbered 0 (given + 1) t ≡ true) (sym (c.open.ensures.opened ∙ ap (λ (l : List Stream). l ++ new ∷ []) c.reserve.ensures.items))
           (numbered-push 0 given ss new (omega arith) refl c.self.invariant.numbers);
       tickets = put_tickets ws c.args.at x c.index_mut.result.now (shown x) c.self.invariant.tickets l c.index_mut.ensures.value refl k;
     }
@@ -89,7 +89,7 @@ returns-clause-ok c = λ w e.
     let range : c.in_ok-range.range ≡ w.ask.range = c.in_ok-range.ensures ∙ ap (λ (u : Watching). u.ask.range) same ∙ ap (λ (u : Watch). u.ask.range) (sym s) in
     let next : z.next ≡ w.next = ap (λ (u : Watching). u.next) same ∙ ap (λ (u : Watch). u.next) (sym s) in
     let new : KeyRange → ℕ → Stream = λ a k. new_stream (given + 1) c.self.inside.step a k in
-    let opened = c.open.ensures ∙ ap (λ (l : List Stream). l ++ new c.in_ok-range.range z.next ∷ []) c.reserve.ensures.items ∙ (λ j. b.streams ++ new (range j) (next j) ∷ []) in
+    let opened = c.open.ensures.opened ∙ ap (λ (l : List Stream). l ++ new c.in_ok-range.range z.next ∷ []) c.reserve.ensures.items ∙ (λ j. b.streams ++ new (range j) (next j) ∷ []) in
     sym (ap (λ (o : Broadcasts). taken_to o w w.queue (opened_for o (record w { queue = drop 1 w.queue }))) c.self.view_is)
     ∙ take_stays b (record b { streams = b.streams ++ new w.ask.range w.next ∷ []; given = given + 1 }) ws i x y w v c.in_ok-item.item refl h l g s m k n f d
     ∙ (λ j. (record b { streams = sym opened j; watches = map shown (set ws i x); given = given + 1 }, c.in_ok-item.item))
