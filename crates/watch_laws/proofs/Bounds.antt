@@ -46,7 +46,7 @@ keeps_itself range ss step s e =
     equal : (a b : ℕ) → (a == b) ≡ true → a ≡ b
     equal a b e = grind (arith, nat_tests)
 
-back : (f : Stream → Stream) (o : Option Stream) (t : Stream) → option_map f o ≡ Some t → (s : Stream) × (o ≡ Some s) × (f s ≡ t)
+pub back : (f : Stream → Stream) (o : Option Stream) (t : Stream) → option_map f o ≡ Some t → (s : Stream) × (o ≡ Some s) × (f s ≡ t)
 back f None t e = absurd (cc)
 back f (Some s) t e = let one : f s ≡ t = cc in (s, refl, one)
 

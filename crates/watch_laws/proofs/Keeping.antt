@@ -37,7 +37,7 @@ queue_more got q header xs =
     ∙ map-append (λ (e : Event). e.change) (got ++ queued_events q) xs
 
 -- the story goes on
-goes_on : (story : Story) (got : List Event) (w : Watch) (own m from : ℕ) (cs : List Change) → rises from (story w.ask.range) ≡ true → w.start ≤ own → Kept story got w own
+pub goes_on : (story : Story) (got : List Event) (w : Watch) (own m from : ℕ) (cs : List Change) → rises from (story w.ask.range) ≡ true → w.start ≤ own → Kept story got w own
     → cs ≡ wanted w.ask (between own m (story w.ask.range))
     → changes (got ++ queued_events w.queue) ++ cs ≡ wanted w.ask (between w.start (max own m) (story w.ask.range))
 goes_on story got w own m from cs r l k e =

@@ -1,7 +1,11 @@
 pub mod Between
 pub mod Bounds
+pub mod Calls
+pub mod Furthest
 pub mod Histories
 pub mod Joining
 pub mod Keeping
 pub mod Seating
+pub mod Standing
 pub mod Steps
+pub mod Telling

@@ -12,7 +12,7 @@ use Rattle.watch_model.specs.Queues.{item_events, queued_events}
 use Rattle.watch_model.specs.declared.place.WatchPlace.{WatchPlace}
 use Rattle.watch_model.specs.declared.place.WatchPlace.TheVariants as place
 use Rattle.watch_model.specs.State.{Stream, Watch, Broadcasts}
-use Rattle.watch_model.specs.Lookups.{same_range, stream_at, place_stream, is_in, is_closing, with_new_watch, without_stream, watch_changed, numbered}
+use Rattle.watch_model.specs.Lookups.{same_range, stream_at, place_stream, next_of, is_in, is_closing, with_new_watch, without_stream, watch_changed, numbered}
 use Rattle.watch_model.specs.Joining.{decided, told_if, created_header, is_joinable, better, best_of, opening_from_now, or_else, stream_to_join, new_watch, watched_range, seated_in, new_stream, Seated, seated_at, seated, joined}
 use Rattle.watch_model.specs.Cuts.{Left, ended, leaving, left_one, left_by, left_over, left_as}
 use Rattle.watch_model.specs.Takes.{with_watch, joined_again}
@@ -61,12 +61,12 @@ chosen_one P s false best j h = h
 chosen_one P s true None j h = j refl
 chosen_one P s true (Some t) j h = elim (nat_lt t.stream.next s.stream.next) as (λ b. AllSome P (cond b (Some s) (Some t))) [ true ↦ j refl | false ↦ h ]
 
-best_is : (P Q : Stream → Type 0) (range : KeyRange) (limit : ℕ) → ((s : Stream) → P s → is_joinable range limit s ≡ true → Q s) → (ss : List Stream) (best : Option Stream) → EachStream P ss → AllSome Q best → AllSome Q (best_of range limit best ss)
+pub best_is : (P Q : Stream → Type 0) (range : KeyRange) (limit : ℕ) → ((s : Stream) → P s → is_joinable range limit s ≡ true → Q s) → (ss : List Stream) (best : Option Stream) → EachStream P ss → AllSome Q best → AllSome Q (best_of range limit best ss)
 best_is P Q range limit j [] best p h = h
 best_is P Q range limit j (s ∷ ss) best p h =
     best_is P Q range limit j ss (cond (is_joinable range limit s) (better s best) best) p.1 (chosen_one Q s (is_joinable range limit s) best (j s p.0) h)
 
-opening_is : (P Q : Stream → Type 0) (range : KeyRange) → ((s : Stream) → P s → (same_range s.stream.range range && not (is_closing s.phase) && s.stream.next == 0) ≡ true → Q s) → (ss : List Stream) → EachStream P ss → AllSome Q (opening_from_now range ss)
+pub opening_is : (P Q : Stream → Type 0) (range : KeyRange) → ((s : Stream) → P s → (same_range s.stream.range range && not (is_closing s.phase) && s.stream.next == 0) ≡ true → Q s) → (ss : List Stream) → EachStream P ss → AllSome Q (opening_from_now range ss)
 opening_is P Q range j [] p = tt
 opening_is P Q range j (s ∷ ss) p =
     elim (same_range s.stream.range range && not (is_closing s.phase) && s.stream.next == 0) as (λ b. (same_range s.stream.range range && not (is_closing s.phase) && s.stream.next == 0) ≡ b → AllSome Q (cond b (Some s) (opening_from_now range ss))) [
@@ -163,7 +163,7 @@ each_inserted : (P : Watch → Type 0) (w : Watch) (ws : List Watch) → P w →
 each_inserted P w [] p h = (p, tt)
 each_inserted P w (v ∷ ws) p h = elim (nat_lt v.ticket w.ticket) as (λ b. EachWatch P (cond b (v ∷ with_new_watch w ws) (w ∷ v ∷ ws))) [ true ↦ (h.0, each_inserted P w ws p h.1) | false ↦ (p, h) ]
 
-each_along : (P Q : Watch → Type 0) → ((w : Watch) → P w → Q w) → (ws : List Watch) → EachWatch P ws → EachWatch Q ws
+pub each_along : (P Q : Watch → Type 0) → ((w : Watch) → P w → Q w) → (ws : List Watch) → EachWatch P ws → EachWatch Q ws
 each_along P Q k [] h = tt
 each_along P Q k (w ∷ ws) h = (k w h.0, each_along P Q k ws h.1)
 
@@ -191,9 +191,9 @@ joined_holds story got b ticket ask last e h =
 
 -- A cancellation.
 
-leaves_ok : (story : Story) (got : List Event) (s : Stream) (w : Watch) → WatchOk story got (Some s) w → WatchOk story got None (record w { next = max w.next s.stream.next; place = place.Split })
-leaves_ok story got s w h =
-    let same : max w.next s.stream.next ≡ max (max w.next s.stream.next) 0 = omega arith in
+pub leaves_ok : (story : Story) (got : List Event) (o : Option Stream) (w : Watch) → WatchOk story got o w → WatchOk story got None (record w { next = max w.next (next_of o); place = place.Split })
+leaves_ok story got o w h =
+    let same : max w.next (next_of o) ≡ max (max w.next (next_of o)) 0 = omega arith in
     record {
       member = refl;
       range = λ t e. absurd (cc);
@@ -240,7 +240,7 @@ left_by_ok : (story : Story) (got : Received) (s : Stream) (header : Header) (co
     → numbered 0 given ss ≡ true → Waits story got s ss w → SeatedOk story (got w.ticket) ss (left_by s.number s.stream.next header compact step last ss given w)
 left_by_ok story got s header compact step last ss given w n h =
     elim (is_in s.number w.place) as (λ b. is_in s.number w.place ≡ b → SeatedOk story (got w.ticket) ss (cond b (left_one header compact step last ss given (leaving s.stream.next w)) (record { streams = ss; given = given; watch = w }))) [
-      | true ↦ λ e. left_one_ok story (got w.ticket) header compact step last ss given (leaving s.stream.next w) n refl (leaves_ok story (got w.ticket) s w (h.0 e))
+      | true ↦ λ e. left_one_ok story (got w.ticket) header compact step last ss given (leaving s.stream.next w) n refl (leaves_ok story (got w.ticket) (Some s) w (h.0 e))
       | false ↦ λ e. record { numbers = n; watch = h.1 e; others = λ p e. refl }
     ] refl
 

@@ -1,4 +1,8 @@
 ghost use Rattle.watch_laws.specs.Laws.{JoinHoldsNothingBack, BatchHoldsNothingBack, ProgressHoldsNothingBack, MergeHoldsNothingBack, CutHoldsNothingBack, CancellationHoldsNothingBack, TakeHoldsNothingBack, MergedStandAlone, HistoriesRise, CreatedHoldsNothingBack, QueuesAreBounded};
+ghost use Rattle.watch_laws.specs.Calls.{DeliveryHoldsNothingBack, CreationHoldsNothingBack, CutsHoldNothingBack, CancellationsHoldNothingBack, JobsHoldNothingBack, TakesHoldNothingBack, LeavingHoldsNothingBack, SplitHoldsNothingBack};
+ghost use Rattle.watch_laws.specs.Alone.{JoinsLeaveAlone, CreationsLeaveAlone, DeliveriesLeaveAlone, MergesLeaveAlone, CutsLeaveAlone, CancellationsLeaveAlone, TakesLeaveAlone, LeavingLeavesAlone, SplitsLeaveAlone, JobsLeaveAlone};
+ghost use Rattle.watch_laws.specs.Joins.{NewWhereNoneIsJoined, JoinedIsFurthest, JoinedCanBe};
+ghost use Rattle.watch_laws.specs.Truths.{ProgressIsTrue};
 
 /// No step holds anything back, merged streams have no twins, and queues are bounded.
 pub fn nothing_is_held_back()
@@ -13,4 +17,42 @@ pub fn nothing_is_held_back()
     ensures alone { MergedStandAlone }
     ensures bounded { QueuesAreBounded }
     ensures rise { HistoriesRise }
+{}
+
+/// Nor does any call as a whole, whichever of its cases it takes.
+pub fn no_call_holds_back()
+    ensures delivery { DeliveryHoldsNothingBack }
+    ensures creation { CreationHoldsNothingBack }
+    ensures cut { CutsHoldNothingBack }
+    ensures cancellation { CancellationsHoldNothingBack }
+    ensures job { JobsHoldNothingBack }
+    ensures take { TakesHoldNothingBack }
+    ensures leaving { LeavingHoldsNothingBack }
+    ensures split { SplitHoldsNothingBack }
+{}
+
+/// Between calls no two streams of one range that stand created have equal next.
+pub fn streams_stand_alone()
+    ensures join { JoinsLeaveAlone }
+    ensures creation { CreationsLeaveAlone }
+    ensures delivery { DeliveriesLeaveAlone }
+    ensures merge { MergesLeaveAlone }
+    ensures cut { CutsLeaveAlone }
+    ensures cancellation { CancellationsLeaveAlone }
+    ensures take { TakesLeaveAlone }
+    ensures leaving { LeavingLeavesAlone }
+    ensures split { SplitsLeaveAlone }
+    ensures job { JobsLeaveAlone }
+{}
+
+/// A watch joins a stream that is furthest ahead of those that it can join, and a new one only where there is none.
+pub fn joined_is_furthest()
+    ensures new { NewWhereNoneIsJoined }
+    ensures furthest { JoinedIsFurthest }
+    ensures joined { JoinedCanBe }
+{}
+
+/// Where a watch is told of a revision by a message without events, all events up to it were queued before.
+pub fn progress_is_true()
+    ensures { ProgressIsTrue }
 {}

@@ -5,5 +5,7 @@
 mod laws;
 mod worked;
 
-pub use laws::nothing_is_held_back;
+pub use laws::{
+    joined_is_furthest, no_call_holds_back, nothing_is_held_back, progress_is_true, streams_stand_alone,
+};
 pub use worked::worked_scripts;

@@ -50,7 +50,7 @@ others-with_stream n f h ss (place.In k) e = at-map (changed_stream n f) (change
 others-with_stream n f h ss place.Split e = refl
 others-with_stream n f h ss place.Ended e = refl
 
-at-without : (n k : ℕ) (ss : List Stream) → (k == n) ≡ false → stream_at k (without_stream n ss) ≡ stream_at k ss
+pub at-without : (n k : ℕ) (ss : List Stream) → (k == n) ≡ false → stream_at k (without_stream n ss) ≡ stream_at k ss
 at-without n k [] e = refl
 at-without n k (s ∷ ss) e =
     elim (s.number == n) as (λ b. (s.number == n) ≡ b → stream_at k (cond (not b) (s ∷ without_stream n ss) (without_stream n ss)) ≡ stream_at k (s ∷ ss)) [

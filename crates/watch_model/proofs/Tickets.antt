@@ -67,7 +67,7 @@ other_ticket a b l = grind (arith, nat_tests)
 other_before : (a b : ℕ) → a + 1 ≤ b → (a == b) ≡ false
 other_before a b l = grind (arith, nat_tests)
 
-unchanged : (t low : ℕ) (f : Watch → Watch) (ws : List Watch) → t + 1 ≤ low → tickets_from low ws ≡ true → map (watch_changed t f) ws ≡ ws
+pub unchanged : (t low : ℕ) (f : Watch → Watch) (ws : List Watch) → t + 1 ≤ low → tickets_from low ws ≡ true → map (watch_changed t f) ws ≡ ws
 unchanged t low f [] l h = refl
 unchanged t low f (w ∷ ws) l h =
     let p = rest_from low w ws h in
