@@ -6,6 +6,7 @@ mod laws;
 mod worked;
 
 pub use laws::{
-    joined_is_furthest, no_call_holds_back, nothing_is_held_back, progress_is_true, streams_stand_alone,
+    joined_is_furthest, no_call_holds_back, nothing_is_held_back, progress_is_true,
+    streams_stand_alone,
 };
 pub use worked::worked_scripts;
