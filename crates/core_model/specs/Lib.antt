@@ -1,1 +1,17 @@
 pub mod State
+pub mod Lookups
+pub mod Refusals
+pub mod Kinds
+pub mod Heard
+pub mod Verdicts
+pub mod Groups
+pub mod Sessions
+pub mod LeasingStream
+pub mod ClockWork
+pub mod Stepped
+pub mod Asking
+pub mod Ends
+pub mod DueJobs
+pub mod Sending
+pub mod Takes
+pub mod Step

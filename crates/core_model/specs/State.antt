@@ -7,8 +7,8 @@ use Rattle.proxy_model.specs.Session.{Session}
 use Rattle.proxy_model.specs.Upstream.{Upstream}
 use Rattle.wait_model.specs.declared.sending.Sending.{Sending}
 use Rattle.wait_model.specs.State.{Ownership, owned, first_waits}
-use Rattle.core_model.specs.declared.acquire.Acquire.{Acquire}
-use Rattle.core_model.specs.declared.asked.Asked.{Asked}
+use Rattle.read_model.specs.declared.acquire.Acquire.{Acquire}
+use Rattle.read_model.specs.declared.asked.Asked.{Asked}
 use Rattle.core_model.specs.declared.out_call.OutCall.{OutCall}
 use Rattle.core_model.specs.declared.settings.Settings.{Settings}
 
@@ -38,7 +38,7 @@ pub record Core : Type 0 where
   pub acquires : Keyed Acquire
   -- in order of asking: the unanswered requests, and those whose reply wasn't taken
   pub asks : List Asked
-  -- the calls that are out, beside those of writes and entries
+  -- the calls that are out, the last one sent last
   pub out : List OutCall
   -- how many calls were sent
   pub calls : ℕ

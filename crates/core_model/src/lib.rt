@@ -5,19 +5,17 @@
 
 ghost use Rattle.core_model.specs.State.{BeginsWithNothing};
 
-mod acquire;
-mod asked;
 mod event;
 mod out_call;
 mod settings;
 
-pub use acquire::Acquire;
-pub use asked::{Asked, Stage, Verdict};
 pub use event::{CoreEvent, Job, Outcome, StepFault};
 pub use out_call::{CallKind, OutCall, OutJob};
+pub use read_model::{Acquire, Asked, Stage, Verdict};
 pub use settings::Settings;
 
 /// At its start a proxy has asked and owns nothing.
 pub fn at_the_start()
     ensures { BeginsWithNothing }
 {}
+ghost use Rattle.core_model.specs.Step.{stepped};
