@@ -15,3 +15,5 @@ pub mod DueJobs
 pub mod Sending
 pub mod Takes
 pub mod Step
+pub mod WorkedRuns
+pub mod WorkedReads

@@ -8,14 +8,15 @@ ghost use Rattle.core_model.specs.State.{BeginsWithNothing};
 mod event;
 mod out_call;
 mod settings;
+mod worked;
 
 pub use event::{CoreEvent, Job, Outcome, StepFault};
 pub use out_call::{CallKind, OutCall, OutJob};
 pub use read_model::{Acquire, Asked, Stage, Verdict};
 pub use settings::Settings;
+pub use worked::worked_reads;
 
 /// At its start a proxy has asked and owns nothing.
 pub fn at_the_start()
     ensures { BeginsWithNothing }
 {}
-ghost use Rattle.core_model.specs.Step.{stepped};
