@@ -17,3 +17,5 @@ pub mod Takes
 pub mod Step
 pub mod WorkedRuns
 pub mod WorkedReads
+pub mod WaitsFor
+pub mod Fits

@@ -6,3 +6,6 @@ pub fn worked_reads()
     ensures second_is_cached { SecondIsCached }
     ensures owner_writes { OwnerWrites }
 {}
+
+ghost use Rattle.core_model.specs.Fits.{CoreOk};
+ghost use Rattle.core_model.specs.WaitsFor.{NoneIsIdle};
