@@ -17,5 +17,8 @@ pub mod Takes
 pub mod Step
 pub mod WorkedRuns
 pub mod WorkedReads
+pub mod WorkedWrites
+pub mod WorkedCalls
+pub mod WorkedSessions
 pub mod WaitsFor
 pub mod Fits

@@ -10,10 +10,13 @@ use Rattle.etcd_types.specs.declared.record.Header.{Header}
 use Rattle.etcd_types.specs.declared.record.Kv.{Kv}
 use Rattle.etcd_types.specs.declared.request.Request.{Request}
 use Rattle.etcd_types.specs.declared.request.Request.TheVariants as request
+use Rattle.etcd_types.specs.declared.watch.Change.TheVariants as change
 use Rattle.etcd_types.specs.declared.watch.Event.{Event}
 use Rattle.etcd_types.specs.declared.watch.WatchItem.TheVariants as item
 use Rattle.proxy_model.specs.Asks.{range_ask, created_at, put_op, read_op}
 use Rattle.proxy_model.specs.Acquire.{acquire}
+use Rattle.proxy_model.specs.Foreign.{ask_revoke}
+use Rattle.proxy_model.specs.Leaving.{rescind}
 use Rattle.proxy_model.specs.Prefixes.{only, leasing_range}
 use Rattle.core_model.specs.declared.event.CoreEvent.{CoreEvent}
 use Rattle.core_model.specs.declared.event.CoreEvent.TheVariants as event
@@ -74,17 +77,30 @@ leasing_proxy = proxy_of 1 (codes "L/")
 
 -- Events.
 
+abbrev pub head : ℕ → Header
+head n = record { cluster = 1; member = 1; revision = n; term = 1 }
+
+abbrev pub asks_at : ℕ → ℕ → Request → Timed
+asks_at now ticket q = at_time now (event.Ask ticket q 3)
+
 abbrev pub asks : ℕ → Request → Timed
-asks ticket q = at_first (event.Ask ticket q 5)
+asks ticket q = asks_at 0 ticket q
+
+abbrev pub works_at : ℕ → Timed
+works_at now = at_time now event.Work
+
+abbrev pub answers_at : ℕ → ℕ → ℕ → Body → Timed
+answers_at now call revision b =
+    at_time now (event.Answer call (answer.Done (record { header = head revision; body = b })))
+
+abbrev pub takes_at : ℕ → ℕ → Timed
+takes_at now ticket = at_time now (event.Take ticket)
 
 abbrev pub works : Timed
 works = at_first event.Work
 
 abbrev pub takes : ℕ → Timed
 takes ticket = at_first (event.Take ticket)
-
-abbrev pub head : ℕ → Header
-head n = record { cluster = 1; member = 1; revision = n; term = 1 }
 
 abbrev pub done : ℕ → Body → Answer
 done revision b = answer.Done (record { header = head revision; body = b })
@@ -152,6 +168,35 @@ guarded_put value create =
 
 abbrev pub put_done : Body
 put_done = body.Txn true (body.Put None ∷ [])
+
+abbrev pub rescind_of_a : Request
+rescind_of_a = request.Txn (rescind (codes "L/") (codes "a") 2)
+
+abbrev pub rescind_done : Body
+rescind_done = body.Txn true (body.Delete 1 [] ∷ [])
+
+abbrev pub ask_of_a : Request
+ask_of_a = request.Txn (ask_revoke (codes "L/") (codes "a") 2)
+
+-- The ownership key of `a` under a lease, as it is put and as its owner is asked; and its deletion.
+
+abbrev pub owner_record : ℕ → List ℕ → ℕ → ℕ → Kv
+owner_record lease value modified version =
+    record { key = codes "L/a"; value = value; create = 2; modified = modified; version = version; lease = lease }
+
+abbrev pub is_asked : ℕ → Event
+is_asked lease = record { change = change.Put (owner_record lease (codes "REVOKE") 3 2); prev = None }
+
+abbrev pub is_deleted : ℕ → Event
+is_deleted revision = record { change = change.Delete (codes "L/a") revision; prev = None }
+
+-- another proxy's session
+abbrev pub other_session : ℕ
+other_session = drawn_session 5
+
+-- a write that failed, since `a` is owned
+abbrev pub owned_by_other : Body
+owned_by_other = body.Txn false (body.Range 1 false (owner_record other_session [] 2 1 ∷ []) ∷ [])
 
 -- The opening: a session is granted, and the leasing stream stands created.
 

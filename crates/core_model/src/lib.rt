@@ -14,7 +14,7 @@ pub use event::{CoreEvent, Job, Outcome, StepFault};
 pub use out_call::{CallKind, OutCall, OutJob};
 pub use read_model::{Acquire, Asked, Stage, Verdict};
 pub use settings::Settings;
-pub use worked::worked_reads;
+pub use worked::{worked_calls, worked_reads, worked_sessions, worked_writes};
 
 /// At its start a proxy has asked and owns nothing.
 pub fn at_the_start()

@@ -1,0 +1,18 @@
+//! Laws of plain reads, over their definitions: no read waits for nothing, a held key is read with no call, and one that may be
+//! acquired is acquired.
+#![tactic(auto)]
+
+ghost use Rattle.read_laws.specs.Laws.{ReleaseStands, NoReadIsIdle, HeldIsReplied, HeldIsLive, AcquirableIsAcquired};
+
+/// After a release each waiting read has what it waits for.
+pub fn release_stands()
+    ensures { ReleaseStands }
+{}
+
+/// What a read waits for, and what it comes to at its own step.
+pub fn reads_wait()
+    ensures no_read_is_idle { NoReadIsIdle }
+    ensures held_is_replied { HeldIsReplied }
+    ensures held_is_live { HeldIsLive }
+    ensures acquirable_is_acquired { AcquirableIsAcquired }
+{}
