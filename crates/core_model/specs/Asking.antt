@@ -30,11 +30,12 @@ use Rattle.core_model.specs.declared.event.StepFault.TheVariants as fault
 use Rattle.core_model.specs.ClockWork.{writes_go_on}
 use Rattle.core_model.specs.Groups.{group_stage}
 use Rattle.core_model.specs.Kinds.{writes_keys}
-use Rattle.core_model.specs.Lookups.{leases, moment, reads_of, with_reads, ask_at}
+use Rattle.core_model.specs.Lookups.{leases, moment, reads_of, with_reads, is_known}
 use Rattle.core_model.specs.Refusals.{refusal_of}
 use Rattle.core_model.specs.State.{Core}
 use Rattle.core_model.specs.Stepped.{Stepped, gives, faults, replies}
 use Rattle.core_model.specs.Verdicts.{reply_of}
+use Rattle.core_model.specs.Watching.{watch_is_asked}
 
 abbrev pub asked_at : ℕ → ℕ → Request → ℕ → Asked
 asked_at now ticket q word =
@@ -105,8 +106,13 @@ leased_ask m a c =
 abbrev pub taken_in : Moment → Asked → Core → Stepped
 taken_in m a c = if leases c then leased_ask m a c else call_is_asked a c
 
+-- a watch is no request in the sense of these
+abbrev pub request_asked : Request → Moment → Asked → Core → Stepped
+request_asked (request.Watch ask) m a c = watch_is_asked a.ticket ask c
+request_asked _ m a c = taken_in m a c
+
 abbrev pub refused_or_taken : Option Refusal → Moment → Asked → Core → Stepped
-refused_or_taken None m a c = taken_in m a c
+refused_or_taken None m a c = request_asked a.request m a c
 refused_or_taken (Some r) m a c = replies c (Refused r)
 
 abbrev pub if_unknown : Bool → ℕ → Core → Stepped → Stepped
@@ -114,4 +120,4 @@ if_unknown known ticket c s = if known then faults c (fault.TicketUsed ticket) e
 
 unfoldable pub on_ask : ℕ → ℕ → Request → ℕ → Core → Stepped
 on_ask now ticket q word c =
-    if_unknown (is_some (ask_at ticket c.asks)) ticket c (refused_or_taken (refusal_of c.own.waits.prefix q) (moment c now) (asked_at now ticket q word) c)
+    if_unknown (is_known ticket c) ticket c (refused_or_taken (refusal_of c.own.waits.prefix q) (moment c now) (asked_at now ticket q word) c)

@@ -38,7 +38,7 @@ writes_go_on c = record c { own = proceeded c.own }
 
 -- what becomes due is due since this step
 abbrev pub begun : Core → Core
-begun c = record c { own = step_begun c.steps c.own }
+begun c = record c { own = step_begun c.steps c.own; watches = record c.watches { step = c.steps } }
 
 unfoldable pub clock_work : ℕ → Core → Core
 clock_work now c = writes_go_on (requests_timed_out now (deadline_passed now (begun c)))

@@ -1,11 +1,11 @@
 -- The order of due jobs: the session's call comes first, then rescinds by key. The others come in the order of the steps in which
--- they became due; of one step, calls that ask owners by key, the calls of requests by ticket, and openings by stream.
+-- they became due; of one step, calls that ask owners by key, the calls of requests by ticket, closings and then openings by stream.
 use Rattle.std.specs.Prelude.{ℕ, Bool, true, false, if◌then◌else◌, List, [], ◌∷◌, ◌++◌, Option, None, Some, is_some}
 use Rattle.std.specs.List.{flat_map}
 use Rattle.etcd_types.specs.declared.request.Request.{Request}
 use Rattle.etcd_types.specs.declared.request.Request.TheVariants as request
 use Rattle.proxy_model.specs.Session.{Session}
-use Rattle.wait_model.specs.declared.due.JobKind.TheVariants.{Call, Open}
+use Rattle.wait_model.specs.declared.due.JobKind.TheVariants.{Call, Close, Open}
 use Rattle.wait_model.specs.declared.due.Place.{Place}
 use Rattle.wait_model.specs.declared.sending.Sending.{Sending}
 use Rattle.wait_model.specs.declared.sending.Sending.TheVariants as sending
@@ -15,6 +15,9 @@ use Rattle.read_model.specs.declared.acquire.Acquire.{Acquire}
 use Rattle.read_model.specs.declared.asked.Asked.{Asked}
 use Rattle.read_model.specs.declared.asked.Stage.{Stage}
 use Rattle.read_model.specs.declared.asked.Stage.TheVariants as stage
+use Rattle.watch_model.specs.declared.stream.StreamPhase.{StreamPhase}
+use Rattle.watch_model.specs.declared.stream.StreamPhase.TheVariants as phase
+use Rattle.watch_model.specs.State.{Stream}
 use Rattle.core_model.specs.State.{Seat, Opening, Core}
 
 pub data DueJob : Type 0 where
@@ -27,6 +30,8 @@ pub data DueJob : Type 0 where
   -- the keepalives of this lease, for the one of least ticket
   ForGroup : ℕ → ℕ → DueJob
   ToOpen : Opening → DueJob
+  -- of a client stream: its opening or its closing
+  ForStream : Stream → DueJob
 
 pub record Placed : Type 0 where
   pub place : Place
@@ -68,9 +73,17 @@ abbrev pub due_opening : Option Opening → List Placed
 due_opening None = []
 due_opening (Some o) = due_at o o.due
 
+abbrev pub due_phase : Stream → StreamPhase → List Placed
+due_phase s (phase.Due since) = placed (place_at since Open s.number) (ForStream s) ∷ []
+due_phase s (phase.Closing since) = placed (place_at since Close s.number) (ForStream s) ∷ []
+due_phase s phase.Begun = []
+
+abbrev pub due_stream : Stream → List Placed
+due_stream s = due_phase s s.phase
+
 abbrev pub due_jobs : Core → List Placed
 due_jobs c =
-    due_writes (first_place c.own.waits.writes) ++ flat_map due_acquire c.acquires ++ flat_map due_ask c.asks ++ due_opening c.leasing
+    due_writes (first_place c.own.waits.writes) ++ flat_map due_acquire c.acquires ++ flat_map due_ask c.asks ++ due_opening c.leasing ++ flat_map due_stream c.watches.streams
 
 -- The first one.
 

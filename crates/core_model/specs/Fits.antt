@@ -15,6 +15,7 @@ use Rattle.wait_model.specs.declared.write.Write.{Write}
 use Rattle.wait_model.specs.declared.write.WriteStage.{WriteStage}
 use Rattle.wait_model.specs.declared.write.WriteStage.TheVariants.{Waiting, Sends, Finds}
 use Rattle.wait_model.specs.Fits.{IsSettled, are_proper}
+use Rattle.wait_model.specs.Stages.{is_found_over}
 use Rattle.read_model.specs.declared.acquire.Acquire.{Acquire}
 use Rattle.read_model.specs.declared.asked.Asked.{Asked}
 use Rattle.read_model.specs.declared.asked.Stage.{Stage}
@@ -28,8 +29,9 @@ use Rattle.core_model.specs.DueJobs.{lease_of}
 use Rattle.core_model.specs.Groups.{is_group_of, is_out_for}
 use Rattle.core_model.specs.Lookups.{reads_of}
 use Rattle.core_model.specs.Kinds.{has_some}
-use Rattle.core_model.specs.State.{Seat, Core}
-use Rattle.core_model.specs.WaitsFor.{NoneIsIdle}
+use Rattle.watch_model.specs.Lookups.{InOrder, stream_at}
+use Rattle.watch_model.specs.State.{Stream}
+use Rattle.core_model.specs.State.{Seat, Opening, Core}
 
 -- The session.
 
@@ -121,8 +123,9 @@ wait_numbers c = map (λ o. o.call) (filter (λ o. is_wait o.job) c.out)
 
 -- Requests and writes.
 
+-- of requests and watches
 abbrev pub tickets : Core → List ℕ
-tickets c = map (λ a. a.ticket) c.asks
+tickets c = map (λ a. a.ticket) c.asks ++ map (λ w. w.ticket) c.watches.watches
 
 abbrev pub writing_tickets : Core → List ℕ
 writing_tickets c = map (λ a. a.ticket) (filter (λ a. is_writes a.stage) c.asks)
@@ -133,6 +136,10 @@ write_tickets c = map (λ w. w.ticket) c.own.waits.writes
 abbrev pub HaveRanges : List Write → Type 0
 HaveRanges [] = Unit {0}
 HaveRanges (w ∷ ws) = (w.ranges ≡ written_ranges w.request) × HaveRanges ws
+
+-- it doesn't wait for owners that are all gone
+abbrev pub goes_on : Write → Bool
+goes_on w = not (is_found_over w.stage)
 
 -- an acquire that is due is for a read that waits for it
 abbrev pub is_awaited : List Asked → List ℕ × Acquire → Bool
@@ -156,11 +163,18 @@ group_stands out lease _ = true
 abbrev pub groups_stand : Core → Bool
 groups_stand c = list_all (λ a. group_stands c.out (lease_of a.request) a.stage) c.asks
 
+-- The leasing stream's number was given, and no client stream has it.
+
+abbrev pub is_numbered : Option Opening → ℕ → List Stream → Bool
+is_numbered None given streams = true
+is_numbered (Some o) given streams = nat_le o.number given && not (is_some (stream_at o.number streams))
+
 pub record CoreOk (c : Core) : Type 0 where
   -- what is kept by key, and the reads, fit one another; without a session nothing is owned
   pub reads : ReadsOk (is_standing c.seat) (reads_of c)
-  -- each waiting write has a cause
+  -- each waiting write has a cause, and none waits for owners that are gone
   pub settled : IsSettled c.own
+  pub unfinished : list_all goes_on c.own.waits.writes ≡ true
   pub proper : are_proper c.own.waits.writes ≡ true
   pub ranges : HaveRanges c.own.waits.writes
   pub seated : is_seated c.seat ≡ true
@@ -181,7 +195,6 @@ pub record CoreOk (c : Core) : Type 0 where
   pub entries_sorted : is_in_order c.own.entries ≡ true
   pub acquires_sorted : is_in_order c.acquires ≡ true
   pub given_steps : nat_le c.calls c.steps ≡ true
-
--- a proxy at its start is so, and each step keeps it
-abbrev pub IdleAfter : Core → Type 0
-IdleAfter c = CoreOk c → NoneIsIdle c
+  -- streams by rising numbers and watches by rising tickets; the leasing stream has a number of its own
+  pub watches : InOrder c.watches.given c.watches.streams c.watches.watches
+  pub numbered : is_numbered c.leasing c.watches.given c.watches.streams ≡ true

@@ -25,7 +25,7 @@ opening_of number step stream = record { number = number; due = Some step; strea
 -- due, under the next number
 abbrev pub due_anew : Upstream → Core → Core
 due_anew stream c =
-    record c { leasing = Some (opening_of (c.streams + 1) c.own.waits.step stream); streams = c.streams + 1 }
+    record c { leasing = Some (opening_of (c.watches.given + 1) c.own.waits.step stream); watches = record c.watches { given = c.watches.given + 1 } }
 
 abbrev pub leasing_ticked : Option Opening → Core → Core
 leasing_ticked None c = due_anew (opened (leasing_range c.own.waits.prefix) 0) c

@@ -9,6 +9,7 @@ pub mod Sessions
 pub mod LeasingStream
 pub mod ClockWork
 pub mod Stepped
+pub mod Watching
 pub mod Asking
 pub mod Ends
 pub mod DueJobs

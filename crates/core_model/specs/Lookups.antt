@@ -1,5 +1,5 @@
 -- Looking things up in the state of a proxy, and putting its parts back.
-use Rattle.std.specs.Prelude.{ℕ, Bool, true, false, not, ◌==◌, if◌then◌else◌, List, [], ◌∷◌, filter, Option, None, Some}
+use Rattle.std.specs.Prelude.{ℕ, Bool, true, false, not, ◌==◌, ◌||◌, if◌then◌else◌, List, [], ◌∷◌, filter, Option, None, Some, is_some}
 use Rattle.etcd_types.specs.declared.record.Header.{Header}
 use Rattle.etcd_types.specs.Keys.{is_empty}
 use Rattle.proxy_model.specs.Session.{is_live}
@@ -9,6 +9,7 @@ use Rattle.read_model.specs.declared.asked.Asked.{Asked}
 use Rattle.read_model.specs.declared.asked.Stage.{Stage}
 use Rattle.read_model.specs.declared.asked.Stage.TheVariants as stage
 use Rattle.read_model.specs.State.{Reads, Moment}
+use Rattle.watch_model.specs.Lookups.{watch_at}
 use Rattle.core_model.specs.declared.out_call.OutCall.{OutCall}
 use Rattle.core_model.specs.State.{Seat, Opening, Core}
 
@@ -53,6 +54,10 @@ ask_at ticket (a ∷ rest) = if has_ticket ticket a then Some a else ask_at tick
 
 abbrev pub without_ask : ℕ → List Asked → List Asked
 without_ask ticket asks = filter (λ a. not (has_ticket ticket a)) asks
+
+-- of a request that was asked and whose reply wasn't taken, or of a watch
+abbrev pub is_known : ℕ → Core → Bool
+is_known ticket c = is_some (ask_at ticket c.asks) || is_some (watch_at ticket c.watches.watches)
 
 abbrev pub is_out_as : ℕ → Sending → Bool
 is_out_as call (sending.Due since) = false

@@ -21,7 +21,7 @@ use Rattle.core_model.specs.declared.event.Outcome.TheVariants as outcome
 use Rattle.core_model.specs.declared.out_call.OutCall.{OutCall}
 use Rattle.core_model.specs.declared.out_call.OutJob.{OutJob}
 use Rattle.core_model.specs.declared.out_call.OutJob.TheVariants as job
-use Rattle.core_model.specs.DueJobs.{DueJob, ForSession, ForWrites, ForAcquire, ForAsk, ForGroup, ToOpen, first_job}
+use Rattle.core_model.specs.DueJobs.{DueJob, ForSession, ForWrites, ForAcquire, ForAsk, ForGroup, ToOpen, ForStream, first_job}
 use Rattle.core_model.specs.Groups.{group_sent}
 use Rattle.core_model.specs.Kinds.{kind_of}
 use Rattle.core_model.specs.LeasingStream.{watch_of, opening_sent}
@@ -29,6 +29,7 @@ use Rattle.core_model.specs.Lookups.{reads_of, with_reads, has_ticket}
 use Rattle.core_model.specs.Sessions.{session_request}
 use Rattle.core_model.specs.State.{Seat, Opening, Core}
 use Rattle.core_model.specs.Stepped.{Stepped, gives}
+use Rattle.core_model.specs.Watching.{stream_sent}
 
 abbrev pub next_call : Core → ℕ
 next_call c = c.calls + 1
@@ -96,6 +97,7 @@ sent_by now (Some (ForAcquire k x)) c = acquires_sent now k x c
 sent_by now (Some (ForAsk a)) c = ask_sent now a c
 sent_by now (Some (ForGroup lease ticket)) c = keeps_sent now lease ticket c
 sent_by now (Some (ToOpen o)) c = stream_opened o c
+sent_by now (Some (ForStream s)) c = stream_sent s c
 
 unfoldable pub on_work : ℕ → Core → Stepped
 on_work now c = sent_by now (first_job c) c

@@ -15,6 +15,9 @@ use Rattle.core_model.specs.Sessions.{seat_ticked}
 use Rattle.core_model.specs.State.{Opening, Core}
 use Rattle.core_model.specs.Stepped.{Stepped, faults, noted, counted}
 use Rattle.core_model.specs.Takes.{on_take, on_leave}
+use Rattle.core_model.specs.Watching.{stream_item, stream_cut}
+use Rattle.watch_model.specs.Lookups.{stream_at}
+use Rattle.watch_model.specs.State.{Stream}
 
 -- A tick: a session and a leasing stream where there is none, and a keepalive in time.
 
@@ -25,28 +28,36 @@ ticked now word c =
 unfoldable pub on_tick : ℕ → ℕ → Core → Stepped
 on_tick now word c = noted (if leases c then ticked now word c else c)
 
--- The leasing stream is the one whose number it has.
+-- A stream is the one that has this number now: the leasing stream, or a client stream.
 
 abbrev pub if_number : ℕ → Opening → Option Opening
 if_number number o = if o.number == number then Some o else None
 
-abbrev pub stream_at : ℕ → Option Opening → Option Opening
-stream_at number None = None
-stream_at number (Some o) = if_number number o
+abbrev pub opening_at : ℕ → Option Opening → Option Opening
+opening_at number None = None
+opening_at number (Some o) = if_number number o
+
+abbrev pub client_item : ℕ → WatchItem → Option Stream → Core → Stepped
+client_item number x None c = faults c (fault.NoSuchStream number)
+client_item number x (Some s) c = noted (writes_go_on (stream_item s x c))
 
 abbrev pub item_of : ℕ → ℕ → WatchItem → Option Opening → Core → Stepped
-item_of now number x None c = faults c (fault.NoSuchStream number)
+item_of now number x None c = client_item number x (stream_at number c.watches.streams) c
 item_of now number x (Some o) c = noted (writes_go_on (leasing_item now o x c))
 
 unfoldable pub on_item : ℕ → ℕ → WatchItem → Core → Stepped
-on_item now number x c = item_of now number x (stream_at number c.leasing) c
+on_item now number x c = item_of now number x (opening_at number c.leasing) c
+
+abbrev pub client_cut : ℕ → Option Stream → Core → Stepped
+client_cut number None c = faults c (fault.NoSuchStream number)
+client_cut number (Some s) c = noted (stream_cut s c)
 
 abbrev pub cut_of : ℕ → Option Opening → Core → Stepped
-cut_of number None c = faults c (fault.NoSuchStream number)
+cut_of number None c = client_cut number (stream_at number c.watches.streams) c
 cut_of number (Some o) c = noted (leasing_cut o c)
 
 unfoldable pub on_cut : ℕ → Core → Stepped
-on_cut number c = cut_of number (stream_at number c.leasing) c
+on_cut number c = cut_of number (opening_at number c.leasing) c
 
 abbrev pub happened : ℕ → CoreEvent → Core → Stepped
 happened now (event.Ask ticket q word) c = on_ask now ticket q word c
@@ -65,7 +76,7 @@ abbrev pub last_number : ℕ
 last_number = 2 ^ 62
 
 abbrev pub is_worn : Core → Bool
-is_worn c = nat_le last_number c.steps || nat_le last_number c.streams
+is_worn c = nat_le last_number c.steps || nat_le last_number c.watches.given
 
 unfoldable pub stepped : Core → CoreEvent → ℕ → Stepped
 stepped c event now = if is_worn c then faults c fault.Worn else counted (happened now event (clock_work now c))

@@ -1,4 +1,4 @@
--- A client takes its reply, or leaves. After either its ticket is unknown; a client that leaves is as one that timed out, but that
+-- A client takes its reply or the next message of its watch, or leaves. After either its ticket is unknown; a client that leaves is as one that timed out, but that
 -- there is no reply.
 use Rattle.std.specs.Prelude.{ℕ, nat_le, if◌then◌else◌, List, [], ◌∷◌, Option, None, Some}
 use Rattle.etcd_types.specs.declared.record.Kv.{Kv}
@@ -16,6 +16,9 @@ use Rattle.core_model.specs.Lookups.{live_number, moment, reads_of, with_reads, 
 use Rattle.core_model.specs.State.{Core}
 use Rattle.core_model.specs.Stepped.{Stepped, gives, faults, noted, replies}
 use Rattle.core_model.specs.Verdicts.{reply_of}
+use Rattle.core_model.specs.Watching.{watch_taken, watch_left}
+use Rattle.watch_model.specs.Lookups.{watch_at}
+use Rattle.watch_model.specs.State.{Watch}
 
 abbrev pub gone : ℕ → Core → Core
 gone ticket c = record c { asks = without_ask ticket c.asks }
@@ -24,8 +27,12 @@ abbrev pub taken_from : ℕ → Stage → Core → Stepped
 taken_from ticket (stage.Replied v) c = replies (gone ticket c) (reply_of v)
 taken_from ticket _ c = gives c outcome.Pending
 
+abbrev pub item_taken : ℕ → Option Watch → Core → Stepped
+item_taken ticket None c = faults c (fault.NoSuchTicket ticket)
+item_taken ticket (Some w) c = watch_taken w c
+
 abbrev pub taken : ℕ → Option Asked → Core → Stepped
-taken ticket None c = faults c (fault.NoSuchTicket ticket)
+taken ticket None c = item_taken ticket (watch_at ticket c.watches.watches) c
 taken ticket (Some a) c = taken_from ticket a.stage c
 
 unfoldable pub on_take : ℕ → Core → Stepped
@@ -35,8 +42,12 @@ abbrev pub has_left : ℕ → ℕ → Core → Core
 has_left now ticket c =
     with_reads c (taken_off (moment c now) (has_ticket ticket) (without_ask ticket c.asks) (reads_of c))
 
+abbrev pub watcher_left : ℕ → Option Watch → Core → Stepped
+watcher_left ticket None c = faults c (fault.NoSuchTicket ticket)
+watcher_left ticket (Some w) c = noted (watch_left ticket c)
+
 abbrev pub left : ℕ → ℕ → Option Asked → Core → Stepped
-left now ticket None c = faults c (fault.NoSuchTicket ticket)
+left now ticket None c = watcher_left ticket (watch_at ticket c.watches.watches) c
 left now ticket (Some a) c = noted (writes_go_on (has_left now ticket c))
 
 unfoldable pub on_leave : ℕ → ℕ → Core → Stepped

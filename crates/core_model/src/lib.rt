@@ -1,4 +1,5 @@
-//! The whole machine of one proxy, as definitions: what it keeps, and what comes to it and from it. Client watches aren't in it yet.
+//! The whole machine of one proxy, as definitions: what it keeps, what comes to it and from it, and its step. Each rule stands in a
+//! file of `specs/` of its own; those on writes, reads and client watches stand in crates below.
 //!
 //! The types that the definitions speak of are declared here, and given on by the crates that work with them.
 #![tactic(auto)]

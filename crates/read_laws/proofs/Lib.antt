@@ -1,3 +1,5 @@
 pub mod Grounds
 pub mod Releases
+pub mod Owned
+pub mod Kept
 pub mod Waiting

@@ -2,6 +2,7 @@
 //! acquired is acquired.
 #![tactic(auto)]
 
+ghost use Rattle.read_laws.specs.Kept.{GoingOnKeeps, AsksKeep, SendingKeeps, NoticesKeep, AnswersKeep, LossesKeep, SessionEndKeeps, AcquiresKeep, AcquireLossesKeep, TakingOffKeeps};
 ghost use Rattle.read_laws.specs.Laws.{ReleaseStands, NoReadIsIdle, HeldIsReplied, HeldIsLive, AcquirableIsAcquired};
 
 /// After a release each waiting read has what it waits for.
@@ -15,4 +16,18 @@ pub fn reads_wait()
     ensures held_is_replied { HeldIsReplied }
     ensures held_is_live { HeldIsLive }
     ensures acquirable_is_acquired { AcquirableIsAcquired }
+{}
+
+/// Each step keeps what holds of reads, acquires and entries.
+pub fn steps_keep()
+    ensures going_on { GoingOnKeeps }
+    ensures asks { AsksKeep }
+    ensures notices { NoticesKeep }
+    ensures sending { SendingKeeps }
+    ensures answers { AnswersKeep }
+    ensures losses { LossesKeep }
+    ensures session_end { SessionEndKeeps }
+    ensures acquires { AcquiresKeep }
+    ensures acquire_losses { AcquireLossesKeep }
+    ensures taking_off { TakingOffKeeps }
 {}

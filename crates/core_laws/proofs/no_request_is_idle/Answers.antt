@@ -1,0 +1,5 @@
+use Rattle.core_laws.proofs.Idle.{none_is_idle}
+use Rattle.core_laws.proofs.no_request_is_idle.Goals as goal
+
+pub returns : goal.returns
+returns c = none_is_idle
