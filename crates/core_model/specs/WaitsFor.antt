@@ -1,6 +1,6 @@
 -- What a request without a reply waits for, read off the state: a call that names it, an acquire or an owner write of its key, what
 -- holds its write back, an owner that was asked and whose deletion isn't told yet, an earlier write, or a keepalive that is out.
-use Rattle.std.specs.Prelude.{◌≡◌, ◌⊎◌, ℕ, Bool, true, false, List, [], ◌∷◌, ◌++◌, Option, None, Some, is_some}
+use Rattle.std.specs.Prelude.{◌≡◌, ◌⊎◌, ℕ, Bool, true, false, not, List, [], ◌∷◌, ◌++◌, Option, None, Some, is_some}
 use Rattle.std.specs.List.{list_any, list_all}
 use Rattle.proxy_model.specs.Keyed.{at}
 use Rattle.wait_model.specs.declared.sending.Sending.{Sending}
@@ -19,6 +19,12 @@ use Rattle.read_model.specs.declared.asked.Stage.TheVariants as stage
 use Rattle.read_model.specs.PlainRead.{ask_key}
 use Rattle.core_model.specs.DueJobs.{lease_of}
 use Rattle.core_model.specs.Groups.{is_out_for}
+use Rattle.etcd_types.specs.declared.watch.WatchItem.{WatchItem}
+use Rattle.watch_model.specs.declared.place.WatchPlace.{WatchPlace}
+use Rattle.watch_model.specs.declared.place.WatchPlace.TheVariants as place
+use Rattle.watch_model.specs.Lookups.{stream_at, is_closing}
+use Rattle.watch_model.specs.Queues.{is_nil}
+use Rattle.watch_model.specs.State.{Stream, Watch}
 use Rattle.core_model.specs.State.{Core}
 
 -- A write that waits.
@@ -89,3 +95,21 @@ AllWaitFor c (a ∷ rest) = WaitsFor c a × AllWaitFor c rest
 -- no request waits for nothing
 abbrev pub NoneIsIdle : Core → Type 0
 NoneIsIdle c = AllWaitFor c c.asks
+
+-- A watch that wasn't cancelled: its stream, which is to be opened, is being opened or stands; or, split off, that its queue is taken.
+
+abbrev pub is_kept : Option Stream → Bool
+is_kept None = false
+is_kept (Some s) = not (is_closing s.phase)
+
+abbrev pub WatchWaits : List Stream → WatchPlace → List WatchItem → Type 0
+WatchWaits streams (place.In number) queue = is_kept (stream_at number streams) ≡ true
+WatchWaits streams place.Split queue = is_nil queue ≡ false
+WatchWaits streams place.Ended queue = Unit {0}
+
+abbrev pub AllWatchesWait : List Stream → List Watch → Type 0
+AllWatchesWait streams [] = Unit {0}
+AllWatchesWait streams (w ∷ ws) = WatchWaits streams w.place w.queue × AllWatchesWait streams ws
+
+abbrev pub NoWatchIsIdle : Core → Type 0
+NoWatchIsIdle c = AllWatchesWait c.watches.streams c.watches.watches
