@@ -14,12 +14,17 @@ use Rattle.core_model.specs.Asking.{on_ask, is_leased_read}
 use Rattle.core_model.specs.Fits.{CoreOk}
 use Rattle.core_model.specs.Lookups.{is_known, leases, moment}
 use Rattle.core_model.specs.Refusals.{refusal_of}
-use Rattle.core_model.specs.State.{Core}
+use Rattle.core_model.specs.declared.settings.Settings.{Settings}
+use Rattle.core_model.specs.State.{Core, first_core}
 use Rattle.core_model.specs.Stepped.{replies}
 use Rattle.core_model.specs.WaitsFor.{NoneIsIdle}
 
 abbrev pub NoRequestIsIdle : Type 0
 NoRequestIsIdle = (c : Core) → CoreOk c → NoneIsIdle c
+
+-- all that is to hold of a proxy holds at its start
+abbrev pub StartFits : Type 0
+StartFits = (settings : Settings) → CoreOk (first_core settings)
 
 -- With leasing on, a plain read outside the leasing range, which isn't refused and whose ticket is new.
 pub record IsLeasedRead (c : Core) (ticket : ℕ) (ask : RangeAsk) : Type 0 where

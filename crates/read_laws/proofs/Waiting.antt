@@ -4,6 +4,7 @@ use Rattle.std.specs.List.{list_all}
 use Rattle.etcd_types.proofs.KeyOrder.{same-itself}
 use Rattle.proxy_model.specs.declared.lease.Entry.{Entry}
 use Rattle.proxy_model.specs.declared.lease.Phase.{Phase}
+use Rattle.proxy_model.specs.declared.lease.Phase.TheVariants.{Held}
 use Rattle.etcd_types.proofs.Bools.{and_first, and_second}
 use Rattle.proxy_model.proofs.KeyedLaws.{at-with_at}
 use Rattle.proxy_model.specs.Keyed.{at}
@@ -63,9 +64,13 @@ no_read_is_idle standing r h = causes standing (ground_of r) h.ground r.asks h.a
 pub asked_by : (m : Moment) (a : Asked) (r : Reads) (d : Decision) → decision m (ground_of r) (ask_key a) ≡ d → read_asked m a r ≡ on (begun_under a.ticket (ask_key a) d.under (ground_of r)) (r.asks ++ in_stage d.stage a ∷ [])
 asked_by m a r d q = ap (λ (x : Decision). on (begun_under a.ticket (ask_key a) x.under (ground_of r)) (r.asks ++ in_stage x.stage a ∷ [])) q
 
+pub held_decision : (m : Moment) (g : Ground) (k : List ℕ) (e : Entry) → at g.own.entries k ≡ Some e → e.phase ≡ Held → decision m g k ≡ stay (shown m.header e.kv)
+held_decision m g k e q p =
+    ap (λ (o : Option Entry). read_turn m.header g.own.waits.step o (is_some (at g.acquires k)) (acquirable m g.own k)) q
+    ∙ ap (λ (x : Phase). stay (held_turn m.header g.own.waits.step e.kv x)) p
+
 pub held_is_replied : HeldIsReplied
-held_is_replied m a r e q p =
-    asked_by m a r (stay (shown m.header e.kv)) (ap (λ (o : Option Entry). read_turn m.header r.own.waits.step o (is_some (at r.acquires (ask_key a))) (acquirable m r.own (ask_key a))) q ∙ ap (λ (x : Phase). stay (held_turn m.header r.own.waits.step e.kv x)) p)
+held_is_replied m a r e q p = asked_by m a r (stay (shown m.header e.kv)) (held_decision m (ground_of r) (ask_key a) e q p)
 
 pub held_is_live : HeldIsLive
 held_is_live standing r k e h q p = by_standing standing refl
@@ -74,14 +79,17 @@ held_is_live standing r k e h q p = by_standing standing refl
     by_standing true s = refl
     by_standing false s = absurd (let t = sym (ap is_owned q ∙ ap (λ (x : Phase). is_held_phase x || is_writing_phase x) p) ∙ h.ground.owned s k in cc)
 
+pub free_decision : (m : Moment) (g : Ground) (k : List ℕ) (n : ℕ) → at g.own.entries k ≡ None → at g.acquires k ≡ None → acquirable m g.own k ≡ Some n → decision m g k ≡ record { stage = stage.Acquiring; under = Some n }
+free_decision m g k n e c u =
+    ap (λ (o : Option Entry). read_turn m.header g.own.waits.step o (is_some (at g.acquires k)) (acquirable m g.own k)) e
+    ∙ ap (λ (o : Option Acquire). read_turn m.header g.own.waits.step None (is_some o) (acquirable m g.own k)) c
+    ∙ ap (λ (o : Option ℕ). read_turn m.header g.own.waits.step None false o) u
+
 pub acquirable_is_acquired : AcquirableIsAcquired
 acquirable_is_acquired m a r n e c u =
     let k = ask_key a in
     let d : Decision = record { stage = stage.Acquiring; under = Some n } in
-    let q : decision m (ground_of r) k ≡ d =
-    ap (λ (o : Option Entry). read_turn m.header r.own.waits.step o (is_some (at r.acquires k)) (acquirable m r.own k)) e
-    ∙ ap (λ (o : Option Acquire). read_turn m.header r.own.waits.step None (is_some o) (acquirable m r.own k)) c
-    ∙ ap (λ (o : Option ℕ). read_turn m.header r.own.waits.step None false o) u in
+    let q = free_decision m (ground_of r) k n e c u in
     let x : Acquire = record { ticket = a.ticket; session = n; sending = sending.Due r.own.waits.step } in
     record {
       claim = ap (λ (s : Reads). at s.acquires k) (asked_by m a r d q) ∙ at-with_at r.acquires k k (Some x) ∙ ap (λ b. cond b (Some x) (at r.acquires k)) (same-itself k);

@@ -3,6 +3,7 @@
 #![tactic(auto)]
 
 ghost use Rattle.read_laws.specs.Kept.{GoingOnKeeps, AsksKeep, SendingKeeps, NoticesKeep, AnswersKeep, LossesKeep, SessionEndKeeps, AcquiresKeep, AcquireLossesKeep, TakingOffKeeps};
+ghost use Rattle.read_laws.specs.InPlace.{PlainInPlace, AgainInPlace, AnswersInPlace, WinsInPlace};
 ghost use Rattle.read_laws.specs.Laws.{ReleaseStands, NoReadIsIdle, HeldIsReplied, HeldIsLive, AcquirableIsAcquired};
 
 /// After a release each waiting read has what it waits for.
@@ -30,4 +31,12 @@ pub fn steps_keep()
     ensures acquires { AcquiresKeep }
     ensures acquire_losses { AcquireLossesKeep }
     ensures taking_off { TakingOffKeeps }
+{}
+
+/// Reads that are decided again make no acquire, so a release is one change of each in its place.
+pub fn released_in_place()
+    ensures plain { PlainInPlace }
+    ensures again { AgainInPlace }
+    ensures answers { AnswersInPlace }
+    ensures wins { WinsInPlace }
 {}
