@@ -64,7 +64,7 @@ is_readable stream events = not (stream.next == 0 || not (is_batch stream.range 
 abbrev pub leasing_told : ℕ → Opening → Header → List Event → Core → Core
 leasing_told now o h events c =
     if is_readable o.stream events then
-      record (stream_is o (advance o.stream (told_revision h events)) c) { own = all_noticed (live_number c.seat now) events c.own }
+    record (stream_is o (advance o.stream (told_revision h events)) c) { own = all_noticed (live_number c.seat now) events c.own }
     else leasing_cut o c
 
 abbrev pub leasing_message : ℕ → Opening → WatchItem → Core → Core

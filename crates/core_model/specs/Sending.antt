@@ -42,8 +42,8 @@ out_call now j c =
 abbrev pub goes_out : ℕ → OutJob → ℕ → Request → Core → Core → Stepped
 goes_out now j ticket q c d =
     gives
-      (record d { calls = next_call c; out = c.out ++ out_call now j c ∷ [] })
-      (outcome.Job (Some (sent.Call (next_call c) c.members.current ticket (request_under c.settings.namespace q))))
+    (record d { calls = next_call c; out = c.out ++ out_call now j c ∷ [] })
+    (outcome.Job (Some (sent.Call (next_call c) c.members.current ticket (request_under c.settings.namespace q))))
 
 -- The session's call.
 
@@ -86,8 +86,8 @@ keeps_sent now lease ticket c =
 abbrev pub stream_opened : Opening → Core → Stepped
 stream_opened o c =
     gives
-      (record c { leasing = Some (opening_sent o) })
-      (outcome.Job (Some (sent.Begin o.number c.members.current (request_under c.settings.namespace (watch_of o.stream)))))
+    (record c { leasing = Some (opening_sent o) })
+    (outcome.Job (Some (sent.Begin o.number c.members.current (request_under c.settings.namespace (watch_of o.stream)))))
 
 abbrev pub sent_by : ℕ → Option DueJob → Core → Stepped
 sent_by now None c = gives c (outcome.Job None)

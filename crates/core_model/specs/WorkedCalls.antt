@@ -33,13 +33,13 @@ put_at k lease = request.Put (record { key = k; value = codes "x"; lease = lease
 abbrev pub AreRefused : Type 0
 AreRefused =
     outcomes
-      leasing_proxy
-      (asks 1 (put_at (codes "L/a") (2 ^ 62))
-      ∷ asks 2 (request.Range (range_ask (only [])))
-      ∷ asks 3 (request.Put (record { key = codes "a"; value = codes "x"; lease = 0; prev_kv = false; ignore_lease = true }))
-      ∷ asks 4 (request.Revoke (2 ^ 62))
-      ∷ asks 5 (put_at (codes "L/a") 0)
-      ∷ [])
+    leasing_proxy
+    (asks 1 (put_at (codes "L/a") (2 ^ 62))
+    ∷ asks 2 (request.Range (range_ask (only [])))
+    ∷ asks 3 (request.Put (record { key = codes "a"; value = codes "x"; lease = 0; prev_kv = false; ignore_lease = true }))
+    ∷ asks 4 (request.Revoke (2 ^ 62))
+    ∷ asks 5 (put_at (codes "L/a") 0)
+    ∷ [])
     ≡ replies (answer.Refused reserved_range)
     ∷ replies (answer.Refused key_not_provided)
     ∷ replies (answer.Refused (unsupported IgnoreLease))
@@ -63,13 +63,13 @@ stale_from call rest = works ∷ answers call 1 none_there ∷ rest
 abbrev pub StaleIsRefused : Type 0
 StaleIsRefused =
     outcomes
-      plain_proxy
-      (asks 1 (put_a (codes "x"))
-      ∷ works
-      ∷ answers 1 2 (body.Put None)
-      ∷ takes 1
-      ∷ asks 2 read_anyhow
-      ∷ stale_from 2 (stale_from 3 (stale_from 4 (stale_from 5 (stale_from 6 (takes 2 ∷ []))))))
+    plain_proxy
+    (asks 1 (put_a (codes "x"))
+    ∷ works
+    ∷ answers 1 2 (body.Put None)
+    ∷ takes 1
+    ∷ asks 2 read_anyhow
+    ∷ stale_from 2 (stale_from 3 (stale_from 4 (stale_from 5 (stale_from 6 (takes 2 ∷ []))))))
     ≡ waits
     ∷ sends 1 1 (put_a (codes "x"))
     ∷ notes
@@ -110,15 +110,15 @@ LostPutIsLost =
 abbrev pub LateAnswerIsNothing : Type 0
 LateAnswerIsNothing =
     outcomes
-      plain_proxy
-      (asks 1 (put_a (codes "x"))
-      ∷ works
-      ∷ takes_at 5000 1
-      ∷ (record { now = 5000; event = event.Ask 1 get_a 3 })
-      ∷ (record { now = 5000; event = event.Work })
-      ∷ answers_at 5000 1 2 (body.Put None)
-      ∷ takes_at 5000 1
-      ∷ [])
+    plain_proxy
+    (asks 1 (put_a (codes "x"))
+    ∷ works
+    ∷ takes_at 5000 1
+    ∷ (record { now = 5000; event = event.Ask 1 get_a 3 })
+    ∷ (record { now = 5000; event = event.Work })
+    ∷ answers_at 5000 1 2 (body.Put None)
+    ∷ takes_at 5000 1
+    ∷ [])
     ≡ waits
     ∷ sends 1 1 (put_a (codes "x"))
     ∷ replies (answer.Refused timed_out)
@@ -140,8 +140,8 @@ kept = done 1 (body.KeepAlive 7 30)
 abbrev pub KeepalivesShare : Type 0
 KeepalivesShare =
     outcomes
-      plain_proxy
-      (asks 2 keep ∷ asks 3 keep ∷ works ∷ asks 4 keep ∷ works ∷ answers 1 1 (body.KeepAlive 7 30) ∷ takes 2 ∷ takes 3 ∷ takes 4 ∷ works ∷ [])
+    plain_proxy
+    (asks 2 keep ∷ asks 3 keep ∷ works ∷ asks 4 keep ∷ works ∷ answers 1 1 (body.KeepAlive 7 30) ∷ takes 2 ∷ takes 3 ∷ takes 4 ∷ works ∷ [])
     ≡ waits
     ∷ waits
     ∷ sends 1 2 keep
@@ -191,17 +191,17 @@ OthersArePassedOn =
 abbrev pub NumbersAreUnknown : Type 0
 NumbersAreUnknown =
     outcomes
-      plain_proxy
-      (asks 1 get_a
-      ∷ asks 1 get_a
-      ∷ takes 2
-      ∷ at_first (event.Leave 2)
-      ∷ loses 1
-      ∷ answers 1 1 none_there
-      ∷ at_first (event.Cut 1)
-      ∷ at_first (event.Leave 1)
-      ∷ takes 1
-      ∷ [])
+    plain_proxy
+    (asks 1 get_a
+    ∷ asks 1 get_a
+    ∷ takes 2
+    ∷ at_first (event.Leave 2)
+    ∷ loses 1
+    ∷ answers 1 1 none_there
+    ∷ at_first (event.Cut 1)
+    ∷ at_first (event.Leave 1)
+    ∷ takes 1
+    ∷ [])
     ≡ waits
     ∷ Err (fault.TicketUsed 1)
     ∷ Err (fault.NoSuchTicket 2)

@@ -18,17 +18,17 @@ SecondIsCached =
 abbrev pub OwnerWrites : Type 0
 OwnerWrites =
     outcomes
-      holding_core
-      (asks 3 (put_a (codes "x"))
-      ∷ works
-      ∷ answers 3 3 put_done
-      ∷ takes 3
-      ∷ asks 4 (put_a (codes "y"))
-      ∷ works
-      ∷ answers 4 4 put_done
-      ∷ takes 4
-      ∷ asks 5 get_a
-      ∷ [])
+    holding_core
+    (asks 3 (put_a (codes "x"))
+    ∷ works
+    ∷ answers 3 3 put_done
+    ∷ takes 3
+    ∷ asks 4 (put_a (codes "y"))
+    ∷ works
+    ∷ answers 4 4 put_done
+    ∷ takes 4
+    ∷ asks 5 get_a
+    ∷ [])
     ≡ waits
     ∷ sends 3 3 (guarded_put (codes "x") 2)
     ∷ notes
@@ -44,8 +44,8 @@ OwnerWrites =
 abbrev pub ReadWaitsForOwner : Type 0
 ReadWaitsForOwner =
     outcomes
-      holding_core
-      (asks 3 (put_a (codes "x")) ∷ asks 4 get_a ∷ works ∷ answers 3 3 put_done ∷ takes 4 ∷ takes 3 ∷ works ∷ [])
+    holding_core
+    (asks 3 (put_a (codes "x")) ∷ asks 4 get_a ∷ works ∷ answers 3 3 put_done ∷ takes 4 ∷ takes 3 ∷ works ∷ [])
     ≡ waits
     ∷ waits
     ∷ sends 3 3 (guarded_put (codes "x") 2)
@@ -77,18 +77,18 @@ HeldToTheDeadline =
 abbrev pub RestsBeforeAcquire : Type 0
 RestsBeforeAcquire =
     outcomes
-      holding_core
-      (asks 2 (put_a (codes "x"))
-      ∷ works
-      ∷ loses 3
-      ∷ takes 2
-      ∷ works
-      ∷ answers 4 3 rescind_done
-      ∷ asks_at 1999 3 get_a
-      ∷ works_at 1999
-      ∷ asks_at 2000 4 get_a
-      ∷ works_at 2000
-      ∷ [])
+    holding_core
+    (asks 2 (put_a (codes "x"))
+    ∷ works
+    ∷ loses 3
+    ∷ takes 2
+    ∷ works
+    ∷ answers 4 3 rescind_done
+    ∷ asks_at 1999 3 get_a
+    ∷ works_at 1999
+    ∷ asks_at 2000 4 get_a
+    ∷ works_at 2000
+    ∷ [])
     ≡ waits
     ∷ sends 3 2 (guarded_put (codes "x") 2)
     ∷ notes

@@ -26,16 +26,16 @@ keepalive = request.KeepAlive session
 abbrev pub KeepaliveRenews : Type 0
 KeepaliveRenews =
     outcomes
-      holding_core
-      (ticks_at 19999
-      ∷ works_at 19999
-      ∷ ticks_at 20000
-      ∷ works_at 20000
-      ∷ answers_at 59999 3 2 (body.KeepAlive session 60)
-      ∷ asks_at 79999 2 get_a
-      ∷ asks_at 80000 3 get_a
-      ∷ works_at 80000
-      ∷ [])
+    holding_core
+    (ticks_at 19999
+    ∷ works_at 19999
+    ∷ ticks_at 20000
+    ∷ works_at 20000
+    ∷ answers_at 59999 3 2 (body.KeepAlive session 60)
+    ∷ asks_at 79999 2 get_a
+    ∷ asks_at 80000 3 get_a
+    ∷ works_at 80000
+    ∷ [])
     ≡ notes
     ∷ Ok (outcome.Job None)
     ∷ notes
@@ -50,34 +50,34 @@ KeepaliveRenews =
 abbrev pub KeepaliveTooLate : Type 0
 KeepaliveTooLate =
     outcomes
-      holding_core
-      (ticks_at 20000
-      ∷ works_at 20000
-      ∷ answers_at 60000 3 2 (body.KeepAlive session 60)
-      ∷ asks_at 60000 2 get_a
-      ∷ works_at 60000
-      ∷ [])
+    holding_core
+    (ticks_at 20000
+    ∷ works_at 20000
+    ∷ answers_at 60000 3 2 (body.KeepAlive session 60)
+    ∷ asks_at 60000 2 get_a
+    ∷ works_at 60000
+    ∷ [])
     ≡ notes ∷ sends 3 0 keepalive ∷ notes ∷ waits ∷ sends 4 2 get_a ∷ []
 
 -- one that is answered with time to live 0 ends the session
 abbrev pub KeepaliveEnds : Type 0
 KeepaliveEnds =
     outcomes
-      holding_core
-      (ticks_at 20000
-      ∷ works_at 20000
-      ∷ answers_at 20000 3 2 (body.KeepAlive session 0)
-      ∷ asks_at 20000 2 get_a
-      ∷ works_at 20000
-      ∷ [])
+    holding_core
+    (ticks_at 20000
+    ∷ works_at 20000
+    ∷ answers_at 20000 3 2 (body.KeepAlive session 0)
+    ∷ asks_at 20000 2 get_a
+    ∷ works_at 20000
+    ∷ [])
     ≡ notes ∷ sends 3 0 keepalive ∷ notes ∷ waits ∷ sends 4 2 get_a ∷ []
 
 -- the session's lease isn't there any more when a key is acquired: its reader has a call of its own
 abbrev pub AcquireEndsSession : Type 0
 AcquireEndsSession =
     outcomes
-      opened_core
-      (asks 1 get_a ∷ works ∷ at_first (event.Answer 2 (answer.Refused lease_not_found)) ∷ works ∷ asks 2 get_a ∷ works ∷ [])
+    opened_core
+    (asks 1 get_a ∷ works ∷ at_first (event.Answer 2 (answer.Refused lease_not_found)) ∷ works ∷ asks 2 get_a ∷ works ∷ [])
     ≡ waits ∷ sends 2 1 acquire_of_a ∷ notes ∷ sends 3 1 get_a ∷ waits ∷ sends 4 2 get_a ∷ []
 
 -- at its deadline a due owner write becomes a guest write, and it keeps its place
@@ -115,17 +115,17 @@ CompactionGivesUp =
 abbrev pub AnewFrees : Type 0
 AnewFrees =
     outcomes
-      opened_core
-      (asks 1 (put_a (codes "z"))
-      ∷ works
-      ∷ answers 2 4 owned_by_other
-      ∷ works
-      ∷ answers 3 5 put_done
-      ∷ at_first (event.Item 1 (item.Canceled (head 9) 5))
-      ∷ works
-      ∷ at_first (event.Item 2 (item.Created (head 9)))
-      ∷ works
-      ∷ [])
+    opened_core
+    (asks 1 (put_a (codes "z"))
+    ∷ works
+    ∷ answers 2 4 owned_by_other
+    ∷ works
+    ∷ answers 3 5 put_done
+    ∷ at_first (event.Item 1 (item.Canceled (head 9) 5))
+    ∷ works
+    ∷ at_first (event.Item 2 (item.Created (head 9)))
+    ∷ works
+    ∷ [])
     ≡ waits
     ∷ sends 2 1 (guarded_put (codes "z") 0)
     ∷ notes

@@ -16,18 +16,18 @@ use Rattle.core_model.specs.WorkedRuns.{outcomes, opened_core, holding_core, ask
 abbrev pub GuestAsksOwner : Type 0
 GuestAsksOwner =
     outcomes
-      opened_core
-      (asks 1 (put_a (codes "z"))
-      ∷ works
-      ∷ answers 2 4 owned_by_other
-      ∷ works
-      ∷ answers 3 5 put_done
-      ∷ works
-      ∷ tells 6 (is_deleted 6 ∷ [])
-      ∷ works
-      ∷ answers 4 7 put_done
-      ∷ takes 1
-      ∷ [])
+    opened_core
+    (asks 1 (put_a (codes "z"))
+    ∷ works
+    ∷ answers 2 4 owned_by_other
+    ∷ works
+    ∷ answers 3 5 put_done
+    ∷ works
+    ∷ tells 6 (is_deleted 6 ∷ [])
+    ∷ works
+    ∷ answers 4 7 put_done
+    ∷ takes 1
+    ∷ [])
     ≡ waits
     ∷ sends 2 1 (guarded_put (codes "z") 0)
     ∷ notes
@@ -74,8 +74,8 @@ guest_txn =
 abbrev pub TransactionIsNested : Type 0
 TransactionIsNested =
     outcomes
-      opened_core
-      (asks 1 (request.Txn (put_if_new (read_op (only (codes "a")) ∷ []))) ∷ works ∷ answers 2 2 (ran_nested put_done) ∷ takes 1 ∷ [])
+    opened_core
+    (asks 1 (request.Txn (put_if_new (read_op (only (codes "a")) ∷ []))) ∷ works ∷ answers 2 2 (ran_nested put_done) ∷ takes 1 ∷ [])
     ≡ waits ∷ sends 2 1 guest_txn ∷ notes ∷ replies (done 2 put_done) ∷ []
 
 abbrev pub put_one : Request
@@ -93,18 +93,18 @@ owner_txn =
 abbrev pub TransactionWritesThrough : Type 0
 TransactionWritesThrough =
     outcomes
-      holding_core
-      (asks 3 put_one
-      ∷ works
-      ∷ answers 3 3 (ran_nested put_done)
-      ∷ takes 3
-      ∷ asks 4 get_a
-      ∷ asks 5 put_one
-      ∷ works
-      ∷ answers 4 4 (ran_nested (body.Txn false (body.Put None ∷ [])))
-      ∷ takes 5
-      ∷ asks 6 get_a
-      ∷ [])
+    holding_core
+    (asks 3 put_one
+    ∷ works
+    ∷ answers 3 3 (ran_nested put_done)
+    ∷ takes 3
+    ∷ asks 4 get_a
+    ∷ asks 5 put_one
+    ∷ works
+    ∷ answers 4 4 (ran_nested (body.Txn false (body.Put None ∷ [])))
+    ∷ takes 5
+    ∷ asks 6 get_a
+    ∷ [])
     ≡ waits
     ∷ sends 3 3 owner_txn
     ∷ notes
