@@ -7,8 +7,9 @@ use Rattle.proxy_model.specs.Session.{Session}
 use Rattle.proxy_model.specs.Upstream.{Upstream}
 use Rattle.wait_model.specs.declared.sending.Sending.{Sending}
 use Rattle.wait_model.specs.State.{Ownership, owned, first_waits}
-use Rattle.core_model.specs.declared.acquire.Acquire.{Acquire}
-use Rattle.core_model.specs.declared.asked.Asked.{Asked}
+use Rattle.read_model.specs.declared.acquire.Acquire.{Acquire}
+use Rattle.read_model.specs.declared.asked.Asked.{Asked}
+use Rattle.watch_model.specs.State.{Broadcasts, first_broadcasts}
 use Rattle.core_model.specs.declared.out_call.OutCall.{OutCall}
 use Rattle.core_model.specs.declared.settings.Settings.{Settings}
 
@@ -38,14 +39,14 @@ pub record Core : Type 0 where
   pub acquires : Keyed Acquire
   -- in order of asking: the unanswered requests, and those whose reply wasn't taken
   pub asks : List Asked
-  -- the calls that are out, beside those of writes and entries
+  -- the calls that are out, the last one sent last
   pub out : List OutCall
   -- how many calls were sent
   pub calls : ℕ
   -- how many steps were made that gave an outcome
   pub steps : ℕ
-  -- how many stream numbers were given
-  pub streams : ℕ
+  -- the client streams and watches, and how many stream numbers were given
+  pub watches : Broadcasts
 
 abbrev pub no_header : Header
 no_header = record { cluster = 0; member = 0; revision = 0; term = 0 }
@@ -64,7 +65,7 @@ first_core settings =
       out = [];
       calls = 0;
       steps = 0;
-      streams = 0;
+      watches = first_broadcasts;
     }
 
 -- nothing is owned, asked, due or out, and nothing was counted
@@ -76,7 +77,7 @@ pub record IsNothing (c : Core) : Type 0 where
   pub out : c.out ≡ []
   pub calls : c.calls ≡ 0
   pub steps : c.steps ≡ 0
-  pub streams : c.streams ≡ 0
+  pub watches : c.watches ≡ first_broadcasts
 
 abbrev pub BeginsWithNothing : Type 0
 BeginsWithNothing = (settings : Settings) → IsNothing (first_core settings)

@@ -1,0 +1,4 @@
+pub mod Idle
+pub mod AskedReads
+pub mod Outcomes
+pub mod Start

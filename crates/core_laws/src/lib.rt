@@ -1,0 +1,23 @@
+//! Laws of the whole machine of one proxy, over its definitions.
+#![tactic(auto)]
+
+ghost use Rattle.core_laws.specs.Laws.{NoRequestIsIdle, StartFits, HeldReadIsReplied, AcquirableReadAcquires};
+ghost use Rattle.core_laws.specs.Outcomes.{WornDoesNothing, StepsGive};
+
+/// All that is to hold of a proxy holds at its start, and where it holds, each request that has no reply waits for something.
+pub fn no_request_is_idle()
+    ensures start { StartFits }
+    ensures none { NoRequestIsIdle }
+{}
+
+/// What a plain read comes to at its own step.
+pub fn plain_reads()
+    ensures held_read_is_replied { HeldReadIsReplied }
+    ensures acquirable_read_acquires { AcquirableReadAcquires }
+{}
+
+/// A step gives an outcome of its event's kind, or a fault that leaves only the clock work; of a worn proxy it does nothing.
+pub fn steps_give()
+    ensures worn_does_nothing { WornDoesNothing }
+    ensures gives { StepsGive }
+{}

@@ -1,0 +1,9 @@
+pub mod State
+pub mod PlainRead
+pub mod Release
+pub mod WriteAnswers
+pub mod SessionEnd
+pub mod Acquires
+pub mod TakingOff
+pub mod Fits
+pub mod Worked
