@@ -1,0 +1,2 @@
+pub mod VersionProofs
+pub mod KeptProofs
