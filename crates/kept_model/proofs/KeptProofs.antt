@@ -15,7 +15,7 @@ use Rattle.kept_model.specs.KeyLaws.{VersionsGiveRecords, VersionsGiveEarlier, K
 use Rattle.kept_model.proofs.VersionProofs.{up_to-yes, versions_give_records, versions_give_earlier, versions_grow}
 
 -- what is held is a put, and stands below the compaction
-IsHeld : ℕ → Option Version → Type 0
+unfoldable pub IsHeld : ℕ → Option Version → Type 0
 IsHeld c None = Unit {0}
 IsHeld c (Some v) = (v.revision < c) × (held_of v ≡ Some v)
 
@@ -28,7 +28,7 @@ unfolding left_of
 held-left v None e = refl
 held-left v (Some kv) e = e
 
-held_is_held : (c : ℕ) (v : Version) → v.revision < c → IsHeld c (held_of v)
+pub held_is_held : (c : ℕ) (v : Version) → v.revision < c → IsHeld c (held_of v)
 unfolding IsHeld
 held_is_held c v e = by v.left refl
   where

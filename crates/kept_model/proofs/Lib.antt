@@ -1,2 +1,3 @@
 pub mod VersionProofs
 pub mod KeptProofs
+pub mod LaterProofs

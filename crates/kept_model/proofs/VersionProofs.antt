@@ -15,12 +15,12 @@ use Rattle.kept_model.specs.KeyLaws.{VersionsGiveRecords, VersionsGiveEarlier, K
 
 -- reading
 
-last_left-append : (vs ws : List Version) (old : Option Kv) → last_left (vs ++ ws) old ≡ last_left ws (last_left vs old)
+pub last_left-append : (vs ws : List Version) (old : Option Kv) → last_left (vs ++ ws) old ≡ last_left ws (last_left vs old)
 last_left-append [] ws old = refl
 last_left-append (v ∷ vs) ws old = last_left-append vs ws v.left
 
 -- a change of another key leaves the record
-other_key : (revision : ℕ) (k : List ℕ) (c : KeyChange) (old : Option Kv) → same (changed_key c) k ≡ false → after_change revision k c old ≡ old
+pub other_key : (revision : ℕ) (k : List ℕ) (c : KeyChange) (old : Option Kv) → same (changed_key c) k ≡ false → after_change revision k c old ≡ old
 other_key revision k (Put key value lease) old e = ap (λ (b : Bool). cond b (Some (after_put old k value lease revision)) old) e
 other_key revision k (Delete key) old e = ap (λ (b : Bool). cond b None old) e
 

@@ -1,9 +1,9 @@
 -- What the versions of one key say of a history, and what the kept ones say.
-use Rattle.std.specs.Prelude.{◌≡◌, ◌≤◌, ◌<◌, ℕ, ◌+◌, List, ◌++◌, length, None}
+use Rattle.std.specs.Prelude.{◌≡◌, ◌≤◌, ℕ, ◌+◌, List, ◌++◌, length, take, drop, None}
 use Rattle.store_model.specs.declared.history.KeyChange.{KeyChange}
 use Rattle.store_model.specs.History.{History, newest, with_revision}
 use Rattle.store_model.specs.Records.{record_now, record_at}
-use Rattle.kept_model.specs.Versions.{versions, versions_in, last_left, up_to, kept, kept_versions}
+use Rattle.kept_model.specs.Versions.{versions, versions_in, versions_from, last_left, up_to, from_on, kept, kept_versions}
 
 -- the last version of a key is its record
 abbrev pub VersionsGiveRecords : Type 0
@@ -26,6 +26,16 @@ KeptGiveNow = (h : History) (c : ℕ) (k : List ℕ) → last_left (kept_version
 -- and the record at every revision from the compaction on
 abbrev pub KeptGiveEarlier : Type 0
 KeptGiveEarlier = (h : History) (c r : ℕ) (k : List ℕ) → c ≤ r → last_left (up_to r (kept_versions h c k)) None ≡ record_at h r k
+
+-- the versions from a revision on are made by the revisions from there on, on the record that the earlier ones left
+abbrev pub VersionsFromRevision : Type 0
+VersionsFromRevision =
+    (h : History) (n : ℕ) (k : List ℕ) → n ≤ length h
+    → from_on (n + 2) (versions h k) ≡ versions_from (n + 2) k (drop n h) (record_now (take n h) k)
+
+-- all versions from the compaction on are kept
+abbrev pub KeptHaveLater : Type 0
+KeptHaveLater = (h : History) (c r : ℕ) (k : List ℕ) → c ≤ r → from_on r (kept_versions h c k) ≡ from_on r (versions h k)
 
 -- a further revision is made of the kept versions alone; a compaction is at most at the newest revision
 abbrev pub KeptGrow : Type 0

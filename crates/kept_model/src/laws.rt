@@ -1,16 +1,18 @@
-ghost use Rattle.kept_model.specs.KeyLaws.{VersionsGiveRecords, VersionsGiveEarlier, VersionsGrow, KeptGiveNow, KeptGiveEarlier, KeptGrow, KeptAgain};
+ghost use Rattle.kept_model.specs.KeyLaws.{VersionsGiveRecords, VersionsGiveEarlier, VersionsGrow, VersionsFromRevision, KeptGiveNow, KeptGiveEarlier, KeptHaveLater, KeptGrow, KeptAgain};
 
 /// A law: the versions of a key give the record that the history leaves, and the record at a revision.
 pub fn versions_are_the_history()
     ensures now { VersionsGiveRecords }
     ensures earlier { VersionsGiveEarlier }
     ensures grow { VersionsGrow }
+    ensures later { VersionsFromRevision }
 {}
 
 /// A law: the kept versions answer at each revision from the compaction on as all versions do.
 pub fn kept_versions_answer()
     ensures now { KeptGiveNow }
     ensures earlier { KeptGiveEarlier }
+    ensures later { KeptHaveLater }
 {}
 
 /// A law: a revision puts its versions behind the kept ones, and a compaction keeps of the kept what it keeps of all.
