@@ -1,0 +1,2 @@
+pub mod SameRecords
+pub mod Reading
