@@ -1,2 +1,5 @@
 pub mod SameRecords
 pub mod Reading
+pub mod Running
+pub mod Growing
+pub mod Telling

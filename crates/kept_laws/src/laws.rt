@@ -1,4 +1,4 @@
-ghost use Rattle.kept_laws.specs.Laws.{RangesByKept, EarlierRangesByKept, AttachedByKept};
+ghost use Rattle.kept_laws.specs.Laws.{RangesByKept, EarlierRangesByKept, AttachedByKept, OperationsByKept};
 
 /// A law: the records of a range, now and at each revision that can still be read, and those of a lease, are told by what is
 /// kept alone.
@@ -6,4 +6,9 @@ pub fn ranges_by_kept()
     ensures now { RangesByKept }
     ensures earlier { EarlierRangesByKept }
     ensures attached { AttachedByKept }
+{}
+
+/// A law: operations run by what is kept alone, those of transactions within transactions too.
+pub fn operations_by_kept()
+    ensures { OperationsByKept }
 {}

@@ -4,4 +4,4 @@
 
 mod laws;
 
-pub use laws::ranges_by_kept;
+pub use laws::{operations_by_kept, ranges_by_kept};
