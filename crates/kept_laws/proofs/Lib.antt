@@ -3,3 +3,4 @@ pub mod Reading
 pub mod Running
 pub mod Growing
 pub mod Telling
+pub mod TellingHistories

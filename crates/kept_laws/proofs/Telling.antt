@@ -57,7 +57,7 @@ told_same c ask [] (y ∷ ys) a = absurd a
 told_same c ask (x ∷ xs) [] a = absurd a
 told_same c ask (x ∷ xs) (y ∷ ys) a = told_one c ask x y xs ys a.0 (told_same c ask xs ys a.1)
 
-told-append : (c : ℕ) (xs ys us vs : List Event) → AreToldAs c xs ys → AreToldAs c us vs → AreToldAs c (xs ++ us) (ys ++ vs)
+pub told-append : (c : ℕ) (xs ys us vs : List Event) → AreToldAs c xs ys → AreToldAs c us vs → AreToldAs c (xs ++ us) (ys ++ vs)
 told-append c [] [] us vs a b = b
 told-append c [] (y ∷ ys) us vs a b = absurd a
 told-append c (x ∷ xs) [] us vs a b = absurd a
@@ -93,7 +93,7 @@ prev_seen : (c r : ℕ) (old : Option Kv) (x : KeyChange) → visible_prev c (ev
 prev_seen c r old x =
     ap (λ n. visible_prev c n (event_of r old x).prev) (revision_is r old x) ∙ ap (visible_prev c r) (prev_old r old x)
 
-told_by : (c r : ℕ) (k : List ℕ) (x d : KeyChange) (old before : Option Kv) → changed_key x ≡ k → changed_key d ≡ k
+pub told_by : (c r : ℕ) (k : List ℕ) (x d : KeyChange) (old before : Option Kv) → changed_key x ≡ k → changed_key d ≡ k
     → after_change r k x old ≡ after_change r k d before → visible_prev c r old ≡ visible_prev c r before
     → IsToldAs c (event_of r old x) (event_of r before d)
 told_by c r k x d old before e f left seen = (
@@ -127,15 +127,15 @@ head_other r k x cs rest old e =
     ∙ ap (λ (o : Option Kv). versions_in r k cs o ++ versions_from (r + 1) k rest (after_changes r k cs (after_change r k x old))) (sym (other_key r k x old e))
 
 -- what is known of a key before two changes, and what behind them
-record Coming (c r : ℕ) (k : List ℕ) (cs ds : List KeyChange) (rest others : History) (old before : Option Kv) : Type 0 where
-  versions : versions_from r k (cs ∷ rest) old ≡ versions_from r k (ds ∷ others) before
-  seen : visible_prev c r old ≡ visible_prev c r before
+pub record Coming (c r : ℕ) (k : List ℕ) (cs ds : List KeyChange) (rest others : History) (old before : Option Kv) : Type 0 where
+  pub versions : versions_from r k (cs ∷ rest) old ≡ versions_from r k (ds ∷ others) before
+  pub seen : visible_prev c r old ≡ visible_prev c r before
 
-record Came (c r : ℕ) (k : List ℕ) (x d : KeyChange) (cs ds : List KeyChange) (rest others : History) (old before : Option Kv) : Type 0 where
-  coming : Coming c r k cs ds rest others (after_change r k x old) (after_change r k d before)
-  left : same (changed_key x) k ≡ true → after_change r k x old ≡ after_change r k d before
+pub record Came (c r : ℕ) (k : List ℕ) (x d : KeyChange) (cs ds : List KeyChange) (rest others : History) (old before : Option Kv) : Type 0 where
+  pub coming : Coming c r k cs ds rest others (after_change r k x old) (after_change r k d before)
+  pub left : same (changed_key x) k ≡ true → after_change r k x old ≡ after_change r k d before
 
-come : (c r : ℕ) (k : List ℕ) (x d : KeyChange) (cs ds : List KeyChange) (rest others : History) (old before : Option Kv)
+pub come : (c r : ℕ) (k : List ℕ) (x d : KeyChange) (cs ds : List KeyChange) (rest others : History) (old before : Option Kv)
     → changed_key x ≡ changed_key d → Coming c r k (x ∷ cs) (d ∷ ds) rest others old before → Came c r k x d cs ds rest others old before
 unfolding left_first but_first
 come c r k x d cs ds rest others old before e h = by_key (same (changed_key x) k) refl
@@ -157,7 +157,7 @@ come c r k x d cs ds rest others old before e h = by_key (same (changed_key x) k
         }
 
 -- behind all changes of a revision
-come_all : (r : ℕ) (k : List ℕ) (cs ds : List KeyChange) (rest others : History) (old before : Option Kv) → changed_keys cs ≡ changed_keys ds
+pub come_all : (r : ℕ) (k : List ℕ) (cs ds : List KeyChange) (rest others : History) (old before : Option Kv) → changed_keys cs ≡ changed_keys ds
     → versions_from r k (cs ∷ rest) old ≡ versions_from r k (ds ∷ others) before
     → versions_from (r + 1) k rest (after_changes r k cs old) ≡ versions_from (r + 1) k others (after_changes r k ds before)
 unfolding but_first

@@ -1,4 +1,4 @@
-ghost use Rattle.kept_laws.specs.Laws.{RangesByKept, EarlierRangesByKept, AttachedByKept, OperationsByKept};
+ghost use Rattle.kept_laws.specs.Laws.{RangesByKept, EarlierRangesByKept, AttachedByKept, OperationsByKept, EventsByKept};
 
 /// A law: the records of a range, now and at each revision that can still be read, and those of a lease, are told by what is
 /// kept alone.
@@ -11,4 +11,10 @@ pub fn ranges_by_kept()
 /// A law: operations run by what is kept alone, those of transactions within transactions too.
 pub fn operations_by_kept()
     ensures { OperationsByKept }
+{}
+
+/// A law: what a watch is told from a revision that can still be read on, with the records before its events, is told by what
+/// is kept alone.
+pub fn events_by_kept()
+    ensures { EventsByKept }
 {}
