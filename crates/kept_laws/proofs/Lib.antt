@@ -4,3 +4,4 @@ pub mod Running
 pub mod Growing
 pub mod Telling
 pub mod TellingHistories
+pub mod Steps

@@ -1,4 +1,5 @@
 ghost use Rattle.kept_laws.specs.Laws.{RangesByKept, EarlierRangesByKept, AttachedByKept, OperationsByKept, EventsByKept};
+ghost use Rattle.kept_laws.specs.Laws.{RequestsByKept, ExpiriesByKept, AppliesByKept, OpeningsByKept, MessagesByKept, ProgressByKept};
 
 /// A law: the records of a range, now and at each revision that can still be read, and those of a lease, are told by what is
 /// kept alone.
@@ -17,4 +18,14 @@ pub fn operations_by_kept()
 /// is kept alone.
 pub fn events_by_kept()
     ensures { EventsByKept }
+{}
+
+/// A law: every step of a store, and what it answers, depends on what is kept alone, and what is then kept does too.
+pub fn steps_by_kept()
+    ensures requests { RequestsByKept }
+    ensures expiries { ExpiriesByKept }
+    ensures applies { AppliesByKept }
+    ensures openings { OpeningsByKept }
+    ensures messages { MessagesByKept }
+    ensures progress { ProgressByKept }
 {}

@@ -4,4 +4,4 @@
 
 mod laws;
 
-pub use laws::{events_by_kept, operations_by_kept, ranges_by_kept};
+pub use laws::{events_by_kept, operations_by_kept, ranges_by_kept, steps_by_kept};
