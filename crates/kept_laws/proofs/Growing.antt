@@ -4,7 +4,7 @@ use Rattle.std.proofs.lemmas.List.{map-append, length-map, drop-append-le, drop-
 use Rattle.store_model.specs.declared.history.KeyChange.{KeyChange}
 use Rattle.store_model.specs.History.{History, newest, with_revision}
 use Rattle.store_model.specs.State.{State}
-use Rattle.kept_model.specs.Versions.{last_left, versions_in, kept, kept_versions}
+use Rattle.kept_model.specs.Versions.{last_left, versions_in, kept}
 use Rattle.kept_model.specs.Places.{changed_keys, kept_places}
 use Rattle.kept_model.proofs.KeptProofs.{kept_grow, kept_again}
 use Rattle.kept_laws.specs.Alike.{KeepSame, Alike}

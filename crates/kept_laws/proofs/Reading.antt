@@ -1,15 +1,15 @@
 -- Two histories of which the same is kept are read alike: now, at each revision from the compaction on, and with what a request
 -- has changed so far.
-use Rattle.std.proofs.Common.{◌≡◌, ℕ, ◌+◌, ◌-◌, ◌≤◌, ◌<◌, ◌==◌, nat_lt, ◌&&◌, not, Bool, true, false, cond, min, List, [], ◌∷◌, ◌++◌, None, Ok, length, take, refl, sym, ◌∙◌, ap, subst, arith, ◌⊎◌, inl, inr, ltb-false, leb-true, leb-false, nat_le, filter, length-append, length-take}
+use Rattle.std.proofs.Common.{◌≡◌, ℕ, ◌+◌, ◌-◌, ◌≤◌, ◌<◌, ◌==◌, nat_lt, ◌&&◌, not, Bool, true, false, cond, min, List, [], ◌∷◌, ◌++◌, None, Ok, length, take, refl, sym, ◌∙◌, ap, arith, ◌⊎◌, inl, inr, ltb-false, leb-true, leb-false, nat_le, filter, length-append, length-take}
 use Rattle.std.proofs.lemmas.List.{take-append-le, take-take, take_all}
 use Rattle.etcd_types.specs.declared.record.Kv.{Kv}
 use Rattle.etcd_types.specs.declared.key_range.KeyRange.{KeyRange}
 use Rattle.etcd_types.specs.declared.operation.RangeAsk.{RangeAsk}
 use Rattle.store_model.specs.declared.history.KeyChange.{KeyChange}
-use Rattle.store_model.specs.History.{History, newest, up_to_revision, with_revision}
+use Rattle.store_model.specs.History.{History, up_to_revision, with_revision}
 use Rattle.store_model.specs.Records.{after_changes, record_now, record_at}
 use Rattle.store_model.specs.Ranges.{records_now}
-use Rattle.store_model.specs.Leases.{attached, is_attached, all_keys}
+use Rattle.store_model.specs.Leases.{is_attached, all_keys}
 use Rattle.store_model.specs.Reads.{read, asked_history, is_unsupported, range_body}
 use Rattle.store_model.proofs.HistoryLemmas.{record_now-with_revision}
 use Rattle.kept_model.specs.Versions.{Version, last_left, up_to}

@@ -1,7 +1,6 @@
 -- Operations run alike on two states of which the same is kept, however their transactions nest.
 use Rattle.std.proofs.Common.{◌≡◌, ℕ, ◌+◌, ◌==◌, ◌&&◌, not, cond, true, false, List, Err, refl, ◌∙◌, ap, subst}
 use Rattle.std.specs.List.{list_all}
-use Rattle.etcd_types.specs.declared.record.Kv.{Kv}
 use Rattle.etcd_types.specs.declared.operation.Compare.{Compare}
 use Rattle.etcd_types.specs.declared.operation.Op.{Op, Row_of-Op, end_of-Op, more_of-Op}
 use Rattle.etcd_types.specs.declared.operation.Op.TheVariants.{Range, Put, Delete, Txn'}
@@ -12,7 +11,6 @@ use Rattle.store_model.specs.State.{State}
 use Rattle.store_model.specs.Reads.{read}
 use Rattle.store_model.specs.Compares.{holds_of, all_hold}
 use Rattle.store_model.specs.Transactions.{unchanged, has_lease, put_on, delete_all, answered, first_then, run, run_row}
-use Rattle.kept_laws.specs.Alike.{Alike}
 use Rattle.kept_laws.specs.Laws.{OperationsByKept}
 use Rattle.kept_laws.proofs.Reading.{AgreeFrom, kept_agree, now_agrees, grown_agrees, ranges_agree, reads_agree}
 
@@ -38,7 +36,7 @@ mutual
       (ranges_agree s.compacted (with_revision s.history made) (with_revision g made) (grown_agrees s.compacted s.history g a made) ask.range)
   runs_agree s g a (Txn' compare m success n failure) made =
       λ i. cond (compares_agree s.compacted (with_revision s.history made) (with_revision g made) (grown_agrees s.compacted s.history g a made) compare i)
-          (answered true (rows_agree s g a success made i)) (answered false (rows_agree s g a failure made i))
+      (answered true (rows_agree s g a success made i)) (answered false (rows_agree s g a failure made i))
 
   rows_agree : {m : _} (s : State) (g : History) → AgreeFrom s.compacted s.history g → (ops : Row_of-Op m) (made : List KeyChange)
       → run_row s ops made ≡ run_row (on s g) ops made

@@ -1,5 +1,5 @@
 -- Every step of two states of which the same is kept: the same answer, and states of which the same is kept.
-use Rattle.std.proofs.Common.{◌≡◌, ℕ, ◌+◌, ◌-◌, ◌≤◌, ◌<◌, ◌==◌, ◌&&◌, ◌||◌, not, nat_lt, nat_le, max, pos, negsuc, Bool, true, false, cond, List, [], ◌∷◌, Option, None, Some, Result, Ok, Err, map, set, refl, sym, ◌∙◌, ap, subst, arith, ltb-false}
+use Rattle.std.proofs.Common.{◌≡◌, ℕ, ◌+◌, ◌-◌, ◌≤◌, ◌==◌, ◌&&◌, ◌||◌, not, nat_lt, nat_le, max, pos, negsuc, Bool, true, false, cond, List, [], ◌∷◌, Option, None, Some, Result, Ok, Err, map, set, refl, ap, subst, arith, ltb-false}
 use Rattle.std.proofs.lemmas.Bool.Decides.{nat_tests}
 use Rattle.etcd_types.specs.declared.record.Kv.{Kv}
 use Rattle.etcd_types.specs.declared.operation.RangeAsk.{RangeAsk}
@@ -14,7 +14,6 @@ use Rattle.etcd_types.specs.declared.answer.Refusal.{Refusal}
 use Rattle.etcd_types.specs.declared.watch.Event.{Event}
 use Rattle.etcd_types.specs.declared.watch.WatchItem.TheVariants as item
 use Rattle.store_model.specs.declared.history.KeyChange.{KeyChange}
-use Rattle.store_model.specs.declared.lease.Lease.{Lease}
 use Rattle.store_model.specs.declared.watch.OpenWatch.{OpenWatch}
 use Rattle.store_model.specs.declared.store_fault.StoreFault.{StoreFault}
 use Rattle.store_model.specs.declared.store_fault.StoreFault.TheVariants as fault
@@ -26,7 +25,7 @@ use Rattle.store_model.specs.Transactions.{Ran, run, deletion, has_lease}
 use Rattle.store_model.specs.FirstRefusals.{first_refusal}
 use Rattle.store_model.specs.Leases.{attached, asked_number, granted_lease, granted_ttl, granted, with_lease, without_lease, ended, lease_number, time_to_live, record_key, expired}
 use Rattle.store_model.specs.Members.{lacks_member, applied}
-use Rattle.store_model.specs.Watches.{Pushed, opened, watch_of, with_next, first_next, next_after, watch_header, events_for, push_events, push_to, is_nil, is_synced, progress_to, for_watch, pushed, progressed}
+use Rattle.store_model.specs.Watches.{Pushed, opened, watch_of, with_next, first_next, next_after, events_for, push_events, push_to, is_nil, is_synced, progress_to, for_watch, pushed, progressed}
 use Rattle.store_model.specs.Step.{Step, exec, exec_op, exec_range, done, refused, unless, settled, told_at, read_applied}
 use Rattle.kept_laws.specs.Alike.{KeepSame, Alike}
 use Rattle.kept_laws.specs.Laws.{SameStep, RequestsByKept, SameOutcome, ExpiriesByKept, AppliesByKept, OpeningsByKept, SamePush, MessagesByKept, ProgressByKept}

@@ -1,24 +1,18 @@
 -- What watches are told of two histories of which the same is kept.
-use Rattle.std.proofs.Common.{◌≡◌, ℕ, suc, zero, ◌+◌, ◌-◌, ◌≤◌, ◌<◌, nat_lt, nat_le, ◌||◌, Bool, true, false, cond, List, [], ◌∷◌, ◌++◌, Option, None, Some, length, take, drop, map, filter, refl, sym, ◌∙◌, ap, subst, arith, ◌⊎◌, inl, inr, append_assoc, length-append, length-take-le, lt-ltb, leb-true, leb-false}
-use Rattle.std.proofs.lemmas.List.{drop-drop, drop-map, take-append-drop}
-use Rattle.std.proofs.lemmas.Bool.Decides.{nat_tests}
+use Rattle.std.proofs.Common.{◌≡◌, ℕ, ◌+◌, Bool, true, false, cond, List, [], ◌∷◌, ◌++◌, Option, None, Some, map, filter, refl, sym, ◌∙◌, ap, subst}
 use Rattle.etcd_types.specs.declared.record.Kv.{Kv}
-use Rattle.etcd_types.specs.declared.key_range.KeyRange.{KeyRange}
 use Rattle.etcd_types.specs.declared.request.WatchAsk.{WatchAsk}
 use Rattle.etcd_types.specs.declared.watch.Event.{Event}
 use Rattle.etcd_types.specs.declared.watch.Change.{Change}
 use Rattle.etcd_types.specs.declared.watch.Change.TheVariants as event
 use Rattle.etcd_types.specs.Keys.{same}
-use Rattle.etcd_types.specs.Ranges.{contains}
 use Rattle.etcd_types.specs.Records.{after_put}
 use Rattle.etcd_types.proofs.KeyOrder.{same-itself}
 use Rattle.store_model.specs.declared.history.KeyChange.{KeyChange}
 use Rattle.store_model.specs.declared.history.KeyChange.TheVariants.{Put, Delete}
-use Rattle.store_model.specs.History.{History, newest, with_revision, changed_key}
-use Rattle.store_model.specs.Records.{after_change, after_changes, after_revisions, record_now}
-use Rattle.store_model.specs.Events.{event_of, events_of_changes, events_after, event_revision, change_revision, change_passes, passes, visible_prev, told_event}
-use Rattle.store_model.proofs.HistoryLemmas.{record_now-with_revision}
-use Rattle.store_model.proofs.RunLemmas.{after_changes-append}
+use Rattle.store_model.specs.History.{History, changed_key}
+use Rattle.store_model.specs.Records.{after_change, after_changes}
+use Rattle.store_model.specs.Events.{event_of, event_revision, change_passes, passes, visible_prev, told_event}
 use Rattle.kept_model.specs.Versions.{Version, versions_in, versions_from}
 use Rattle.kept_model.specs.Places.{changed_keys}
 use Rattle.kept_model.proofs.VersionProofs.{other_key}

@@ -1,13 +1,11 @@
 -- The events of two histories of which the same is kept: revision by revision, each with the records before them that can be seen.
-use Rattle.std.proofs.Common.{◌≡◌, ℕ, suc, zero, ◌+◌, ◌-◌, ◌≤◌, ◌<◌, nat_lt, nat_le, ◌||◌, Bool, true, false, cond, List, [], ◌∷◌, ◌++◌, Option, None, Some, length, take, drop, map, filter, refl, sym, ◌∙◌, ap, subst, arith, ◌⊎◌, inl, inr, append_assoc, length-append, length-take-le, lt-ltb, leb-true, leb-false, take-add, drop_of_length-le}
+use Rattle.std.proofs.Common.{◌≡◌, ℕ, suc, zero, ◌+◌, ◌-◌, ◌≤◌, ◌<◌, nat_lt, nat_le, ◌||◌, Bool, true, false, cond, List, [], ◌∷◌, ◌++◌, Option, None, Some, length, take, drop, map, refl, sym, ◌∙◌, ap, subst, arith, append_assoc, length-append, length-take-le, lt-ltb, leb-true, leb-false, take-add, drop_of_length-le}
 use Rattle.std.proofs.lemmas.List.{drop-drop, drop-map}
 use Rattle.std.proofs.lemmas.Bool.Decides.{nat_tests}
 use Rattle.etcd_types.specs.declared.record.Kv.{Kv}
 use Rattle.etcd_types.specs.declared.key_range.KeyRange.{KeyRange}
-use Rattle.etcd_types.specs.declared.request.WatchAsk.{WatchAsk}
 use Rattle.etcd_types.specs.declared.watch.Event.{Event}
 use Rattle.etcd_types.specs.Ranges.{contains}
-use Rattle.etcd_types.specs.Keys.{same}
 use Rattle.etcd_types.proofs.Bools.{or_none}
 use Rattle.etcd_types.proofs.KeyOrder.{same-itself}
 use Rattle.store_model.specs.declared.history.KeyChange.{KeyChange}
@@ -16,15 +14,14 @@ use Rattle.store_model.specs.Records.{after_change, after_changes, after_revisio
 use Rattle.store_model.specs.Events.{event_of, events_of_changes, events_after, events, visible_prev}
 use Rattle.store_model.proofs.HistoryLemmas.{record_now-with_revision}
 use Rattle.store_model.proofs.RunLemmas.{after_changes-append}
-use Rattle.store_sound.specs.MadeRecords.{IsMade}
 use Rattle.store_sound.proofs.Histories.{records_are_made}
-use Rattle.kept_model.specs.Versions.{Version, versions_from, from_on}
+use Rattle.kept_model.specs.Versions.{versions_from, from_on}
 use Rattle.kept_model.specs.Places.{changed_keys}
 use Rattle.kept_model.proofs.LaterProofs.{versions_from_revision, kept_have_later}
 use Rattle.kept_laws.specs.Alike.{KeepSame}
 use Rattle.kept_laws.specs.Laws.{EventsByKept}
-use Rattle.kept_laws.proofs.Reading.{AgreeFrom, kept_agree}
-use Rattle.kept_laws.proofs.Telling.{IsToldAs, AreToldAs, told_same, told-append, told_by, Coming, Came, come, come_all}
+use Rattle.kept_laws.proofs.Reading.{kept_agree}
+use Rattle.kept_laws.proofs.Telling.{IsToldAs, AreToldAs, told_same, told-append, told_by, Coming, come, come_all}
 
 -- the record of a key as a change of a revision finds it
 abbrev now : History → List KeyChange → List ℕ → Option Kv
@@ -73,7 +70,7 @@ told_changes c r range h g rest others eh eg (x ∷ cs) (d ∷ ds) made done e a
         let k : List ℕ = changed_key x in
         let came = come c r k x d cs ds rest others (now h made k) (now g done k) first (a k) in
         let told : IsToldAs c (event_of r (now h made k) x) (event_of r (now g done k) d) =
-              told_by c r k x d (now h made k) (now g done k) refl (sym first) (came.left (same-itself k)) (a k).seen in
+        told_by c r k x d (now h made k) (now g done k) refl (sym first) (came.left (same-itself k)) (a k).seen in
         let Told : Event → Event → Type 0 = λ v w. IsToldAs c v w in
         subst (λ (v : Event). Told v (event_of (newest g + 1) (now g done (changed_key d)) d)) (ap (λ n. event_of n (now h made k) x) (sym eh))
         (subst (λ (w : Event). Told (event_of r (now h made k) x) w) (λ i. event_of (sym eg i) (now g done (first i)) d) told)

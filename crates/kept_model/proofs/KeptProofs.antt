@@ -1,17 +1,14 @@
 -- The kept versions answer as all do, and they are enough for the next step.
-use Rattle.std.proofs.Common.{◌≡◌, ℕ, zero, suc, ◌+◌, ◌-◌, ◌≤◌, ◌<◌, ◌==◌, nat_lt, nat_le, Bool, true, false, cond, List, [], ◌∷◌, ◌++◌, Option, None, Some, length, take, filter, refl, sym, ◌∙◌, ap, subst, append_assoc, arith, ltb-true, ltb-false, lt-ltb, le-leb, leb-true, leb-false, eqb-true, eq-eqb}
+use Rattle.std.proofs.Common.{◌≡◌, ℕ, ◌+◌, ◌≤◌, ◌<◌, ◌==◌, nat_lt, Bool, true, false, cond, List, [], ◌∷◌, ◌++◌, Option, None, Some, refl, sym, ◌∙◌, ap, arith, ltb-true, ltb-false, lt-ltb, eqb-true, eq-eqb}
 use Rattle.std.proofs.lemmas.List.{append-nil}
-use Rattle.std.proofs.lemmas.List.Elements.{filter-append}
 use Rattle.std.proofs.lemmas.Bool.Decides.{nat_tests}
 use Rattle.etcd_types.specs.declared.record.Kv.{Kv}
 use Rattle.etcd_types.specs.Keys.{same}
-use Rattle.etcd_types.specs.Records.{after_put}
 use Rattle.store_model.specs.declared.history.KeyChange.{KeyChange}
-use Rattle.store_model.specs.declared.history.KeyChange.TheVariants.{Put, Delete}
-use Rattle.store_model.specs.History.{History, newest, with_revision, changed_key}
-use Rattle.store_model.specs.Records.{after_change, after_changes, after_revisions, record_now, record_at}
-use Rattle.kept_model.specs.Versions.{Version, versions_in, versions_from, versions, last_left, up_to, is_up_to, held_left, held_of, held_list, kept_with, kept, kept_versions}
-use Rattle.kept_model.specs.KeyLaws.{VersionsGiveRecords, VersionsGiveEarlier, KeptGiveNow, KeptGiveEarlier, VersionsGrow, KeptGrow, KeptAgain}
+use Rattle.store_model.specs.History.{newest, changed_key}
+use Rattle.store_model.specs.Records.{after_change, record_now}
+use Rattle.kept_model.specs.Versions.{Version, versions_in, versions, last_left, up_to, held_left, held_of, held_list, kept_with, kept, kept_versions}
+use Rattle.kept_model.specs.KeyLaws.{KeptGiveNow, KeptGiveEarlier, KeptGrow, KeptAgain}
 use Rattle.kept_model.proofs.VersionProofs.{up_to-yes, versions_give_records, versions_give_earlier, versions_grow}
 
 -- what is held is a put, and stands below the compaction
@@ -98,6 +95,7 @@ kept_last c held (v ∷ vs) = by (kept_last c (held_of v) vs) (nat_lt v.revision
 pub kept_give_now : KeptGiveNow
 unfolding left_of
 kept_give_now h c k = kept_last c None (versions h k) ∙ versions_give_records h k
+
 -- growing
 
 -- all stand behind the compaction

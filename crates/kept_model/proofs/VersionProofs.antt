@@ -1,5 +1,5 @@
 -- The versions of a key give the record that the history leaves, now and at a revision.
-use Rattle.std.proofs.Common.{◌≡◌, ℕ, zero, suc, ◌+◌, ◌-◌, ◌≤◌, ◌<◌, ◌==◌, nat_lt, nat_le, Bool, true, false, cond, List, [], ◌∷◌, ◌++◌, Option, None, Some, length, take, filter, refl, sym, ◌∙◌, ap, subst, append_assoc, arith, ltb-true, ltb-false, lt-ltb, le-leb, leb-true, leb-false, eqb-true, eq-eqb}
+use Rattle.std.proofs.Common.{◌≡◌, ℕ, zero, suc, ◌+◌, ◌-◌, ◌≤◌, ◌<◌, nat_le, Bool, true, false, cond, List, [], ◌∷◌, ◌++◌, Option, None, Some, length, take, refl, sym, ◌∙◌, ap, append_assoc, arith, le-leb}
 use Rattle.std.proofs.lemmas.List.{append-nil}
 use Rattle.std.proofs.lemmas.List.Elements.{filter-append}
 use Rattle.std.proofs.lemmas.Bool.Decides.{nat_tests}
@@ -8,10 +8,10 @@ use Rattle.etcd_types.specs.Keys.{same}
 use Rattle.etcd_types.specs.Records.{after_put}
 use Rattle.store_model.specs.declared.history.KeyChange.{KeyChange}
 use Rattle.store_model.specs.declared.history.KeyChange.TheVariants.{Put, Delete}
-use Rattle.store_model.specs.History.{History, newest, with_revision, changed_key}
-use Rattle.store_model.specs.Records.{after_change, after_changes, after_revisions, record_now, record_at}
-use Rattle.kept_model.specs.Versions.{Version, versions_in, versions_from, versions, last_left, up_to, is_up_to, held_left, held_of, held_list, kept_with, kept, kept_versions}
-use Rattle.kept_model.specs.KeyLaws.{VersionsGiveRecords, VersionsGiveEarlier, KeptGiveNow, KeptGiveEarlier, VersionsGrow, KeptGrow, KeptAgain}
+use Rattle.store_model.specs.History.{History, changed_key}
+use Rattle.store_model.specs.Records.{after_change, after_changes, after_revisions, record_now}
+use Rattle.kept_model.specs.Versions.{Version, versions_in, versions_from, versions, last_left, up_to, is_up_to}
+use Rattle.kept_model.specs.KeyLaws.{VersionsGiveRecords, VersionsGiveEarlier, VersionsGrow}
 
 -- reading
 
@@ -109,6 +109,7 @@ versions_give_earlier h (suc r) k =
     let f : suc r + 1 ≡ 2 + (suc r - 1) = omega arith in
     ap (λ (vs : List Version). last_left vs None) (from_upto (suc r - 1) (suc r) 2 k h None f)
     ∙ versions_give_records (take (suc r - 1) h) k
+
 -- growing
 
 from_snoc : (revision : ℕ) (k : List ℕ) (h : History) (cs : List KeyChange) (old : Option Kv)
