@@ -7,13 +7,8 @@ use Rattle.store_model.specs.State.{State}
 use Rattle.kept_model.specs.Versions.{last_left, versions_in, kept}
 use Rattle.kept_model.specs.Places.{changed_keys, kept_places}
 use Rattle.kept_model.proofs.KeptProofs.{kept_grow, kept_again}
+use Rattle.kept_model.proofs.PlaceProofs.{places_grow, places_again}
 use Rattle.kept_laws.specs.Alike.{KeepSame, Alike}
-
-places_grow : (h : History) (c : ℕ) (cs : List KeyChange) → c ≤ newest h → kept_places (h ++ cs ∷ []) c ≡ kept_places h c ++ changed_keys cs ∷ []
-places_grow h c cs le =
-    let long : length (map changed_keys h) ≡ length h = length-map h changed_keys in
-    let within : c - 2 ≤ length (map changed_keys h) = omega (arith, le, long) in
-    ap (drop (c - 2)) (map-append changed_keys h (cs ∷ [])) ∙ drop-append-le (c - 2) (map changed_keys h) (changed_keys cs ∷ []) within
 
 pub keep_grown : (c : ℕ) (h g : History) → KeepSame c h g → (made : List KeyChange) → KeepSame c (with_revision h made) (with_revision g made)
 keep_grown c h g a [] = a
@@ -30,13 +25,8 @@ keep_grown c h g a (d ∷ ds) =
           kept_grow h c k (d ∷ ds) a.past
           ∙ (λ i. a.versions k i ++ versions_in (a.newest i + 1) k (d ∷ ds) (last_left (a.versions k i) None))
           ∙ sym (kept_grow g c k (d ∷ ds) past);
-      places = places_grow h c (d ∷ ds) a.past ∙ ap (λ ks. ks ++ changed_keys (d ∷ ds) ∷ []) a.places ∙ sym (places_grow g c (d ∷ ds) past);
+      places = places_grow h c d ds a.past ∙ ap (λ ks. ks ++ changed_keys (d ∷ ds) ∷ []) a.places ∙ sym (places_grow g c d ds past);
     }
-
-places_again : (h : History) (c d : ℕ) → c ≤ d → kept_places h d ≡ drop (d - 2 - (c - 2)) (kept_places h c)
-places_again h c d le =
-    let e : c - 2 + (d - 2 - (c - 2)) ≡ d - 2 = omega (arith, le) in
-    ap (λ n. drop n (map changed_keys h)) (sym e) ∙ sym (drop-drop (d - 2 - (c - 2)) (c - 2) (map changed_keys h))
 
 pub keep_compacted : (c d : ℕ) (h g : History) → KeepSame c h g → c ≤ d → d ≤ newest h → KeepSame d h g
 keep_compacted c d h g a le past = record {

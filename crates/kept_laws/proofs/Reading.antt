@@ -12,7 +12,8 @@ use Rattle.store_model.specs.Ranges.{records_now}
 use Rattle.store_model.specs.Leases.{is_attached, all_keys}
 use Rattle.store_model.specs.Reads.{read, asked_history, is_unsupported, range_body}
 use Rattle.store_model.proofs.HistoryLemmas.{record_now-with_revision}
-use Rattle.kept_model.specs.Versions.{Version, last_left, up_to}
+use Rattle.kept_model.specs.declared.version.Version.{Version}
+use Rattle.kept_model.specs.Versions.{last_left, up_to}
 use Rattle.kept_model.proofs.KeptProofs.{kept_give_earlier}
 use Rattle.kept_laws.specs.Alike.{KeepSame}
 use Rattle.kept_laws.specs.Laws.{RangesByKept, EarlierRangesByKept, AttachedByKept}

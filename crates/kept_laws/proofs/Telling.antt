@@ -13,7 +13,8 @@ use Rattle.store_model.specs.declared.history.KeyChange.TheVariants.{Put, Delete
 use Rattle.store_model.specs.History.{History, changed_key}
 use Rattle.store_model.specs.Records.{after_change, after_changes}
 use Rattle.store_model.specs.Events.{event_of, event_revision, change_passes, passes, visible_prev, told_event}
-use Rattle.kept_model.specs.Versions.{Version, versions_in, versions_from}
+use Rattle.kept_model.specs.declared.version.Version.{Version}
+use Rattle.kept_model.specs.Versions.{versions_in, versions_from}
 use Rattle.kept_model.specs.Places.{changed_keys}
 use Rattle.kept_model.proofs.VersionProofs.{other_key}
 

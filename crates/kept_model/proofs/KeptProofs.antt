@@ -7,7 +7,8 @@ use Rattle.etcd_types.specs.Keys.{same}
 use Rattle.store_model.specs.declared.history.KeyChange.{KeyChange}
 use Rattle.store_model.specs.History.{newest, changed_key}
 use Rattle.store_model.specs.Records.{after_change, record_now}
-use Rattle.kept_model.specs.Versions.{Version, versions_in, versions, last_left, up_to, held_left, held_of, held_list, kept_with, kept, kept_versions}
+use Rattle.kept_model.specs.declared.version.Version.{Version}
+use Rattle.kept_model.specs.Versions.{versions_in, versions, last_left, up_to, held_left, held_of, held_list, kept_with, kept, kept_versions}
 use Rattle.kept_model.specs.KeyLaws.{KeptGiveNow, KeptGiveEarlier, KeptGrow, KeptAgain}
 use Rattle.kept_model.proofs.VersionProofs.{up_to-yes, versions_give_records, versions_give_earlier, versions_grow}
 

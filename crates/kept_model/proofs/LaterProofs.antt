@@ -8,7 +8,8 @@ use Rattle.etcd_types.specs.Keys.{same}
 use Rattle.store_model.specs.declared.history.KeyChange.{KeyChange}
 use Rattle.store_model.specs.History.{History, changed_key}
 use Rattle.store_model.specs.Records.{after_change, after_changes, after_revisions, record_now}
-use Rattle.kept_model.specs.Versions.{Version, versions_in, versions_from, versions, is_from, from_on, held_of, held_list, kept_with}
+use Rattle.kept_model.specs.declared.version.Version.{Version}
+use Rattle.kept_model.specs.Versions.{versions_in, versions_from, versions, is_from, from_on, held_of, held_list, kept_with}
 use Rattle.kept_model.specs.KeyLaws.{VersionsFromRevision, KeptHaveLater}
 use Rattle.kept_model.proofs.KeptProofs.{IsHeld, held_is_held}
 

@@ -10,7 +10,8 @@ use Rattle.store_model.specs.declared.history.KeyChange.{KeyChange}
 use Rattle.store_model.specs.declared.history.KeyChange.TheVariants.{Put, Delete}
 use Rattle.store_model.specs.History.{History, changed_key}
 use Rattle.store_model.specs.Records.{after_change, after_changes, after_revisions, record_now}
-use Rattle.kept_model.specs.Versions.{Version, versions_in, versions_from, versions, last_left, up_to, is_up_to}
+use Rattle.kept_model.specs.declared.version.Version.{Version}
+use Rattle.kept_model.specs.Versions.{versions_in, versions_from, versions, last_left, up_to, is_up_to}
 use Rattle.kept_model.specs.KeyLaws.{VersionsGiveRecords, VersionsGiveEarlier, VersionsGrow}
 
 -- reading
@@ -24,7 +25,7 @@ pub other_key : (revision : ℕ) (k : List ℕ) (c : KeyChange) (old : Option Kv
 other_key revision k (Put key value lease) old e = ap (λ (b : Bool). cond b (Some (after_put old k value lease revision)) old) e
 other_key revision k (Delete key) old e = ap (λ (b : Bool). cond b None old) e
 
-last_in : (revision : ℕ) (k : List ℕ) (cs : List KeyChange) (old : Option Kv) → last_left (versions_in revision k cs old) old ≡ after_changes revision k cs old
+pub last_in : (revision : ℕ) (k : List ℕ) (cs : List KeyChange) (old : Option Kv) → last_left (versions_in revision k cs old) old ≡ after_changes revision k cs old
 last_in revision k [] old = refl
 last_in revision k (c ∷ cs) old = by (λ o. last_in revision k cs o) (same (changed_key c) k) refl
   where

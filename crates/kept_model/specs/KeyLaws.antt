@@ -1,8 +1,9 @@
 -- What the versions of one key say of a history, and what the kept ones say.
-use Rattle.std.specs.Prelude.{◌≡◌, ◌≤◌, ℕ, ◌+◌, List, ◌++◌, length, take, drop, None}
+use Rattle.std.specs.Prelude.{◌≡◌, ◌≤◌, ℕ, ◌+◌, ◌-◌, List, [], ◌∷◌, ◌++◌, length, take, drop, None}
 use Rattle.store_model.specs.declared.history.KeyChange.{KeyChange}
 use Rattle.store_model.specs.History.{History, newest, with_revision}
 use Rattle.store_model.specs.Records.{record_now, record_at}
+use Rattle.kept_model.specs.Places.{changed_keys, kept_places}
 use Rattle.kept_model.specs.Versions.{versions, versions_in, versions_from, last_left, up_to, from_on, kept, kept_versions}
 
 -- the last version of a key is its record
@@ -43,6 +44,22 @@ KeptGrow =
     (h : History) (c : ℕ) (k : List ℕ) (made : List KeyChange) → c ≤ newest h
     → kept_versions (with_revision h made) c k ≡ kept_versions h c k ++ versions_in (newest h + 1) k made (last_left (kept_versions h c k) None)
 
+-- and so is each further change of the revision that a request is making
+abbrev pub KeptGrowByChange : Type 0
+KeptGrowByChange =
+    (h : History) (c : ℕ) (k : List ℕ) (made : List KeyChange) (change : KeyChange) → c ≤ newest h
+    → kept_versions (with_revision h (made ++ change ∷ [])) c k
+    ≡ kept_versions (with_revision h made) c k ++ versions_in (newest h + 1) k (change ∷ []) (last_left (kept_versions (with_revision h made) c k) None)
+
 -- and so is a later compaction
 abbrev pub KeptAgain : Type 0
 KeptAgain = (h : History) (c d : ℕ) (k : List ℕ) → c ≤ d → kept_versions h d k ≡ kept d (kept_versions h c k)
+
+-- the places grow behind, and a later compaction drops their front
+abbrev pub PlacesGrow : Type 0
+PlacesGrow =
+    (h : History) (c : ℕ) (d : KeyChange) (ds : List KeyChange) → c ≤ newest h
+    → kept_places (with_revision h (d ∷ ds)) c ≡ kept_places h c ++ changed_keys (d ∷ ds) ∷ []
+
+abbrev pub PlacesAgain : Type 0
+PlacesAgain = (h : History) (c d : ℕ) → c ≤ d → kept_places h d ≡ drop (d - 2 - (c - 2)) (kept_places h c)

@@ -3,5 +3,7 @@
 #![tactic(auto)]
 
 mod laws;
+mod version;
 
-pub use laws::{kept_versions_answer, kept_versions_step, versions_are_the_history};
+pub use laws::{kept_places_step, kept_versions_answer, kept_versions_step, versions_are_the_history, worked_compactions};
+pub use version::Version;
