@@ -1,0 +1,5 @@
+pub mod VersionProofs
+pub mod KeptProofs
+pub mod LaterProofs
+pub mod ChangeProofs
+pub mod PlaceProofs

@@ -1,0 +1,4 @@
+pub mod Versions
+pub mod Places
+pub mod KeyLaws
+pub mod Worked

@@ -1,0 +1,4 @@
+pub mod KeptPlaces
+pub mod Compacting
+pub mod EntryLemmas
+pub mod Listing
