@@ -85,13 +85,16 @@ abbrev pub refused_status : Refused → ℕ
 refused_status refused.Method = 405
 refused_status r = answer_status (refused_answer r)
 
+abbrev pub refused_body : Refused → List ℕ
+refused_body r = answer_text (refused_answer r)
+
 unfoldable pub refusal : Refused → List ℕ
-refusal r = reply (refused_status r) (answer_text (refused_answer r))
+refusal r = reply (refused_status r) (refused_body r)
 
 -- the refusal of a request with this method: the one of a HEAD has no body
 unfoldable pub refusal_to : List ℕ → Refused → List ℕ
 refusal_to method r =
-    if pointwise nat_eq method (codes "HEAD") then bodiless_reply (refused_status r) (answer_text (refused_answer r))
+    if pointwise nat_eq method (codes "HEAD") then bodiless_reply (refused_status r) (refused_body r)
     else refusal r
 
 abbrev pub of_decoded : Result Request ApiFault → Result Request Refused
