@@ -2,10 +2,11 @@ ghost use Rattle.std.specs.Prelude.{◌≡◌, [], Some};
 ghost use Rattle.serve_model.specs.Steps.{MadeBy, Fits};
 ghost use Rattle.serve_trial.specs.Alone.{told, IsWork};
 
-use crate::event::{CoreEvent, Outcome, StepFault, TurnFault};
 use crate::small::Core;
-use crate::turn::Turn;
+use core_model::{CoreEvent, Outcome, StepFault};
 use outside::{Clock, Machine};
+use proxy_server::Turn;
+use serve_model::TurnFault;
 use std::alloc::Global;
 use std::snapshot::Snapshot;
 

@@ -3,12 +3,11 @@ ghost use Rattle.turn_hub.specs.Known.{made};
 ghost use Rattle.serve_model.specs.Steps.{NoEvent};
 ghost use Rattle.serve_model.specs.Dialog.{Dialog};
 
-use crate::event::{CoreEvent, Outcome, SessionEnd, TurnFault};
-use crate::exchange::TicketRange;
-use crate::serve::serve_on;
 use crate::small::Core;
-use crate::turn::Turn;
-use outside::{Clock, Draw, Sink, Source};
+use core_model::{CoreEvent, Outcome};
+use outside::{Clock, Draw, Sink, Source, TicketRange};
+use proxy_server::{Turn, serve_on};
+use serve_model::{SessionEnd, TurnFault};
 use std::alloc::Global;
 use std::sync::Wait;
 use turn_hub::{Hub, HubFault, Pass};

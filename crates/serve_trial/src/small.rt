@@ -1,7 +1,7 @@
 ghost use Rattle.std.specs.Prelude.{◌≡◌};
 ghost use Rattle.serve_model.specs.Steps.{FitsAnswer};
 
-use crate::event::{CoreEvent, Outcome, StepFault};
+use core_model::{CoreEvent, Outcome, StepFault};
 use etcd_types::{Answer, Bytes, Refusal, Request};
 use outside::Machine;
 use std::alloc::Global;
@@ -54,11 +54,11 @@ impl Machine for Core {
                     Ok(Outcome::Pending)
                 }
             }
-            CoreEvent::Leave { .. } => Ok(Outcome::Noted),
             CoreEvent::Work => {
                 self.rested = true;
-                Ok(Outcome::Noted)
+                Ok(Outcome::Job(None))
             }
+            _ => Ok(Outcome::Noted),
         }
     }
 }
