@@ -41,7 +41,9 @@ fn wait_for<R: Wait, T: Turn, C: Clock>(
         match turn.turn(CoreEvent::Take { ticket }, clock) {
             Ok(Outcome::Replied(answer)) => return Ok(answer),
             Ok(Outcome::Pending) => {}
-            Ok(_) => unreachable!(),
+            Ok(Outcome::Waiting | Outcome::Item(_) | Outcome::Noted | Outcome::Job(_)) => {
+                unreachable!()
+            }
             Err(fault) => return Err(fault),
         }
     }
@@ -101,7 +103,9 @@ pub(crate) fn ask<R: Wait, T: Turn, C: Clock>(
             Ok(answer) => Ok(answer),
             Err(fault) => Err(leave(turn, clock, ticket, end_of(fault))),
         },
-        Ok(_) => unreachable!(),
+        Ok(Outcome::Pending | Outcome::Item(_) | Outcome::Noted | Outcome::Job(_)) => {
+            unreachable!()
+        }
         Err(fault) => Err(end_of(fault)),
     }
 }

@@ -52,12 +52,11 @@ pub record Rested (rests : CoreEvent → Type 0) (old new : Option (List Step)) 
   pub others : Every (λ e. rests e.event) steps
   pub none_own : Every (λ e. is_own e.event ≡ false) steps
 
--- which faults a core may answer to an event: beside those of each, a ticket that is in use to an Ask, and one that isn't
+-- which faults a core may answer to an event, where no ticket that is asked is in use: beside those of each, a ticket that isn't
 -- known to a Take or a Leave of it
 abbrev pub FitsFault : CoreEvent → StepFault → Type 0
 FitsFault event step.Worn = ⊤
 FitsFault event step.NoMemory = ⊤
-FitsFault (Ask ticket request word) (step.TicketUsed used) = used ≡ ticket
 FitsFault (Take ticket) (step.NoSuchTicket other) = other ≡ ticket
 FitsFault (Leave ticket) (step.NoSuchTicket other) = other ≡ ticket
 FitsFault (Answer call answer) (step.NoSuchCall other) = other ≡ call
