@@ -3,6 +3,7 @@ ghost use Rattle.serve_model.specs.Steps.{Step, Did};
 ghost use Rattle.serve_model.specs.Dialog.{Gone, Breaking, end_of, is_worn};
 ghost use Rattle.serve_model.specs.Numbers.{Asked, AsksOne};
 ghost use Rattle.serve_model.specs.Parts.{Waits, Asks};
+ghost use Rattle.proxy_server.specs.Causes.{IsOfSteps};
 
 use crate::turn::Turn;
 use core_model::{CoreEvent, Outcome, StepFault};
@@ -15,6 +16,7 @@ use std::sync::Wait;
 fn end_of(fault: TurnFault) -> SessionEnd
     ensures is { result ≡ end_of fault }
     ensures breaking { Breaking result }
+    ensures steps { IsOfSteps result }
 {
     match fault {
         TurnFault::Core(StepFault::NoSuchTicket(ticket)) => SessionEnd::TicketTaken(ticket),
@@ -61,6 +63,7 @@ fn is_worn(answer: &Result<Outcome, TurnFault>) -> bool
 fn leave<T: Turn, C: Clock>(turn: &mut T, clock: &mut C, ticket: u64, end: SessionEnd) -> SessionEnd
     ensures home { T.home turn.new ≡ T.home turn.old }
     ensures breaking { Breaking end → Breaking result }
+    ensures steps { IsOfSteps end → IsOfSteps result }
     ensures quiet { Asked (T.made turn.old) (T.made turn.new) [] }
     ensures left { (tail : List Step) × Gone ticket end result tail × Did T.rests (T.made turn.old) (T.made turn.new) tail }
 {
@@ -89,6 +92,7 @@ pub(crate) fn ask<R: Wait, T: Turn, C: Clock>(
 ) -> Result<Answer, SessionEnd>
     ensures home { T.home turn.new ≡ T.home turn.old }
     ensures breaking { IfErr result Breaking }
+    ensures steps { IfErr result IsOfSteps }
     ensures one { AsksOne ticket word (T.made turn.old) (T.made turn.new) result }
     ensures asks { Asks T.rests request (T.made turn.old) (T.made turn.new) result }
 {

@@ -1,4 +1,4 @@
-ghost use Rattle.std.specs.Prelude.{◌≡◌, ◌≤◌, None, Some, IfNone, IfSome, IfErr, IsErrOf};
+ghost use Rattle.std.specs.Prelude.{◌≡◌, ◌≤◌, None, IfNone, IfSome, IfErr, IsErrOf};
 ghost use Rattle.outside.specs.Faults.{Rose};
 ghost use Rattle.http_wire.specs.Connections.{bytes_ahead};
 ghost use Rattle.http_wire.specs.Written.{Writes};
@@ -36,6 +36,7 @@ fn tell<K: Sink>(alloc: Global, sink: &mut K, answer: &Answer) -> Result<(), Wir
 }
 
 /// Steps for a request, and writes its reply.
+#[tactic(auto, using(crate::proofs::Causes::steps_write_nothing))]
 fn respond<R: Wait, T: Turn, K: Sink, C: Clock, D: Draw>(
     rt: &R,
     alloc: Global,
@@ -49,7 +50,7 @@ fn respond<R: Wait, T: Turn, K: Sink, C: Clock, D: Draw>(
 ) -> Option<SessionEnd>
     ensures home { T.home turn.new ≡ T.home turn.old }
     ensures breaking { IfSome result Breaking }
-    ensures cause { result ≡ Some SessionEnd.WriteFault → Rose (K.faults sink.old) (K.faults sink.new) }
+    ensures cause { IfSome result (λ end. end ≡ SessionEnd.WriteFault → Rose (K.faults sink.old) (K.faults sink.new)) }
     ensures kept { K.faults sink.old ≤ K.faults sink.new }
     ensures numbered { NumberedSo tickets.old.next tickets.new.next (D.given draw.old) (D.given draw.new) (T.made turn.old) (T.made turn.new) result }
     ensures responds { Responds T.rests method.now (Right request) (T.made turn.old) (T.made turn.new) (K.written sink.old) (K.written sink.new) result }
@@ -82,7 +83,7 @@ fn answer<R: Wait, T: Turn, K: Sink, C: Clock, D: Draw>(
 ) -> Option<SessionEnd>
     ensures home { T.home turn.new ≡ T.home turn.old }
     ensures breaking { IfSome result Breaking }
-    ensures cause { result ≡ Some SessionEnd.WriteFault → Rose (K.faults sink.old) (K.faults sink.new) }
+    ensures cause { IfSome result (λ end. end ≡ SessionEnd.WriteFault → Rose (K.faults sink.old) (K.faults sink.new)) }
     ensures kept { K.faults sink.old ≤ K.faults sink.new }
     ensures numbered { NumberedSo tickets.old.next tickets.new.next (D.given draw.old) (D.given draw.new) (T.made turn.old) (T.made turn.new) result }
     ensures responds { Responds T.rests received.now.head.method (asked_of received.now.head received.now.body) (T.made turn.old) (T.made turn.new) (K.written sink.old) (K.written sink.new) result }
@@ -108,6 +109,7 @@ fn answer<R: Wait, T: Turn, K: Sink, C: Clock, D: Draw>(
 }
 
 /// Reads the next request and answers it. None where the connection goes on.
+#[tactic(auto, using(crate::proofs::Causes::breaks_read_nothing))]
 pub(crate) fn exchange<R: Wait, T: Turn, S: Source, K: Sink, C: Clock, D: Draw>(
     rt: &R,
     alloc: Global,
@@ -122,8 +124,8 @@ pub(crate) fn exchange<R: Wait, T: Turn, S: Source, K: Sink, C: Clock, D: Draw>(
     requires sound { wire.old.fault ≡ None }
     ensures home { T.home turn.new ≡ T.home turn.old }
     ensures sound { IfNone result (wire.new.fault ≡ None) }
-    ensures read_cause { result ≡ Some SessionEnd.ReadFault → Rose (S.faults source.old) (S.faults source.new) }
-    ensures write_cause { result ≡ Some SessionEnd.WriteFault → Rose (K.faults sink.old) (K.faults sink.new) }
+    ensures read_cause { IfSome result (λ end. end ≡ SessionEnd.ReadFault → Rose (S.faults source.old) (S.faults source.new)) }
+    ensures write_cause { IfSome result (λ end. end ≡ SessionEnd.WriteFault → Rose (K.faults sink.old) (K.faults sink.new)) }
     ensures reads { S.faults source.old ≤ S.faults source.new }
     ensures writes { K.faults sink.old ≤ K.faults sink.new }
     ensures numbered { NumberedSo tickets.old.next tickets.new.next (D.given draw.old) (D.given draw.new) (T.made turn.old) (T.made turn.new) result }

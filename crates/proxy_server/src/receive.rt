@@ -1,4 +1,4 @@
-ghost use Rattle.std.specs.Prelude.{◌≡◌, ◌≤◌, None, OnOk, IsErrOf, MatchBool};
+ghost use Rattle.std.specs.Prelude.{◌≡◌, ◌≤◌, None, OnOk, IfErr, IsErrOf, MatchBool};
 ghost use Rattle.outside.specs.Faults.{Rose};
 ghost use Rattle.std.specs.Io.KnownBytes.{Keeps};
 ghost use Rattle.outside.specs.Streams.{WritesFront};
@@ -19,6 +19,8 @@ pub(crate) fn end_by(fault: WireFault) -> SessionEnd
     ensures is { result ≡ end_by fault }
     ensures breaking { IsOfWriting fault → spec.Breaking result }
     ensures untold { IsOfWriting fault → spec.IsUntold result }
+    ensures reading { result ≡ SessionEnd.ReadFault → fault ≡ WireFault.ReadFault }
+    ensures writing { result ≡ SessionEnd.WriteFault → fault ≡ WireFault.WriteFault }
 {
     match fault {
         WireFault::ReadFault => SessionEnd::ReadFault,
@@ -72,8 +74,8 @@ pub(crate) fn receive<S: Source, K: Sink>(
 ) -> Result<Received, SessionEnd>
     requires sound { wire.old.fault ≡ None }
     ensures sound { OnOk result (wire.new.fault ≡ None) }
-    ensures read_cause { IsErrOf result SessionEnd.ReadFault → Rose (S.faults source.old) (S.faults source.new) }
-    ensures write_cause { IsErrOf result SessionEnd.WriteFault → Rose (K.faults sink.old) (K.faults sink.new) }
+    ensures read_cause { IfErr result (λ end. end ≡ SessionEnd.ReadFault → Rose (S.faults source.old) (S.faults source.new)) }
+    ensures write_cause { IfErr result (λ end. end ≡ SessionEnd.WriteFault → Rose (K.faults sink.old) (K.faults sink.new)) }
     ensures reads { S.faults source.old ≤ S.faults source.new }
     ensures writes { K.faults sink.old ≤ K.faults sink.new }
     ensures gets { Gets (bytes_ahead (S.left source.old) wire.old) (bytes_ahead (S.left source.new) wire.new) (K.written sink.old) (K.written sink.new) result }
