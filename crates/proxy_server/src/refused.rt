@@ -130,7 +130,7 @@ fn refusal(alloc: Global, refused: &Refused) -> Result<(u16, Bytes), NoMemory>
     let (status, body) = encode_reply(alloc, &answer)?;
     match refused {
         Refused::Method => Ok((405, body)),
-        _ => Ok((status, body)),
+        Refused::Bytes | Refused::Encoding | Refused::Request(_) => Ok((status, body)),
     }
 }
 

@@ -58,7 +58,12 @@ impl Machine for Core {
                 self.rested = true;
                 Ok(Outcome::Job(None))
             }
-            _ => Ok(Outcome::Noted),
+            CoreEvent::Answer { .. }
+            | CoreEvent::Lost { .. }
+            | CoreEvent::Tick { .. }
+            | CoreEvent::Item { .. }
+            | CoreEvent::Cut { .. }
+            | CoreEvent::Leave { .. } => Ok(Outcome::Noted),
         }
     }
 }
