@@ -16,7 +16,6 @@ use std::sync::{Arc, Wait};
 use std::time::Duration;
 
 // What both ends of a connection share. The two are used by one thread at a time.
-#[derive(Drop)]
 struct Shared {
     stream: TcpStream,
     // when the first byte since the last write came, in milliseconds, or 0 where none did
@@ -34,6 +33,20 @@ impl Shared {
         if self.holds.swap(0, SeqCst) == 1 {
             self.permits.give();
         }
+    }
+}
+
+// A permit that is still held is given back.
+impl Drop for Shared {
+    fn drop(self) {
+        self.release();
+        let Shared {
+            stream: _stream,
+            began: _,
+            came: _,
+            holds: _,
+            permits: _permits,
+        } = self;
     }
 }
 
