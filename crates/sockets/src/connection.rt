@@ -165,9 +165,7 @@ impl<R: Wait + Times + Drop> Source for SocketSource<R> {
         };
         let there = match looked {
             Ok(count) => count > 0,
-            Err(error) => {
-                matches!(error.kind(), ErrorKind::WouldBlock | ErrorKind::Interrupted)
-            }
+            Err(error) => { matches!(error.kind(), ErrorKind::WouldBlock | ErrorKind::Interrupted) }
         };
         if there && stream.set_nonblocking(false).is_ok() {
             return Ok(());

@@ -2,13 +2,11 @@ ghost use Rattle.std.specs.Prelude.{None};
 
 use etcd_types::Bytes;
 use outside::{Failed, Host};
-use std::io;
 use std::net::{Net, TcpListener, TcpStream};
 use std::rt::Clock as Times;
-use std::str;
 use std::sync::Wait;
-use std::thread;
 use std::time::Duration;
+use std::{io, str, thread};
 
 /// How long is paused after an accept that failed in passing, in milliseconds.
 const PAUSE: u64 = 10;
@@ -61,7 +59,8 @@ fn accepted<R: Wait + Times>(rt: &R, listener: &TcpListener) -> io::Result<TcpSt
     unreachable!()
 }
 
-impl<R: Net<Listener = TcpListener, Stream = TcpStream> + Wait + Times + Drop> Host for SocketHost<R> {
+impl<R: Net<Listener = TcpListener, Stream = TcpStream> + Wait + Times + Drop> Host
+    for SocketHost<R> {
     type Conn = TcpStream;
 
     ghost made = { λ h. None };

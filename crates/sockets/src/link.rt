@@ -186,7 +186,12 @@ impl<R: Net<Stream = TcpStream> + Times + Drop> Link for SocketLink<R> {
     }
 
     /// A stream fails where it is silent for longer than its limit.
-    fn begin(&mut self, alloc: Global, member: u32, call: &[u8]) -> Result<AnswerStream, LinkFault> {
+    fn begin(
+        &mut self,
+        alloc: Global,
+        member: u32,
+        call: &[u8],
+    ) -> Result<AnswerStream, LinkFault> {
         let limit = Duration::from_millis(self.limits.silence.max(1));
         if let Some(start) = time(&self.rt) {
             if let Some(stream) = self.begun(member, call, start, self.limits.read) {

@@ -26,7 +26,11 @@ impl Permits {
         for _ in rt.forever() {
             let free = self.free.load(SeqCst);
             if free > 0 {
-                if self.free.compare_exchange(free, free - 1, SeqCst, SeqCst).is_ok() {
+                if self
+                    .free
+                    .compare_exchange(free, free - 1, SeqCst, SeqCst)
+                    .is_ok()
+                {
                     return true;
                 }
             } else {
