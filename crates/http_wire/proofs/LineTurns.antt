@@ -5,7 +5,6 @@ use Rattle.std.specs.Io.KnownBytes.{prepend_known}
 use Rattle.httparse.specs.Ascii.{line_feed}
 use Rattle.http_wire.specs.declared.fault.WireFault.{WireFault}
 use Rattle.http_wire.specs.declared.fault.WireFault.TheVariants.{BadHead, HeadTooLong, BodyTooLong, BadChunk, EndedEarly, ReadFault, WriteFault, NoMemory}
-use Rattle.http_wire.specs.declared.limits.TheConstants.{LINE_LIMIT}
 use Rattle.http_wire.specs.declared.message.Framing.{Framing}
 use Rattle.http_wire.specs.declared.body.Next.{Next}
 use Rattle.http_wire.specs.declared.body.Next.TheVariants as next
@@ -43,16 +42,16 @@ unfinished_append (x ∷ xs) ys h k =
 
 -- ---- faults
 
-line_broken : (f g : Framing) (before now all rest : List ℕ) (fault : WireFault) → IsShort fault → Breaks (content None f all) fault
-    → LineTurn f g before now all rest (Err fault)
-line_broken f g before now all rest BadHead short breaks = breaks
-line_broken f g before now all rest HeadTooLong short breaks = breaks
-line_broken f g before now all rest BodyTooLong short breaks = absurd short
-line_broken f g before now all rest BadChunk short breaks = breaks
-line_broken f g before now all rest EndedEarly short breaks = breaks
-line_broken f g before now all rest ReadFault short breaks = breaks
-line_broken f g before now all rest WriteFault short breaks = breaks
-line_broken f g before now all rest NoMemory short breaks = breaks
+line_broken : (most : ℕ) (f g : Framing) (before now all rest : List ℕ) (fault : WireFault) → IsShort fault → Breaks (content None f all) fault
+    → LineTurn most f g before now all rest (Err fault)
+line_broken most f g before now all rest BadHead short breaks = breaks
+line_broken most f g before now all rest HeadTooLong short breaks = breaks
+line_broken most f g before now all rest BodyTooLong short breaks = absurd short
+line_broken most f g before now all rest BadChunk short breaks = breaks
+line_broken most f g before now all rest EndedEarly short breaks = breaks
+line_broken most f g before now all rest ReadFault short breaks = breaks
+line_broken most f g before now all rest WriteFault short breaks = breaks
+line_broken most f g before now all rest NoMemory short breaks = breaks
 
 over_none : (n : Next) → over None n ≡ false
 over_none (next.Counted n) = refl
@@ -66,13 +65,13 @@ cut_content f (next.Chunk m) all mid fault read cut = subst (λ (c : Content). B
 cut_content f next.ToEnd all mid fault read cut = subst (λ (c : Content). Breaks c fault) (sym (read None)) (cut None refl)
 cut_content f next.Done all mid fault read cut = λ of_bytes. absurd (cut None refl of_bytes).1
 
-pub turn_cut : (f g : Framing) (n : Next) (before now : List ℕ) (fault : WireFault) (a m r : Option (List ℕ)) → ReadsAhead (NextRead f) a m (Ok n)
-    → KnownAhead (λ all. Readied n all (Err fault)) m r → IsShort fault → ReadsAhead (LineTurn f g before now) a r (Err fault)
-turn_cut f g n before now fault None m r read cut short = tt
-turn_cut f g n before now fault (Some all) None r read cut short = absurd read
-turn_cut f g n before now fault (Some all) (Some mid) None read cut short = absurd cut
-turn_cut f g n before now fault (Some all) (Some mid) (Some rest) read cut short =
-    line_broken f g before now all rest fault short (cut_content f n all mid fault read cut.1)
+pub turn_cut : (most : ℕ) (f g : Framing) (n : Next) (before now : List ℕ) (fault : WireFault) (a m r : Option (List ℕ)) → ReadsAhead (NextRead f) a m (Ok n)
+    → KnownAhead (λ all. Readied n all (Err fault)) m r → IsShort fault → ReadsAhead (LineTurn most f g before now) a r (Err fault)
+turn_cut most f g n before now fault None m r read cut short = tt
+turn_cut most f g n before now fault (Some all) None r read cut short = absurd read
+turn_cut most f g n before now fault (Some all) (Some mid) None read cut short = absurd cut
+turn_cut most f g n before now fault (Some all) (Some mid) (Some rest) read cut short =
+    line_broken most f g before now all rest fault short (cut_content f n all mid fault read cut.1)
 
 -- ---- at the end
 
@@ -92,16 +91,16 @@ last_content f (next.Chunk m) all mid read none claim = absurd (omega arith)
 last_content f next.ToEnd all mid read none claim = (over_only (content None f all) mid (read None ∙ none None), none None)
 last_content f next.Done all mid read none claim = ((sym (read None).0, (read None).1), refl)
 
-pub turn_last : (f : Framing) (n : Next) (count : ℕ) (before : List ℕ) (a m r : Option (List ℕ)) → ReadsAhead (NextRead f) a m (Ok n)
-    → KnownAhead (λ all. Readied n all (Ok count)) m r → count ≡ 0 → Claims n count → ReadsAhead (LineTurn f (ended n) before before) a r (Ok turn.Last)
+pub turn_last : (most : ℕ) (f : Framing) (n : Next) (count : ℕ) (before : List ℕ) (a m r : Option (List ℕ)) → ReadsAhead (NextRead f) a m (Ok n)
+    → KnownAhead (λ all. Readied n all (Ok count)) m r → count ≡ 0 → Claims n count → ReadsAhead (LineTurn most f (ended n) before before) a r (Ok turn.Last)
 unfolding IsOver
-turn_last f n count before None m r read none is claim = tt
-turn_last f n count before (Some all) None r read none is claim = absurd read
-turn_last f n count before (Some all) (Some mid) None read none is claim = absurd none
-turn_last f n (suc k) before (Some all) (Some mid) (Some rest) read none is claim = absurd (omega arith)
-turn_last f n zero before (Some all) (Some mid) (Some rest) read none is claim =
+turn_last most f n count before None m r read none is claim = tt
+turn_last most f n count before (Some all) None r read none is claim = absurd read
+turn_last most f n count before (Some all) (Some mid) None read none is claim = absurd none
+turn_last most f n (suc k) before (Some all) (Some mid) (Some rest) read none is claim = absurd (omega arith)
+turn_last most f n zero before (Some all) (Some mid) (Some rest) read none is claim =
     let last = last_content f n all mid read none.1 claim in
-    subst (λ (l : List ℕ). LineTurn f (ended n) before before all l (Ok turn.Last)) (sym none.0)
+    subst (λ (l : List ℕ). LineTurn most f (ended n) before before all l (Ok turn.Last)) (sym none.0)
     (refl, record { bytes = last.0.0; unfinished = refl; end = last.0.1; left_is = last.1 })
 
 -- ---- a piece
@@ -121,24 +120,24 @@ piece_is turn.Whole count bytes h = (h.1, h.2)
 piece_is turn.More count bytes h = (omega arith, h.1)
 piece_is turn.Last count bytes h = absurd h
 
-line_piece : (f g : Framing) (t : Turn) (before now piece all rest : List ℕ) → now ≡ before ++ piece → IsPiece t piece
-    → content None f all ≡ after piece (content None g rest) → LineTurn f g before now all rest (Ok t)
-line_piece f g turn.Whole before now piece all rest is known e = (piece, is, known, e)
-line_piece f g turn.More before now piece all rest is known e = (piece, is, known, e)
-line_piece f g turn.Last before now piece all rest is known e = absurd known
+line_piece : (most : ℕ) (f g : Framing) (t : Turn) (before now piece all rest : List ℕ) → now ≡ before ++ piece → IsPiece t piece
+    → content None f all ≡ after piece (content None g rest) → LineTurn most f g before now all rest (Ok t)
+line_piece most f g turn.Whole before now piece all rest is known e = (piece, is, known, e)
+line_piece most f g turn.More before now piece all rest is known e = (piece, is, known, e)
+line_piece most f g turn.Last before now piece all rest is known e = absurd known
 
-pub turn_piece : (f : Framing) (n : Next) (t : Turn) (ready count : ℕ) (before now held : List ℕ) (a m b : Option (List ℕ)) → ReadsAhead (NextRead f) a m (Ok n)
+pub turn_piece : (most : ℕ) (f : Framing) (n : Next) (t : Turn) (ready count : ℕ) (before now held : List ℕ) (a m b : Option (List ℕ)) → ReadsAhead (NextRead f) a m (Ok n)
     → KnownAhead (λ all. Readied n all (Ok ready)) m (prepend_known held b) → Claims n ready → 0 < ready → ready ≤ length held
     → LineIn (take ready held) (count, t) → now ≡ before ++ take count held
-    → ReadsAhead (LineTurn f (spent n count) before now) a (prepend_known (drop count held) b) (Ok t)
-turn_piece f n t ready count before now held None m b read known claim some fits line is = tt
-turn_piece f n t ready count before now held (Some all) None b read known claim some fits line is = absurd read
-turn_piece f n t ready count before now held (Some all) (Some mid) None read known claim some fits line is = absurd known
-turn_piece f n t ready count before now held (Some all) (Some mid) (Some left) read known claim some fits line is =
+    → ReadsAhead (LineTurn most f (spent n count) before now) a (prepend_known (drop count held) b) (Ok t)
+turn_piece most f n t ready count before now held None m b read known claim some fits line is = tt
+turn_piece most f n t ready count before now held (Some all) None b read known claim some fits line is = absurd read
+turn_piece most f n t ready count before now held (Some all) (Some mid) None read known claim some fits line is = absurd known
+turn_piece most f n t ready count before now held (Some all) (Some mid) (Some left) read known claim some fits line is =
     let piece = piece_is t count (take ready held) line in
     let few : count ≤ ready = omega (arith, piece.0, length-take ready held) in
     let same : take count (take ready held) ≡ take count held = take-take count ready held few in
-    line_piece f (spent n count) t before now (take count held) all (drop count held ++ left)
+    line_piece most f (spent n count) t before now (take count held) all (drop count held ++ left)
     is (subst (IsPiece t) same piece.1)
     (piece_content f n ready count held all mid left read known.1 claim some few fits known.0)
 
@@ -152,14 +151,14 @@ unfinished_front turn.Whole k piece known h =
 unfinished_front turn.More k piece known h = unfinished_take k piece known
 unfinished_front turn.Last k piece known h = absurd known
 
-pub turn_long : (f g : Framing) (n : Next) (t : Turn) (ready count : ℕ) (before now held : List ℕ) (a m b : Option (List ℕ)) → ReadsAhead (NextRead f) a m (Ok n)
+pub turn_long : (most : ℕ) (f g : Framing) (n : Next) (t : Turn) (ready count : ℕ) (before now held : List ℕ) (a m b : Option (List ℕ)) → ReadsAhead (NextRead f) a m (Ok n)
     → KnownAhead (λ all. Readied n all (Ok ready)) m (prepend_known held b) → Claims n ready → 0 < ready → ready ≤ length held
-    → LineIn (take ready held) (count, t) → LINE_LIMIT - length before < count → length before ≤ LINE_LIMIT
-    → ReadsAhead (LineTurn f g before now) a (prepend_known held b) (Err BodyTooLong)
-turn_long f g n t ready count before now held None m b read known claim some fits line long room = tt
-turn_long f g n t ready count before now held (Some all) None b read known claim some fits line long room = absurd read
-turn_long f g n t ready count before now held (Some all) (Some mid) None read known claim some fits line long room = absurd known
-turn_long f g n t ready count before now held (Some all) (Some mid) (Some left) read known claim some fits line long room =
+    → LineIn (take ready held) (count, t) → most - length before < count → length before ≤ most
+    → ReadsAhead (LineTurn most f g before now) a (prepend_known held b) (Err BodyTooLong)
+turn_long most f g n t ready count before now held None m b read known claim some fits line long room = tt
+turn_long most f g n t ready count before now held (Some all) None b read known claim some fits line long room = absurd read
+turn_long most f g n t ready count before now held (Some all) (Some mid) None read known claim some fits line long room = absurd known
+turn_long most f g n t ready count before now held (Some all) (Some mid) (Some left) read known claim some fits line long room =
     let piece = piece_is t count (take ready held) line in
     let few : count ≤ ready = omega (arith, piece.0, length-take ready held) in
     let same : take count (take ready held) ≡ take count held = take-take count ready held few in
@@ -169,5 +168,5 @@ turn_long f g n t ready count before now held (Some all) (Some mid) (Some left) 
       content None (spent n count) (drop count held ++ left),
       piece_content f n ready count held all mid left read known.1 claim some few fits known.0,
       omega arith,
-      unfinished_front t (LINE_LIMIT - length before) (take count held) is_piece (omega arith),
+      unfinished_front t (most - length before) (take count held) is_piece (omega arith),
     )

@@ -9,7 +9,7 @@ use Rattle.http_wire.specs.declared.message.Framing.{Framing}
 use Rattle.http_wire.specs.declared.message.Framing.TheVariants.{Length, Chunks, ToEnd}
 use Rattle.http_wire.specs.declared.scan.Ending.{Ending}
 use Rattle.http_wire.specs.declared.scan.Ending.TheVariants as ending
-use Rattle.http_wire.specs.declared.limits.TheConstants.{HEAD_LIMIT, BODY_LIMIT, LINE_LIMIT}
+use Rattle.http_wire.specs.declared.limits.TheConstants.{HEAD_LIMIT, BODY_LIMIT}
 use Rattle.http_wire.specs.Ends.{trailer_end}
 use Rattle.http_wire.specs.Sizes.{size_of}
 use Rattle.http_wire.specs.Heads.{IsTrailer}
@@ -109,10 +109,14 @@ is_of_bytes _ = true
 
 -- ---- a whole body
 
+-- a body of at most so many bytes, and what follows it
+abbrev pub WholeRead : ℕ → Framing → List ℕ → List ℕ → Result (List ℕ) WireFault → Type 0
+WholeRead most f all rest (Ok body) = (body ≡ (content (Some most) f all).bytes) × IsEnd (content (Some most) f all).end rest
+WholeRead most f all rest (Err fault) = IsTrue (is_of_bytes fault) → IsBroken (content (Some most) f all).end fault
+
 -- the body of a request, and what follows it
 abbrev pub BodyRead : Framing → List ℕ → List ℕ → Result (List ℕ) WireFault → Type 0
-BodyRead f all rest (Ok body) = (body ≡ (content (Some BODY_LIMIT) f all).bytes) × IsEnd (content (Some BODY_LIMIT) f all).end rest
-BodyRead f all rest (Err fault) = IsTrue (is_of_bytes fault) → IsBroken (content (Some BODY_LIMIT) f all).end fault
+BodyRead f all rest result = WholeRead BODY_LIMIT f all rest result
 
 -- ---- a line of a body
 
@@ -132,15 +136,15 @@ pub record IsLast (c : Content) (line rest : List ℕ) (left : Content) : Type 0
   pub left_is : left ≡ only (Ended rest)
 
 -- The next line of a body, and the framing that says how it goes on: the first bytes up to a line feed, or all there are
--- where none comes. None is the body's end.
-abbrev pub LineRead : Framing → List ℕ → Framing → List ℕ → Result (Option (List ℕ)) WireFault → Type 0
-LineRead f all g rest (Ok (Some line)) =
-    (length line ≤ LINE_LIMIT)
+-- where none comes. None is the body's end. A line has at most so many bytes.
+abbrev pub LineRead : ℕ → Framing → List ℕ → Framing → List ℕ → Result (Option (List ℕ)) WireFault → Type 0
+LineRead most f all g rest (Ok (Some line)) =
+    (length line ≤ most)
     × ((IsLine line × (content None f all ≡ after line (content None g rest)))
     ⊎ ((0 < length line) × IsLast (content None f all) line rest (content None g rest)))
-LineRead f all g rest (Ok None) = IsLast (content None f all) [] rest (content None g rest)
-LineRead f all g rest (Err BodyTooLong) =
-    (LINE_LIMIT < length (content None f all).bytes) × IsTrue (is_unfinished (take LINE_LIMIT (content None f all).bytes))
-LineRead f all g rest (Err fault) =
-    IsTrue (is_of_bytes fault) → (length (content None f all).bytes ≤ LINE_LIMIT)
+LineRead most f all g rest (Ok None) = IsLast (content None f all) [] rest (content None g rest)
+LineRead most f all g rest (Err BodyTooLong) =
+    (most < length (content None f all).bytes) × IsTrue (is_unfinished (take most (content None f all).bytes))
+LineRead most f all g rest (Err fault) =
+    IsTrue (is_of_bytes fault) → (length (content None f all).bytes ≤ most)
     × IsTrue (is_unfinished (content None f all).bytes) × IsBroken (content None f all).end fault

@@ -9,7 +9,6 @@ use Rattle.http_wire.specs.declared.body.Next.TheVariants as next
 use Rattle.http_wire.specs.declared.lines.Turn.{Turn}
 use Rattle.http_wire.specs.declared.lines.Turn.TheVariants as turn
 use Rattle.http_wire.specs.Bodies.{Content, Ended, only, after, exceeds, content, lessened, chunked, InLine, InData, sized, trailed, IsEnd, IsBroken, is_of_bytes, is_unfinished, IsLine, IsLast, LineRead}
-use Rattle.http_wire.specs.declared.limits.TheConstants.{BODY_LIMIT, LINE_LIMIT}
 use Rattle.http_wire.specs.Ends.{trailer_end}
 
 -- what a body that goes on so is
@@ -107,23 +106,23 @@ Claims (next.Chunk n) count = (0 < count) × (count ≤ n)
 Claims next.ToEnd count = ⊤
 Claims next.Done count = count ≡ 0
 
--- one turn at a whole body: more of it stands behind what was read before, or it ends, or it breaks off
-abbrev pub BodyTurn : Framing → Framing → List ℕ → List ℕ → List ℕ → List ℕ → Result Bool WireFault → Type 0
-BodyTurn f g before now all rest (Ok true) =
+-- one turn at a whole body of at most so many bytes: more of it stands behind what was read before, or it ends, or it breaks off
+abbrev pub BodyTurn : ℕ → Framing → Framing → List ℕ → List ℕ → List ℕ → List ℕ → Result Bool WireFault → Type 0
+BodyTurn most f g before now all rest (Ok true) =
     (piece : List ℕ) × (now ≡ before ++ piece)
-    × (content (Some (BODY_LIMIT - length before)) f all ≡ after piece (content (Some (BODY_LIMIT - length now)) g rest))
-BodyTurn f g before now all rest (Ok false) =
-    (now ≡ before) × ((content (Some (BODY_LIMIT - length before)) f all).bytes ≡ [])
-    × IsEnd (content (Some (BODY_LIMIT - length before)) f all).end rest
-BodyTurn f g before now all rest (Err fault) =
-    IsTrue (is_of_bytes fault) → IsBroken (content (Some (BODY_LIMIT - length before)) f all).end fault
+    × (content (Some (most - length before)) f all ≡ after piece (content (Some (most - length now)) g rest))
+BodyTurn most f g before now all rest (Ok false) =
+    (now ≡ before) × ((content (Some (most - length before)) f all).bytes ≡ [])
+    × IsEnd (content (Some (most - length before)) f all).end rest
+BodyTurn most f g before now all rest (Err fault) =
+    IsTrue (is_of_bytes fault) → IsBroken (content (Some (most - length before)) f all).end fault
 
 -- what was read of a body so far, and how the rest of it is read
-abbrev pub Pends : Framing → Option (List ℕ) → List ℕ → Framing → Option (List ℕ) → Type 0
-Pends f None body g now = ⊤
-Pends f (Some all) body g None = ⊥
-Pends f (Some all) body g (Some rest) =
-    content (Some BODY_LIMIT) f all ≡ after body (content (Some (BODY_LIMIT - length body)) g rest)
+abbrev pub Pends : ℕ → Framing → Option (List ℕ) → List ℕ → Framing → Option (List ℕ) → Type 0
+Pends most f None body g now = ⊤
+Pends most f (Some all) body g None = ⊥
+Pends most f (Some all) body g (Some rest) =
+    content (Some most) f all ≡ after body (content (Some (most - length body)) g rest)
 
 -- ---- lines
 
@@ -146,16 +145,16 @@ IsPiece turn.Whole piece = IsLine piece
 IsPiece turn.More piece = IsTrue (is_unfinished piece)
 IsPiece turn.Last piece = ⊥
 
--- one turn at a line: a piece of it stands behind what was read before, or the body ends, or it breaks off
-abbrev pub LineTurn : Framing → Framing → List ℕ → List ℕ → List ℕ → List ℕ → Result Turn WireFault → Type 0
-LineTurn f g before now all rest (Ok turn.Last) =
+-- one turn at a line of at most so many bytes: a piece of it stands behind what was read before, or the body ends, or it breaks off
+abbrev pub LineTurn : ℕ → Framing → Framing → List ℕ → List ℕ → List ℕ → List ℕ → Result Turn WireFault → Type 0
+LineTurn most f g before now all rest (Ok turn.Last) =
     (now ≡ before) × IsLast (content None f all) [] rest (content None g rest)
-LineTurn f g before now all rest (Ok turn) =
+LineTurn most f g before now all rest (Ok turn) =
     (piece : List ℕ) × (now ≡ before ++ piece) × IsPiece turn piece × (content None f all ≡ after piece (content None g rest))
-LineTurn f g before now all rest (Err BodyTooLong) =
-    (piece : List ℕ) × (c : Content) × (content None f all ≡ after piece c) × (LINE_LIMIT < length before + length piece)
-    × IsTrue (is_unfinished (take (LINE_LIMIT - length before) piece))
-LineTurn f g before now all rest (Err fault) = Breaks (content None f all) fault
+LineTurn most f g before now all rest (Err BodyTooLong) =
+    (piece : List ℕ) × (c : Content) × (content None f all ≡ after piece c) × (most < length before + length piece)
+    × IsTrue (is_unfinished (take (most - length before) piece))
+LineTurn most f g before now all rest (Err fault) = Breaks (content None f all) fault
 
 -- what was read of a line so far, which has no end yet, and how the rest of the body is read
 abbrev pub LinePends : Framing → Option (List ℕ) → List ℕ → Framing → Option (List ℕ) → Type 0
@@ -165,5 +164,5 @@ LinePends f (Some all) line g (Some rest) =
     IsTrue (is_unfinished line) × (content None f all ≡ after line (content None g rest))
 
 -- what is read of the bytes ahead as a line
-abbrev pub NextLine : Framing → Framing → List ℕ → List ℕ → Result (Option (List ℕ)) WireFault → Type 0
-NextLine f g all rest r = LineRead f all g rest r
+abbrev pub NextLine : ℕ → Framing → Framing → List ℕ → List ℕ → Result (Option (List ℕ)) WireFault → Type 0
+NextLine most f g all rest r = LineRead most f all g rest r

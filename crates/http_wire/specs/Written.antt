@@ -1,5 +1,5 @@
 -- What is written: replies, chunks and calls (RFC 9112).
-use Rattle.std.specs.Prelude.{ℕ, List, [], ◌∷◌, length, false, if◌then◌else◌, ◌==◌, codes, Option, Result, Ok, Err}
+use Rattle.std.specs.Prelude.{ℕ, List, [], ◌∷◌, ◌++◌, length, false, if◌then◌else◌, ◌==◌, codes, Option, Result, Ok, Err}
 use Rattle.std.specs.List.{concat}
 use Rattle.std.specs.Fmt.{decimal, digits}
 use Rattle.std.specs.Io.KnownBytes.{Appends, Keeps}
@@ -25,13 +25,21 @@ phrase status =
     else if status == 504 then codes "Gateway Timeout"
     else []
 
--- a reply with its length
-abbrev pub reply : ℕ → List ℕ → List ℕ
-reply status body = concat (
+-- the head of a reply whose body has so many bytes
+abbrev pub reply_head : ℕ → ℕ → List ℕ
+reply_head status length = concat (
     codes "HTTP/1.1 " ∷ decimal status ∷ codes " " ∷ phrase status ∷ line_end
     ∷ codes "Content-Type: application/json" ∷ line_end
-    ∷ codes "Content-Length: " ∷ decimal (length body) ∷ line_end
-    ∷ line_end ∷ body ∷ [])
+    ∷ codes "Content-Length: " ∷ decimal length ∷ line_end
+    ∷ line_end ∷ [])
+
+-- a reply with its length
+abbrev pub reply : ℕ → List ℕ → List ℕ
+reply status body = reply_head status (length body) ++ body
+
+-- the reply to a HEAD, which is that of another method without its body (RFC 9110, section 9.3.2)
+abbrev pub bodiless_reply : ℕ → List ℕ → List ℕ
+bodiless_reply status body = reply_head status (length body)
 
 -- the head of a reply in chunks
 abbrev pub chunks_head : List ℕ

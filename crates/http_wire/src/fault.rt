@@ -16,7 +16,7 @@ pub enum WireFault {
     /// The first 65,536 bytes of a head or a trailer don't end it, and there is a further byte.
     #[error("head too long")]
     HeadTooLong,
-    /// A request's body has more than 4,194,304 bytes, or a line of an answer more than 8,388,608.
+    /// A request's body has more than 4,194,304 bytes, or a line or a body of an answer more than the call allows.
     #[error("body too long")]
     BodyTooLong,
     /// A chunk's size line is none, or has more than 65,536 bytes, or a chunk's data doesn't end with CR LF.

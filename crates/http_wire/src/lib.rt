@@ -24,4 +24,7 @@ pub use fault::WireFault;
 pub use limits::{BODY_LIMIT, FIELD_LIMIT, HEAD_LIMIT, LINE_LIMIT, limits_are_stated};
 pub use message::{Framing, Head};
 pub use wire::Wire;
-pub use written::{begin_chunks, end_chunks, write_call, write_chunk, write_continue, write_reply};
+pub use written::{
+    begin_chunks, end_chunks, write_bodiless_reply, write_call, write_chunk, write_continue,
+    write_reply,
+};

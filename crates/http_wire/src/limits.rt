@@ -11,7 +11,7 @@ pub const FIELD_LIMIT: usize = 64;
 /// A request's body has at most so many bytes.
 pub const BODY_LIMIT: usize = 4_194_304;
 
-/// A line of an answer has at most so many bytes, its line feed counted.
+/// A line of an answer usually has at most so many bytes, its line feed counted.
 pub const LINE_LIMIT: usize = 8_388_608;
 
 /// The limits, in numbers. What is read is said by their names.

@@ -7,7 +7,6 @@ ghost use Rattle.http_wire.specs.Steps as spec;
 use crate::body::{Next, ready, settle};
 use crate::buffer::Buffer;
 use crate::fault::WireFault;
-use crate::limits::LINE_LIMIT;
 use crate::message::Framing;
 use crate::turns::spent;
 use etcd_types::Bytes;
@@ -56,11 +55,12 @@ fn line_turn<S: Source>(
     source: &mut S,
     framing: &mut Framing,
     line: &mut Vec<u8>,
+    most: usize,
 ) -> Result<Turn, WireFault>
-    requires { vec_len line.old ≤ LINE_LIMIT }
-    ensures turn { ReadsAhead (spec.LineTurn framing.old framing.new line.old.items line.new.items)
+    requires { vec_len line.old ≤ most }
+    ensures turn { ReadsAhead (spec.LineTurn most framing.old framing.new line.old.items line.new.items)
         (ahead (S.left source.old) buffer.old) (ahead (S.left source.new) buffer.new) result }
-    ensures room { OnOk result (vec_len line.new ≤ LINE_LIMIT) }
+    ensures room { OnOk result (vec_len line.new ≤ most) }
     ensures more { result ≡ Ok Turn.More → vec_len line.old < vec_len line.new }
     ensures reading { IfErr result IsOfReading }
     ensures cause { IsErrOf result WireFault.ReadFault → Rose (S.faults source.old) (S.faults source.new) }
@@ -73,7 +73,7 @@ fn line_turn<S: Source>(
         return Ok(Turn::Last);
     }
     let (count, turn) = line_in(&buffer.bytes()[..held]);
-    if count > LINE_LIMIT - line.len() {
+    if count > most - line.len() {
         return Err(WireFault::BodyTooLong);
     }
     line.extend_from_slice(&buffer.bytes()[..count])?;
@@ -82,15 +82,16 @@ fn line_turn<S: Source>(
     Ok(turn)
 }
 
-/// Reads the next line of a body, with its line feed where it has one, or none at the body's end.
+/// Reads the next line of a body, of at most so many bytes, with its line feed where it has one, or none at the body's end.
 #[tactic(auto, using(crate::proofs::LineLoop::line_first, crate::proofs::LineLoop::line_more, crate::proofs::LineLoop::line_whole, crate::proofs::LineLoop::line_last, crate::proofs::LineLoop::line_none, crate::proofs::LineLoop::line_fault))]
 pub(crate) fn whole_line<S: Source>(
     alloc: Global,
     buffer: &mut Buffer,
     source: &mut S,
     framing: &mut Framing,
+    most: usize,
 ) -> Result<Option<Bytes>, WireFault>
-    ensures read { ReadsAhead (spec.NextLine framing.old framing.new)
+    ensures read { ReadsAhead (spec.NextLine most framing.old framing.new)
         (ahead (S.left source.old) buffer.old) (ahead (S.left source.new) buffer.new) result }
     ensures reading { IfErr result IsOfReading }
     ensures cause { IsErrOf result WireFault.ReadFault → Rose (S.faults source.old) (S.faults source.new) }
@@ -98,7 +99,7 @@ pub(crate) fn whole_line<S: Source>(
 {
     let mut line = Vec::new(alloc);
     loop {
-        match line_turn(buffer, source, framing, &mut line)? {
+        match line_turn(buffer, source, framing, &mut line, most)? {
             Turn::More => {}
             Turn::Whole => return Ok(Some(Bytes::from_vec(line))),
             Turn::Last if line.is_empty() => return Ok(None),

@@ -2,13 +2,12 @@ ghost use Rattle.std.specs.Prelude.{◌≡◌, ◌+◌, ◌<◌, ◌≤◌, true
 ghost use Rattle.outside.specs.Faults.{Rose};
 ghost use Rattle.http_wire.specs.Connections.{IsOfReading};
 ghost use Rattle.http_wire.specs.Held.{held, ahead, ReadsAhead};
-ghost use Rattle.http_wire.specs.Bodies.{BodyRead};
+ghost use Rattle.http_wire.specs.Bodies.{WholeRead};
 ghost use Rattle.http_wire.specs.Steps as spec;
 
 use crate::body::{Next, ready, settle};
 use crate::buffer::Buffer;
 use crate::fault::WireFault;
-use crate::limits::BODY_LIMIT;
 use crate::message::Framing;
 use etcd_types::Bytes;
 use outside::Source;
@@ -50,18 +49,19 @@ fn body_turn<S: Source>(
     source: &mut S,
     framing: &mut Framing,
     body: &mut Vec<u8>,
+    most: usize,
 ) -> Result<bool, WireFault>
-    requires { vec_len body.old ≤ BODY_LIMIT }
-    ensures turn { ReadsAhead (spec.BodyTurn framing.old framing.new body.old.items body.new.items)
+    requires { vec_len body.old ≤ most }
+    ensures turn { ReadsAhead (spec.BodyTurn most framing.old framing.new body.old.items body.new.items)
         (ahead (S.left source.old) buffer.old) (ahead (S.left source.new) buffer.new) result }
-    ensures room { OnOk result (vec_len body.new ≤ BODY_LIMIT) }
+    ensures room { OnOk result (vec_len body.new ≤ most) }
     ensures more { result ≡ Ok true → vec_len body.old < vec_len body.new }
     ensures reading { IfErr result IsOfReading }
     ensures cause { IsErrOf result WireFault.ReadFault → Rose (S.faults source.old) (S.faults source.new) }
     ensures kept { S.faults source.old ≤ S.faults source.new }
 {
     let next = settle(buffer, source, *framing)?;
-    let room = BODY_LIMIT - body.len();
+    let room = most - body.len();
     if is_over(next, room) {
         return Err(WireFault::BodyTooLong);
     }
@@ -78,21 +78,22 @@ fn body_turn<S: Source>(
     Ok(true)
 }
 
-/// Reads a whole body of a request.
+/// Reads a whole body of at most so many bytes.
 #[tactic(auto, using(crate::proofs::BodyTurns::pends_first, crate::proofs::BodyTurns::pends_more, crate::proofs::BodyTurns::pends_end, crate::proofs::BodyTurns::pends_broken))]
 pub(crate) fn whole_body<S: Source>(
     alloc: Global,
     buffer: &mut Buffer,
     source: &mut S,
     first: Framing,
+    most: usize,
 ) -> Result<Bytes, WireFault>
-    ensures read { ReadsAhead (BodyRead first) (ahead (S.left source.old) buffer.old) (ahead (S.left source.new) buffer.new) result }
+    ensures read { ReadsAhead (WholeRead most first) (ahead (S.left source.old) buffer.old) (ahead (S.left source.new) buffer.new) result }
     ensures reading { IfErr result IsOfReading }
     ensures cause { IsErrOf result WireFault.ReadFault → Rose (S.faults source.old) (S.faults source.new) }
     ensures kept { S.faults source.old ≤ S.faults source.new }
 {
     let mut framing = first;
     let mut body = Vec::new(alloc);
-    while body_turn(buffer, source, &mut framing, &mut body)? {}
+    while body_turn(buffer, source, &mut framing, &mut body, most)? {}
     Ok(Bytes::from_vec(body))
 }

@@ -1,9 +1,11 @@
 ghost use Rattle.std.specs.Prelude.{◌≡◌, ◌≤◌, [], None, IfOk, IfErr, IfSome, IsErrOf};
 ghost use Rattle.outside.specs.Faults.{Rose};
 
+use crate::body::wait;
 use crate::buffer::Buffer;
 use crate::fault::WireFault;
 use crate::heads::{next_answer, next_head};
+use crate::limits::BODY_LIMIT;
 use crate::lines::whole_line;
 use crate::message::{Framing, Head};
 use crate::turns::whole_body;
@@ -35,10 +37,11 @@ impl Model for Wire {
 }
 
 impl Wire {
-    ghost use Rattle.http_wire.specs.Bodies.{BodyRead};
+    ghost use Rattle.http_wire.specs.Bodies.{BodyRead, WholeRead};
     ghost use Rattle.http_wire.specs.Connections.{bytes_ahead, fault_after, IsOfReading, Repeats};
     ghost use Rattle.http_wire.specs.Heads.{HeadRead, AnswerRead};
-    ghost use Rattle.http_wire.specs.Held.{ReadsAhead};
+    ghost use Rattle.http_wire.specs.Held.{ReadsAhead, Waited, IsOutside};
+    ghost use Rattle.std.specs.Io.KnownBytes.{Keeps};
     ghost use Rattle.http_wire.specs.Steps.{NextLine};
 
     /// A wire that holds nothing yet.
@@ -52,6 +55,26 @@ impl Wire {
             fault: None,
             alloc,
         })
+    }
+
+    /// Reads until a byte is held, and says whether one is: none comes only at the input's end. So a caller can wait for the
+    /// first byte of a head in another way than for the rest of it.
+    ///
+    /// ReadFault says that the source failed.
+    pub fn wait<S: Source>(&mut self, source: &mut S) -> Result<bool, WireFault>
+        ensures ahead { self.old.fault ≡ None → Keeps (bytes_ahead (S.left source.old) self.old) (bytes_ahead (S.left source.new) self.new) }
+        ensures held { self.old.fault ≡ None → IfOk result (λ some. Waited some self.new.held (S.left source.new)) }
+        ensures fault { self.old.fault ≡ None → self.new.fault ≡ fault_after result }
+        ensures again { IfSome self.old.fault (λ fault. Repeats fault self.old self.new source.old source.new result) }
+        ensures outside { self.old.fault ≡ None → IfErr result IsOutside }
+        ensures cause { self.old.fault ≡ None → IsErrOf result WireFault.ReadFault → Rose (S.faults source.old) (S.faults source.new) }
+        ensures kept { S.faults source.old ≤ S.faults source.new }
+    {
+        if let Some(fault) = self.fault {
+            return Err(fault);
+        }
+        let some = wait(&mut self.buffer, source);
+        self.remember(some)
     }
 
     /// The head of the next request, or none where the bytes end before it.
@@ -89,7 +112,13 @@ impl Wire {
         if let Some(fault) = self.fault {
             return Err(fault);
         }
-        let body = whole_body(self.alloc, &mut self.buffer, source, head.framing);
+        let body = whole_body(
+            self.alloc,
+            &mut self.buffer,
+            source,
+            head.framing,
+            BODY_LIMIT,
+        );
         self.remember(body)
     }
 
@@ -112,16 +141,16 @@ impl Wire {
         self.remember(answer)
     }
 
-    /// The next line of a body, with its line feed where it has one, or none at the body's end. The framing says how the
-    /// rest of the body goes on.
+    /// The whole body of an answer, of at most `most` bytes.
     ///
-    /// BodyTooLong comes where more of the line came than the limit; the other faults are those of a body.
-    pub fn next_line<S: Source>(
+    /// The faults are those of a request's body, by this limit.
+    pub fn read_whole<S: Source>(
         &mut self,
         source: &mut S,
-        framing: &mut Framing,
-    ) -> Result<Option<Bytes>, WireFault>
-        ensures read { self.old.fault ≡ None → ReadsAhead (NextLine framing.old framing.new) (bytes_ahead (S.left source.old) self.old)
+        framing: Framing,
+        most: usize,
+    ) -> Result<Bytes, WireFault>
+        ensures read { self.old.fault ≡ None → ReadsAhead (WholeRead most framing) (bytes_ahead (S.left source.old) self.old)
             (bytes_ahead (S.left source.new) self.new) result }
         ensures fault { self.old.fault ≡ None → self.new.fault ≡ fault_after result }
         ensures again { IfSome self.old.fault (λ fault. Repeats fault self.old self.new source.old source.new result) }
@@ -132,7 +161,32 @@ impl Wire {
         if let Some(fault) = self.fault {
             return Err(fault);
         }
-        let line = whole_line(self.alloc, &mut self.buffer, source, framing);
+        let body = whole_body(self.alloc, &mut self.buffer, source, framing, most);
+        self.remember(body)
+    }
+
+    /// The next line of a body, with its line feed where it has one, or none at the body's end. The framing says how the
+    /// rest of the body goes on. A line has at most `most` bytes, its line feed counted; `LINE_LIMIT` is the usual limit.
+    ///
+    /// BodyTooLong comes where more of the line came than the limit; the other faults are those of a body.
+    pub fn next_line<S: Source>(
+        &mut self,
+        source: &mut S,
+        framing: &mut Framing,
+        most: usize,
+    ) -> Result<Option<Bytes>, WireFault>
+        ensures read { self.old.fault ≡ None → ReadsAhead (NextLine most framing.old framing.new) (bytes_ahead (S.left source.old) self.old)
+            (bytes_ahead (S.left source.new) self.new) result }
+        ensures fault { self.old.fault ≡ None → self.new.fault ≡ fault_after result }
+        ensures again { IfSome self.old.fault (λ fault. Repeats fault self.old self.new source.old source.new result) }
+        ensures reading { self.old.fault ≡ None → IfErr result IsOfReading }
+        ensures cause { self.old.fault ≡ None → IsErrOf result WireFault.ReadFault → Rose (S.faults source.old) (S.faults source.new) }
+        ensures kept { S.faults source.old ≤ S.faults source.new }
+    {
+        if let Some(fault) = self.fault {
+            return Err(fault);
+        }
+        let line = whole_line(self.alloc, &mut self.buffer, source, framing, most);
         self.remember(line)
     }
 

@@ -37,16 +37,24 @@ fn joined(text: String, bytes: &[u8]) -> Result<Vec<u8>, AllocError>
     Ok(all)
 }
 
-fn reply(alloc: Global, status: u16, body: &[u8]) -> Result<Vec<u8>, AllocError>
-    ensures { IfOk result (λ all. all.items ≡ spec.reply status body.now) }
+/// The head of a reply whose body has so many bytes, in a text of so much room.
+fn reply_head(alloc: Global, status: u16, length: usize, room: usize) -> Result<String, AllocError>
+    ensures { IfOk result (λ head. string_bytes head ≡ spec.reply_head status length) }
 {
     let phrase = phrase(status);
-    let length = body.len();
-    let mut head = String::with_capacity(alloc, HEAD_ROOM + length)?;
+    let mut head = String::with_capacity(alloc, room)?;
     write!(
         head,
         "HTTP/1.1 {status} {phrase}\r\nContent-Type: application/json\r\nContent-Length: {length}\r\n\r\n"
     )?;
+    Ok(head)
+}
+
+fn reply(alloc: Global, status: u16, body: &[u8]) -> Result<Vec<u8>, AllocError>
+    ensures { IfOk result (λ all. all.items ≡ spec.reply status body.now) }
+{
+    let length = body.len();
+    let head = reply_head(alloc, status, length, HEAD_ROOM + length)?;
     Ok(joined(head, body)?)
 }
 
@@ -113,6 +121,23 @@ pub fn write_reply<K: Sink>(
 {
     match reply(alloc, status, body) {
         Ok(all) => Ok(send(sink, all.as_slice())?),
+        Err(_) => Err(WireFault::NoMemory),
+    }
+}
+
+/// Writes what the reply to a HEAD is: the head of the reply with this body, and nothing behind it.
+pub fn write_bodiless_reply<K: Sink>(
+    alloc: Global,
+    sink: &mut K,
+    status: u16,
+    body: &[u8],
+) -> Result<(), WireFault>
+    ensures written { spec.Writes (K.written sink.old) (K.written sink.new) (spec.bodiless_reply status body.now) result }
+    ensures cause { IsErrOf result WireFault.WriteFault → Rose (K.faults sink.old) (K.faults sink.new) }
+    ensures kept { K.faults sink.old ≤ K.faults sink.new }
+{
+    match reply_head(alloc, status, body.len(), HEAD_ROOM) {
+        Ok(head) => Ok(send(sink, head.as_bytes())?),
         Err(_) => Err(WireFault::NoMemory),
     }
 }

@@ -1,5 +1,7 @@
+pub mod Calls
 pub mod Clocks
 pub mod Draw
 pub mod Faults
 pub mod Memory
+pub mod Notes
 pub mod Streams

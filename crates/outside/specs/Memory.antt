@@ -1,7 +1,8 @@
 -- What the forms over memory hold, and what their calls do. Counts end at the last number of 64 bits, where they stay.
-use Rattle.std.specs.Prelude.{◌==◌, ℕ, Bool, min, List, ◌++◌, drop, take, length}
+use Rattle.std.specs.Prelude.{◌≡◌, ◌==◌, ℕ, Bool, true, false, min, List, [], ◌∷◌, ◌++◌, drop, take, length, map, Option, None, Some, Result, Ok, Err}
 use Rattle.std.specs.List.{list_any}
 use Rattle.outside.specs.Faults.{one_more}
+use Rattle.outside.specs.Calls.{LinkCall, Called, Begun, Handed, HostCall, Listened, Accepted}
 
 -- a source over memory: what wasn't read yet, how much a call gives at most, which calls fail (numbered from 1), how often
 -- it was called, and how often it has failed
@@ -44,3 +45,44 @@ took s bytes count = record s { stored = s.stored ++ take count bytes; calls = o
 -- a sink after a write that failed
 abbrev pub took_none : Store → Store
 took_none s = record s { calls = one_more s.calls; faults = one_more s.faults }
+
+-- ---- what a form tells of its calls, as long as it found memory to note them
+
+abbrev pub noted : {N A : Type 0} → (N → A) → Bool → List N → Option (List A)
+noted of true notes = Some (map of notes)
+noted of false notes = None
+
+-- a link over memory: what each call is answered with, in order; how much a stream gives in one read at most; the calls that
+-- were made, where it tells them; which calls fail (numbered from 1), how often it was called, and how often it has failed
+pub record LinkState : Type 0 where
+  pub replies : List (List ℕ)
+  pub piece : ℕ
+  pub made : Option (List LinkCall)
+  pub failing : List ℕ
+  pub calls : ℕ
+  pub faults : ℕ
+
+-- it was called once more; what it is to answer stays
+pub record IsCalled (before now : LinkState) : Type 0 where
+  pub replies : now.replies ≡ before.replies
+  pub piece : now.piece ≡ before.piece
+  pub failing : now.failing ≡ before.failing
+  pub calls : now.calls ≡ one_more before.calls
+
+-- a spawner over memory: the parts that it started and has kept; all that were handed to it, where it tells them; which calls
+-- fail (numbered from 1), how often it was called, and how often it has failed
+pub record SpawnerState (P : Type 0) : Type 0 where
+  pub parts : List P
+  pub handed : Option (List (Handed P))
+  pub failing : List ℕ
+  pub calls : ℕ
+  pub faults : ℕ
+
+-- a host over memory: the connections that it still accepts, in order; the calls that were made, where it tells them; which
+-- calls fail (numbered from 1), how often it was called, and how often it has failed
+pub record HostState (C : Type 0) : Type 0 where
+  pub waiting : List C
+  pub made : Option (List (HostCall C))
+  pub failing : List ℕ
+  pub calls : ℕ
+  pub faults : ℕ

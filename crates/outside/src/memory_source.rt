@@ -1,4 +1,4 @@
-ghost use Rattle.std.specs.Prelude.{◌≡◌, ◌↔◌, true, max, length, IsErr, IfOk, OnErr};
+ghost use Rattle.std.specs.Prelude.{◌≡◌, ◌↔◌, true, max, length, IsOk, IsErr, IfOk, OnErr};
 ghost use Rattle.std.specs.Io.{ReadsAtMost};
 ghost use Rattle.std.specs.Io.KnownBytes.{ReadConsumes};
 ghost use Rattle.outside.specs.Faults.{HasCause};
@@ -72,5 +72,13 @@ impl Source for MemSource {
         room[..count].copy_from_slice(&rest[..count]);
         self.at += count;
         Ok(count)
+    }
+
+    /// Its other end is always there.
+    fn check(&mut self) -> Result<(), Failed>
+        ensures there { IsOk result }
+        ensures stays { self.new ≡ self.old }
+    {
+        Ok(())
     }
 }

@@ -1,6 +1,6 @@
 ghost use Rattle.std.specs.Prelude.{List, ℕ, Option};
 ghost use Rattle.std.specs.Io.{ReadsAtMost};
-ghost use Rattle.std.specs.Io.KnownBytes.{ReadConsumes};
+ghost use Rattle.std.specs.Io.KnownBytes.{ReadConsumes, Keeps};
 ghost use Rattle.outside.specs.Faults.{HasCause};
 
 use thiserror::Error;
@@ -23,5 +23,11 @@ pub trait Source {
     fn read(&mut self, room: &mut [u8]) -> Result<usize, Failed>
         ensures bound { ReadsAtMost result room.new }
         ensures bytes { ReadConsumes (left self.old) (left self.new) result room.new }
+        ensures cause { HasCause (faults self.old) (faults self.new) result };
+
+    /// Looks whether the other end is still there, as far as that is seen without a read. It takes no bytes, and doesn't
+    /// wait.
+    fn check(&mut self) -> Result<(), Failed>
+        ensures bytes { Keeps (left self.old) (left self.new) }
         ensures cause { HasCause (faults self.old) (faults self.new) result };
 }

@@ -49,6 +49,11 @@ impl<R: Read + Drop> Source for Reading<R> {
         self.faults = self.faults.saturating_add(1);
         Err(Failed)
     }
+
+    /// A reader doesn't say whether its other end is there.
+    fn check(&mut self) -> Result<(), Failed> {
+        Ok(())
+    }
 }
 
 /// A writer as a sink. A write that a signal interrupts is tried again, 2^32 - 1 times in all.

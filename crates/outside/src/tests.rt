@@ -1,4 +1,5 @@
 use super::*;
+use etcd_types::{Bytes, List};
 use std::alloc::Global;
 use std::io;
 use std::test::Fail;
@@ -122,5 +123,53 @@ fn a_writer_is_a_sink(rt: HostRuntime) -> Result<(), Fail> {
         write_whole(&mut Writing::new(writer), b"seven..\n"),
         Ok(())
     );
+    Ok(())
+}
+
+fn list_of(alloc: Global, items: &[&[u8]]) -> Result<List<Bytes>, Fail> {
+    let mut list = List::new(alloc);
+    for item in items {
+        list.push(Bytes::from_slice(alloc, item)?)?;
+    }
+    Ok(list)
+}
+
+#[test]
+fn a_link_over_memory_answers_in_turn(rt: HostRuntime) -> Result<(), Fail> {
+    let alloc = rt.alloc();
+    let replies = list_of(alloc, &[b"one", b"two", b"three"])?;
+    let mut link = MemLink::new(alloc, replies, 2, vec![in alloc; 2]?);
+    assert_eq!(rt; link.call(alloc, 1, b"a")?.as_slice(), b"one".as_slice());
+    assert!(rt; matches!(link.call(alloc, 1, b"b"), Err(LinkFault::Failed)));
+    let mut stream = link.begin(alloc, 2, b"c")?;
+    let mut room = [0u8; 8];
+    assert!(rt; stream.check().is_ok() && stream.read(&mut room) == Ok(2));
+    assert_eq!(rt; &room[..2], b"th".as_slice());
+    assert!(rt; matches!(link.call(alloc, 1, b"d"), Err(LinkFault::Failed)));
+    Ok(())
+}
+
+#[test]
+fn a_host_over_memory_accepts_in_turn(rt: HostRuntime) -> Result<(), Fail> {
+    let alloc = rt.alloc();
+    let address = Bytes::from_slice(alloc, b"h:1")?;
+    let mut host = MemHost::new(alloc, vec![in alloc; 5u64, 6]?, vec![in alloc; 3]?);
+    assert!(rt; host.listen(&address).is_ok() && host.accept() == Ok(5));
+    assert!(rt; host.accept() == Err(Failed) && host.accept() == Ok(6));
+    assert!(rt; host.accept() == Err(Failed));
+    Ok(())
+}
+
+#[test]
+fn a_spawner_over_memory_keeps_what_it_starts(rt: HostRuntime) -> Result<(), Fail> {
+    let alloc = rt.alloc();
+    let mut spawner: MemSpawner<u64, u64> = MemSpawner::new(alloc, vec![in alloc; 2]?);
+    let tickets = TicketRange { next: 1, end: 5 };
+    assert!(rt; spawner.start(Part::Worker(7)).is_ok());
+    assert!(rt; matches!(spawner.start(Part::Ticker(8)), Err(Part::Ticker(8))));
+    assert!(rt; spawner.start(Part::Connection(9, 3, tickets)).is_ok());
+    assert!(rt; spawner.parts().len() == 2);
+    assert!(rt; matches!(spawner.take(), Some(Part::Connection(9, 3, _))));
+    assert!(rt; matches!(spawner.take(), Some(Part::Worker(7))));
     Ok(())
 }

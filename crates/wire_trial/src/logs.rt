@@ -2,7 +2,7 @@
 
 use crate::pieces::Pieces;
 use etcd_types::Bytes;
-use http_wire::{Framing, Head, Wire, WireFault};
+use http_wire::{Framing, Head, LINE_LIMIT, Wire, WireFault};
 use std::alloc::Global;
 use table_rows::{Wrong, text};
 
@@ -134,7 +134,7 @@ fn next_line(
     source: &mut Pieces,
     framing: &mut Framing,
 ) -> Result<Option<Bytes>, WireFault> {
-    wire.next_line(source, framing)
+    wire.next_line(source, framing, LINE_LIMIT)
 }
 
 /// The length of the first request's body, or the fault.

@@ -56,4 +56,8 @@ impl<'a> Source for Pieces<'a> {
         self.first = self.first.saturating_sub(count);
         Ok(count)
     }
+
+    fn check(&mut self) -> Result<(), Failed> {
+        Ok(())
+    }
 }

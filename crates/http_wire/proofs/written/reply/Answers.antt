@@ -1,5 +1,0 @@
-use Rattle.std.proofs.Common.{append_assoc, append-nil}
-use Rattle.http_wire.proofs.written.reply.Goals as goal
-
-pub returns : goal.returns
-returns c = let w = c.in_ok-write.ensures.bytes in simp (c.in_ok-joined.ensures, w, c.in_ok-head.ensures.bytes, c.phrase-phrase.ensures, append_assoc, append-nil)

@@ -1,0 +1,29 @@
+-- The ticket is left, or needn't be.
+use Rattle.std.proofs.Common.{sym, refl, ◌∙◌}
+use Rattle.serve_model.proofs.Asks.{worn_before, taken_before, was_left, worn_then}
+use Rattle.serve_model.proofs.Numbers.{asked_none, turn_asks_none}
+use Rattle.proxy_server.proofs.ask.leave.Goals as goal
+
+pub returns-in-Worn-clause-left : goal.returns-in-Worn-clause-left
+returns-in-Worn-clause-left g c = worn_before g.T.Turn.rests c.args.ticket (g.T.Turn.made c.args.turn.now)
+
+pub returns-in-TicketTaken-clause-left : goal.returns-in-TicketTaken-clause-left
+returns-in-TicketTaken-clause-left g c = taken_before g.T.Turn.rests c.args.ticket c.in-TicketTaken.other (g.T.Turn.made c.args.turn.now)
+
+pub returns-then-is_worn-clause-left : goal.returns-then-is_worn-clause-left
+returns-then-is_worn-clause-left g c = worn_then g.T.Turn.rests c.args.ticket _ _ _ c.args.end c.turn-left.result c.turn-left.ensures.made (sym c.is_worn.ensures ∙ c.if-is_worn.true)
+
+pub returns-clause-left : goal.returns-clause-left
+returns-clause-left g c = was_left g.T.Turn.rests c.args.ticket _ _ _ c.args.end c.turn-left.result c.turn-left.ensures.made (sym c.is_worn.ensures ∙ c.if-is_worn.false)
+
+pub returns-in-Worn-clause-quiet : goal.returns-in-Worn-clause-quiet
+returns-in-Worn-clause-quiet g c = asked_none _
+
+pub returns-in-TicketTaken-clause-quiet : goal.returns-in-TicketTaken-clause-quiet
+returns-in-TicketTaken-clause-quiet g c = asked_none _
+
+pub returns-then-is_worn-clause-quiet : goal.returns-then-is_worn-clause-quiet
+returns-then-is_worn-clause-quiet g c = turn_asks_none _ _ _ _ c.turn-left.result refl c.turn-left.ensures.made
+
+pub returns-clause-quiet : goal.returns-clause-quiet
+returns-clause-quiet g c = turn_asks_none _ _ _ _ c.turn-left.result refl c.turn-left.ensures.made

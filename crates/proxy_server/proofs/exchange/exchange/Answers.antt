@@ -1,0 +1,23 @@
+-- The exchange goes on, closes, or breaks off.
+use Rattle.serve_model.proofs.Exchanges.{broken_off, exchanged, closed}
+use Rattle.serve_model.specs.declared.ends.SessionEnd.TheVariants.{Closed}
+use Rattle.serve_model.proofs.Numbers.{none_last, all_numbered}
+use Rattle.proxy_server.proofs.exchange.exchange.Goals as goal
+
+pub returns-in-Some-clause-turned : goal.returns-in-Some-clause-turned
+returns-in-Some-clause-turned g c =
+    broken_off g.T.Turn.rests _ _ _ _ _ _ _ c.in-Ok.received.head c.in-Ok.received.body c.in-Some.end c.in-Ok.ensures.gets.0 c.in-Ok.ensures.gets.1 c.in-Some.ensures.breaking c.in-Some.ensures.responds
+
+pub returns-then-received-clause-turned : goal.returns-then-received-clause-turned
+returns-then-received-clause-turned g c =
+    closed g.T.Turn.rests _ _ _ _ _ _ _ c.in-Ok.received.head c.in-Ok.received.body c.in-Ok.ensures.gets.0 c.in-Ok.ensures.gets.1 c.in-None.ensures.responds c.if-received.true
+
+pub returns-clause-turned : goal.returns-clause-turned
+returns-clause-turned g c =
+    exchanged g.T.Turn.rests _ _ _ _ _ _ _ c.in-Ok.received.head c.in-Ok.received.body c.in-Ok.ensures.gets.0 c.in-Ok.ensures.gets.1 c.in-None.ensures.responds c.if-received.false
+
+pub returns-in-Err-clause-numbered : goal.returns-in-Err-clause-numbered
+returns-in-Err-clause-numbered g c = none_last c.in-Err.end _ _ _
+
+pub returns-then-received-clause-numbered : goal.returns-then-received-clause-numbered
+returns-then-received-clause-numbered g c = all_numbered Closed _ _ _ _ _ _ c.in-None.ensures.numbered

@@ -1,0 +1,14 @@
+//! Connections of clients, served over a turn: a machine that is stepped by this connection, and maybe by others. What a
+//! connection's dialog is stands in `serve_model`.
+#![tactic(auto)]
+
+mod ask;
+mod exchange;
+mod receive;
+mod refused;
+mod serve;
+mod turn;
+
+pub use serve::serve_on;
+pub use serve_model::{SessionEnd, TurnFault};
+pub use turn::Turn;

@@ -1,0 +1,53 @@
+ghost use Rattle.std.specs.Prelude.{◌≡◌};
+ghost use Rattle.outside.specs.Faults.{Rose};
+ghost use Rattle.serve_model.specs.Dialog.{Dialog};
+ghost use Rattle.serve_model.specs.Numbers.{LastNumbered};
+
+use crate::exchange::exchange;
+use crate::turn::Turn;
+use http_wire::Wire;
+use outside::{Clock, Draw, Sink, Source, TicketRange};
+use serve_model::SessionEnd;
+use std::alloc::Global;
+use std::sync::Wait;
+
+/// Serves a connection until it ends: reads requests, steps the turn for each, and writes their replies. Each Ask takes the next
+/// ticket and one drawn word. Where it ends in the midst of a request whose ticket is still known, it leaves that ticket.
+pub fn serve_on<R: Wait, T: Turn, S: Source, K: Sink, C: Clock, D: Draw>(
+    rt: &R,
+    alloc: Global,
+    turn: &mut T,
+    tickets: TicketRange,
+    clock: &mut C,
+    draw: &mut D,
+    source: &mut S,
+    sink: &mut K,
+) -> SessionEnd
+    ensures home { T.home turn.new ≡ T.home turn.old }
+    ensures read_cause { result ≡ SessionEnd.ReadFault → Rose (S.faults source.old) (S.faults source.new) }
+    ensures write_cause { result ≡ SessionEnd.WriteFault → Rose (K.faults sink.old) (K.faults sink.new) }
+    ensures numbered { LastNumbered result tickets.next (D.given draw.old) (D.given draw.new) (T.made turn.old) (T.made turn.new) }
+    ensures dialog { Dialog T.rests (S.left source.old) (T.made turn.old) (T.made turn.new) (K.written sink.old) (K.written sink.new) result }
+{
+    let Ok(mut wire) = Wire::new(alloc) else {
+        return SessionEnd::NoMemory;
+    };
+    let mut tickets = tickets;
+    'requests: for _ in rt.forever() {
+        match exchange(
+            rt,
+            alloc,
+            &mut wire,
+            turn,
+            clock,
+            source,
+            sink,
+            &mut tickets,
+            draw,
+        ) {
+            None => {}
+            Some(end) => return end,
+        }
+    }
+    unreachable!()
+}

@@ -1,0 +1,35 @@
+ghost use Rattle.std.specs.Prelude.{◌≡◌, List, Option, IfErr};
+ghost use Rattle.core_model.specs.declared.event.CoreEvent.{CoreEvent};
+ghost use Rattle.serve_model.specs.Steps.{Step, MadeBy, Rested, Fits, IsOfRest};
+
+use core_model::{CoreEvent, Outcome};
+use outside::Clock;
+use serve_model::TurnFault;
+
+/// What stands behind a connection: a machine that is stepped, by this connection and maybe by others.
+pub trait Turn {
+    /// What stays the same of it, whatever steps are made.
+    type Home;
+
+    // what stays the same: for a pass, its hub
+    ghost home: { Self → Self.Home };
+
+    // the steps that it made, in order, for as long as it tells them
+    ghost made: { Self → Option (List Step) };
+
+    // which events a rest may step on
+    ghost rests: { CoreEvent → Type 0 };
+
+    /// Makes one step.
+    fn turn<C: Clock>(&mut self, event: CoreEvent, clock: &mut C) -> Result<Outcome, TurnFault>
+        ensures made { MadeBy (made self.old) (made self.new) event (C.last clock.new) result }
+        ensures fits { Fits event result }
+        ensures home { home self.new ≡ home self.old };
+
+    /// Rests until a reply may be there. It may also return at any other time, and may make steps of its own. It is to be
+    /// called right after the step that found nothing, with no other step between, so that no wake-up is missed.
+    fn rest<C: Clock>(&mut self, clock: &mut C) -> Result<(), TurnFault>
+        ensures made { Rested rests (made self.old) (made self.new) }
+        ensures fault { IfErr result IsOfRest }
+        ensures home { home self.new ≡ home self.old };
+}

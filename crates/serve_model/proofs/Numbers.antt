@@ -1,0 +1,137 @@
+-- The tickets and words of steps that were made one after the other.
+use Rattle.std.proofs.Common.{◌≡◌, ℕ, ◌+◌, false, List, [], ◌∷◌, ◌++◌, Option, None, Some, Result, Ok, Err, refl, sym, ap, ◌∙◌, append-nil, append_assoc, subst, map, ◌⊎◌, inl, inr}
+use Rattle.std.proofs.lemmas.Grind.{flat_map-append}
+use Rattle.std.proofs.lemmas.List.{map-append}
+use Rattle.outside.specs.Draw.{Gives}
+use Rattle.etcd_types.specs.declared.request.Request.{Request}
+use Rattle.core_model.specs.declared.event.CoreEvent.{CoreEvent}
+use Rattle.core_model.specs.declared.event.CoreEvent.TheVariants.{Ask, Answer, Lost, Tick, Item, Cut, Take, Leave, Work}
+use Rattle.core_model.specs.declared.event.Outcome.{Outcome}
+use Rattle.serve_model.specs.declared.ends.SessionEnd.{SessionEnd}
+use Rattle.serve_model.specs.declared.ends.SessionEnd.TheVariants.{Worn}
+use Rattle.serve_model.specs.declared.fault.TurnFault.{TurnFault}
+use Rattle.serve_model.specs.declared.fault.TurnFault.TheVariants as turn
+use Rattle.serve_model.specs.Steps.{Step, Every, MadeBy, Rested, is_own}
+use Rattle.serve_model.specs.Dialog.{end_of}
+use Rattle.serve_model.specs.Numbers.{ask_of, asks, Asked, Rises, Numbered, LastNumbered}
+use Rattle.serve_model.proofs.Steps.{adds_then, adds_none}
+
+pub asked_then : (a b c : Option (List Step)) (xs ys : List (ℕ × ℕ)) → Asked a b xs → Asked b c ys → Asked a c (xs ++ ys)
+asked_then a b c xs ys p q = record {
+  steps = p.steps ++ q.steps;
+  adds = adds_then a b c p.steps q.steps p.adds q.adds;
+  are = flat_map-append (λ (e : Step). ask_of e.event) p.steps q.steps ∙ (λ i. p.are i ++ q.are i);
+}
+
+pub asked_none : (a : Option (List Step)) → Asked a a []
+asked_none a = record { steps = []; adds = adds_none a; are = refl }
+
+none_asks : (e : CoreEvent) → is_own e ≡ false → ask_of e ≡ []
+none_asks (Ask ticket request word) n = absurd (cc)
+none_asks (Answer call answer) n = refl
+none_asks (Lost call) n = refl
+none_asks (Tick word) n = refl
+none_asks (Item stream item) n = refl
+none_asks (Cut stream) n = refl
+none_asks (Take ticket) n = refl
+none_asks (Leave ticket) n = refl
+none_asks Work n = refl
+
+no_asks : (steps : List Step) → Every (λ (e : Step). is_own e.event ≡ false) steps → asks steps ≡ []
+no_asks [] n = refl
+no_asks (e ∷ es) n = λ i. none_asks e.event n.0 i ++ no_asks es n.1 i
+
+pub rest_asks : (rests : CoreEvent → Type 0) (a b : Option (List Step)) → Rested rests a b → Asked a b []
+rest_asks rests a b r = record { steps = r.steps; adds = r.adds; are = no_asks r.steps r.none_own }
+
+-- a step on anything asks what its event does, unless the hub is worn
+pub turn_asks : (a b : Option (List Step)) (event : CoreEvent) (now : ℕ) (result : Result Outcome TurnFault) → MadeBy a b event now result
+    → Asked a b (ask_of event) ⊎ (Asked a b [] × (result ≡ Err turn.Worn))
+turn_asks a b event now (Ok outcome) m = inl (record { steps = _; adds = m; are = append-nil (ask_of event) })
+turn_asks a b event now (Err turn.Worn) m = inr (record { steps = []; adds = m; are = refl }, refl)
+turn_asks a b event now (Err (turn.Core fault)) m = inl (record { steps = _; adds = m; are = append-nil (ask_of event) })
+
+-- a step that asks nothing
+pub turn_asks_none : (a b : Option (List Step)) (event : CoreEvent) (now : ℕ) (result : Result Outcome TurnFault) → ask_of event ≡ [] → MadeBy a b event now result → Asked a b []
+turn_asks_none a b event now (Ok outcome) e m = record { steps = _; adds = m; are = append-nil (ask_of event) ∙ e }
+turn_asks_none a b event now (Err turn.Worn) e m = record { steps = []; adds = m; are = refl }
+turn_asks_none a b event now (Err (turn.Core fault)) e m = record { steps = _; adds = m; are = append-nil (ask_of event) ∙ e }
+
+rises_then : (a b c : ℕ) (xs ys : List (ℕ × ℕ)) → Rises a b xs → Rises b c ys → Rises a c (xs ++ ys)
+rises_then a b c [] ys p q = subst (λ (n : ℕ). Rises n c ys) (sym p) q
+rises_then a b c (x ∷ xs) ys p q = (p.0, rises_then (a + 1) b c xs ys p.1 q)
+
+gives_then : (a b c : Option (List ℕ)) (xs ys : List ℕ) → Gives a b xs → Gives b c ys → Gives a c (xs ++ ys)
+gives_then a b None xs ys p q = tt
+gives_then a None (Some c) xs ys p q = absurd q
+gives_then None (Some b) (Some c) xs ys p q = absurd p
+gives_then (Some a) (Some b) (Some c) xs ys p q = q ∙ ap (λ (l : List ℕ). l ++ ys) p ∙ append_assoc a xs ys
+
+gives_none : (a : Option (List ℕ)) → Gives a a []
+gives_none None = tt
+gives_none (Some a) = sym (append-nil a)
+
+pub numbered_none : (n : ℕ) (given : Option (List ℕ)) (made : Option (List Step)) → Numbered n n given given made made
+numbered_none n given made = record { pairs = []; asked = asked_none made; rises = refl; drawn = gives_none given }
+
+pub numbered_then : (l m n : ℕ) (g h k : Option (List ℕ)) (a b c : Option (List Step)) → Numbered l m g h a b → Numbered m n h k b c → Numbered l n g k a c
+numbered_then l m n g h k a b c p q = record {
+  pairs = p.pairs ++ q.pairs;
+  asked = asked_then a b c p.pairs q.pairs p.asked q.asked;
+  rises = rises_then l m n p.pairs q.pairs p.rises q.rises;
+  drawn = subst (Gives g k) (sym (map-append (λ (x : ℕ × ℕ). x.1) p.pairs q.pairs)) (gives_then g h k (map (λ x. x.1) p.pairs) (map (λ x. x.1) q.pairs) p.drawn q.drawn);
+}
+
+pub numbered_last : (end : SessionEnd) (l m : ℕ) (g h k : Option (List ℕ)) (a b c : Option (List Step)) → Numbered l m g h a b → LastNumbered end m h k b c → LastNumbered end l g k a c
+numbered_last end l m g h k a b c p q = record {
+  pairs = p.pairs ++ q.pairs;
+  to = q.to;
+  spare = q.spare;
+  asked = asked_then a b c p.pairs q.pairs p.asked q.asked;
+  rises = rises_then l m q.to p.pairs q.pairs p.rises q.rises;
+  drawn = subst (Gives g k) (sym (append_assoc (map (λ x. x.1) p.pairs) (map (λ x. x.1) q.pairs) q.spare) ∙ (λ i. sym (map-append (λ (x : ℕ × ℕ). x.1) p.pairs q.pairs) i ++ q.spare)) (gives_then g h k (map (λ x. x.1) p.pairs) (map (λ x. x.1) q.pairs ++ q.spare) p.drawn q.drawn);
+  none_spare = q.none_spare;
+}
+
+-- no step was made for a request, and nothing was drawn
+pub none_last : (end : SessionEnd) (n : ℕ) (given : Option (List ℕ)) (made : Option (List Step)) → LastNumbered end n given given made made
+none_last end n given made = record { pairs = []; to = n; spare = []; asked = asked_none made; rises = refl; drawn = gives_none given; none_spare = inl refl }
+
+-- a request was asked
+pub one_asked : (n word : ℕ) (given given' : Option (List ℕ)) (made made' : Option (List Step)) → Gives given given' (word ∷ []) → Asked made made' ((n, word) ∷ []) → Numbered n (n + 1) given given' made made'
+one_asked n word given given' made made' d a = record { pairs = (n, word) ∷ []; asked = a; rises = (refl, refl); drawn = d }
+
+pub one_last : (end : SessionEnd) (n word : ℕ) (given given' : Option (List ℕ)) (made made' : Option (List Step)) → Gives given given' (word ∷ [])
+    → Asked made made' ((n, word) ∷ []) ⊎ (Asked made made' [] × (end ≡ Worn)) → LastNumbered end n given given' made made'
+one_last end n word given given' made made' d (inl a) = record { pairs = (n, word) ∷ []; to = n + 1; spare = []; asked = a; rises = (refl, refl); drawn = d; none_spare = inl refl }
+one_last end n word given given' made made' d (inr a) = record { pairs = []; to = n; spare = word ∷ []; asked = a.0; rises = refl; drawn = d; none_spare = inr a.1 }
+
+pub quiet_rest : (rests : CoreEvent → Type 0) (a b c : Option (List Step)) → Asked a b [] → Rested rests b c → Asked a c []
+quiet_rest rests a b c p r = asked_then a b c [] [] p (rest_asks rests b c r)
+
+pub quiet_take : (rests : CoreEvent → Type 0) (ticket now : ℕ) (a b c d : Option (List Step)) (result : Result Outcome TurnFault) → Asked a b [] → Rested rests b c
+    → MadeBy c d (Take ticket) now result → Asked a d []
+quiet_take rests ticket now a b c d result p r m = asked_then a c d [] [] (quiet_rest rests a b c p r) (turn_asks_none c d (Take ticket) now result refl m)
+
+pub asked_ok : (a b : Option (List Step)) (ticket word now : ℕ) (request : Request) (outcome : Outcome) → MadeBy a b (Ask ticket request word) now (Ok outcome)
+    → Asked a b ((ticket, word) ∷ [])
+asked_ok a b ticket word now request outcome m = record { steps = _; adds = m; are = refl }
+
+pub asked_quiet : (a b c : Option (List Step)) (ticket word : ℕ) → Asked a b ((ticket, word) ∷ []) → Asked b c [] → Asked a c ((ticket, word) ∷ [])
+asked_quiet a b c ticket word p q = asked_then a b c ((ticket, word) ∷ []) [] p q
+
+pub not_one : (a b : Option (List Step)) (ticket word now : ℕ) (request : Request) (fault : TurnFault) (x : SessionEnd) → x ≡ end_of fault
+    → MadeBy a b (Ask ticket request word) now (Err fault) → Asked a b ((ticket, word) ∷ []) ⊎ (Asked a b [] × (x ≡ Worn))
+not_one a b ticket word now request turn.Worn x e m = inr (record { steps = []; adds = m; are = refl }, e)
+not_one a b ticket word now request (turn.Core fault) x e m = inl (record { steps = _; adds = m; are = refl })
+
+pub all_numbered : (end : SessionEnd) (n m : ℕ) (g h : Option (List ℕ)) (a b : Option (List Step)) → Numbered n m g h a b → LastNumbered end n g h a b
+all_numbered end n m g h a b p = record {
+  pairs = p.pairs;
+  to = m;
+  spare = [];
+  asked = p.asked;
+  rises = p.rises;
+  drawn = subst (Gives g h) (sym (append-nil (map (λ x. x.1) p.pairs))) p.drawn;
+  none_spare = inl refl;
+}

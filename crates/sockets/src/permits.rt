@@ -1,0 +1,51 @@
+use crate::limits::{left_of, time};
+use std::rt::Clock as Times;
+use std::sync::Wait;
+use std::sync::atomic::AtomicU64;
+use std::sync::atomic::Ordering::SeqCst;
+
+/// What a connection holds while a large request of it is read, so that not all of them take their memory at once.
+#[derive(Debug, Drop)]
+pub struct Permits {
+    free: AtomicU64,
+}
+
+impl Permits {
+    /// So many permits, all free.
+    pub fn new(count: u64) -> Permits {
+        Permits {
+            free: AtomicU64::new(count),
+        }
+    }
+
+    /// Takes a permit, and waits for one at most so many milliseconds. Says whether it has one.
+    pub(crate) fn take<R: Wait + Times>(&self, rt: &R, limit: u64) -> bool {
+        let Some(start) = time(rt) else {
+            return false;
+        };
+        for _ in rt.forever() {
+            let free = self.free.load(SeqCst);
+            if free > 0 {
+                if self
+                    .free
+                    .compare_exchange(free, free - 1, SeqCst, SeqCst)
+                    .is_ok()
+                {
+                    return true;
+                }
+            } else {
+                let Some(left) = left_of(rt, start, limit) else {
+                    return false;
+                };
+                self.free.park_timeout(rt, 0, left);
+            }
+        }
+        unreachable!()
+    }
+
+    /// Gives a permit back.
+    pub(crate) fn give(&self) {
+        self.free.fetch_add(1, SeqCst);
+        self.free.wake_one(1);
+    }
+}
