@@ -1,0 +1,3 @@
+pub mod DueParts
+pub mod Compared
+pub mod ProperWrite
