@@ -1,3 +1,5 @@
+pub mod ProperWrite
+pub mod Keys
+pub mod SettledEntries
 pub mod DueParts
 pub mod Compared
-pub mod ProperWrite

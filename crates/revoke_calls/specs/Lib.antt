@@ -1,2 +1,4 @@
+pub mod Fates
+pub mod Dues
 pub mod Jobs
 pub mod Messages

@@ -1,4 +1,5 @@
-ghost use Rattle.std.specs.Prelude.{◌≡◌, ◌&&◌, ◌||◌, None, Some, IfOk, OnOk};
+ghost use Rattle.std.specs.Prelude.{◌≡◌, ◌&&◌, ◌||◌, nat_lt, None, Some, IfOk, OnOk};
+ghost use Rattle.etcd_types.specs.Keys.{before, same};
 ghost use Rattle.std.specs.List.{flat_map};
 ghost use Rattle.wait_model.specs.DueOrder.{first_call, soonest, sooner, is_sooner, due_of, due_found, call_at, revoke_at, kind_rank, less_then};
 
@@ -117,21 +118,27 @@ fn is_sooner(call: &DueCall, other: &DueCall) -> bool
 {
     let rank = kind_rank(call.place.kind);
     let other_rank = kind_rank(other.place.kind);
-    let by_key = call.key < other.key || (call.key == other.key && call.place.number < other.place.number);
     less_then(
         call.place.since,
         other.place.since,
-        less_then(rank, other_rank, by_key),
+        less_then(rank, other_rank, is_sooner_by_key(call, other)),
     )
 }
 
-fn less_then(number: u64, other: u64, rest: bool) -> bool
+/// Whether it is sent before the other one of the same step and kind.
+fn is_sooner_by_key(call: &DueCall, other: &DueCall) -> bool
+    ensures { result ≡ (before call.now.key other.now.key || (same call.now.key other.now.key && nat_lt call.now.place.number other.now.place.number)) }
+{
+    !(other.key <= call.key) || (call.key == other.key && call.place.number < other.place.number)
+}
+
+pub(crate) fn less_then(number: u64, other: u64, rest: bool) -> bool
     ensures { result ≡ less_then number other rest }
 {
     number < other || (number == other && rest)
 }
 
-fn kind_rank(kind: JobKind) -> u64
+pub(crate) fn kind_rank(kind: JobKind) -> u64
     ensures { result ≡ kind_rank kind }
 {
     match kind {

@@ -1,6 +1,6 @@
 ghost use Rattle.std.specs.Prelude.{◌≡◌};
 ghost use Rattle.std.specs.Option.{option_copied};
-ghost use Rattle.proxy_model.specs.LeaseTable.{is_writing};
+ghost use Rattle.proxy_model.specs.LeaseTable.{is_held, is_writing};
 ghost use Rattle.wait_model.specs.Covers.{is_single};
 ghost use Rattle.wait_model.specs.Stages.{is_owner};
 
@@ -25,6 +25,21 @@ pub fn is_single(request: &Request) -> bool
     match request {
         Request::Put(_) => true,
         Request::Delete(ask) => ask.range.is_one(),
+        _ => false,
+    }
+}
+
+/// Whether there is an entry, and it is held.
+pub fn is_held(entry: Option<&Entry>) -> bool
+    ensures { result ≡ is_held (option_copied entry.entry) }
+{
+    match entry {
+        Some(
+            Entry {
+                phase: Phase::Held,
+                ..
+            },
+        ) => true,
         _ => false,
     }
 }

@@ -4,10 +4,10 @@ use Rattle.etcd_types.specs.Keys.{same}
 use Rattle.wait_model.specs.Covers.{covered}
 use Rattle.wait_model.specs.Edits.{each}
 use Rattle.wait_model.specs.Phases.{if_written}
-use Rattle.revoke_core.specs.Steps.{after, settled_at}
-use Rattle.revoke_core.proofs.Keys.{each_none, one_more, covered_one_more}
-use Rattle.revoke_core.proofs.SettledEntries.{settled_idle}
-use Rattle.revoke_core.proofs.entries.settle_keys.Goals as goal
+use Rattle.revoke_calls.specs.Fates.{after, settled_at}
+use Rattle.revoke_calls.proofs.Keys.{each_none, one_more, covered_one_more}
+use Rattle.revoke_calls.proofs.SettledEntries.{settled_idle}
+use Rattle.revoke_calls.proofs.entries.settle_keys.Goals as goal
 
 pub loop-range-init : goal.loop-range-init
 loop-range-init c = sym (each_none _ (λ k x. refl) c.args.table.now.entries)

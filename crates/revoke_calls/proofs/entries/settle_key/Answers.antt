@@ -5,10 +5,10 @@ use Rattle.etcd_types.proofs.KeyOrder.{same-itself}
 use Rattle.proxy_model.specs.Keyed.{at}
 use Rattle.proxy_model.specs.LeaseTable.{is_writing}
 use Rattle.wait_model.specs.Phases.{if_written}
-use Rattle.revoke_core.specs.Steps.{after, settled_at}
-use Rattle.revoke_core.proofs.Keys.{changed_is, unchanged_is}
-use Rattle.revoke_core.proofs.SettledEntries.{written_here, other_here}
-use Rattle.revoke_core.proofs.entries.settle_key.Goals as goal
+use Rattle.revoke_calls.specs.Fates.{after, settled_at}
+use Rattle.revoke_calls.proofs.Keys.{changed_is, unchanged_is}
+use Rattle.revoke_calls.proofs.SettledEntries.{written_here, other_here}
+use Rattle.revoke_calls.proofs.entries.settle_key.Goals as goal
 
 pub returns-then-is_writing : goal.returns-then-is_writing
 returns-then-is_writing c =

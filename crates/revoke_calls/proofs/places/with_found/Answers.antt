@@ -1,7 +1,7 @@
 -- One more.
 use Rattle.wait_model.specs.DueOrder.{due_of, due_found}
-use Rattle.revoke_core.proofs.DueParts.{earliest-more}
-use Rattle.revoke_core.proofs.due.with_found.Goals as goal
+use Rattle.revoke_calls.proofs.DueParts.{earliest-more}
+use Rattle.revoke_calls.proofs.places.with_found.Goals as goal
 
 pub loop-one-preserved : goal.loop-one-preserved
 loop-one-preserved c =

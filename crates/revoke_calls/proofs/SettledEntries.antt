@@ -13,10 +13,10 @@ use Rattle.wait_model.specs.Endings.{given_back}
 use Rattle.wait_model.specs.GuardedAnswers.{owns, change_owned}
 use Rattle.wait_model.specs.Phases.{if_written}
 use Rattle.wait_model.specs.Stages.{is_owner, is_due}
-use Rattle.revoke_core.specs.declared.entries.Fate.{Fate}
-use Rattle.revoke_core.specs.declared.entries.Fate.TheVariants as fate
-use Rattle.revoke_core.specs.Steps.{after, fate_of, settled_entries}
-use Rattle.revoke_core.proofs.Keys.{each_same, each_none, Idle}
+use Rattle.revoke_calls.specs.declared.entries.Fate.{Fate}
+use Rattle.revoke_calls.specs.declared.entries.Fate.TheVariants as fate
+use Rattle.revoke_calls.specs.Fates.{after, fate_of, settled_entries}
+use Rattle.revoke_calls.proofs.Keys.{each_same, each_none, Idle}
 
 -- the entry is written no more
 calm_back : (p : Phase) → is_writing_phase (phase_after_write p) ≡ false

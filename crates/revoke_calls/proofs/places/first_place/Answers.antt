@@ -1,7 +1,7 @@
 -- One more.
 use Rattle.wait_model.specs.DueOrder.{due_of, due_found}
-use Rattle.revoke_core.proofs.DueParts.{earliest-more}
-use Rattle.revoke_core.proofs.due.first_place.Goals as goal
+use Rattle.revoke_calls.proofs.DueParts.{earliest-more}
+use Rattle.revoke_calls.proofs.places.first_place.Goals as goal
 
 pub loop-write-preserved : goal.loop-write-preserved
 loop-write-preserved c =

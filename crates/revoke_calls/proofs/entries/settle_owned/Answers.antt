@@ -3,10 +3,10 @@ use Rattle.std.proofs.Common.{true, cond, sym, ◌∙◌, ap}
 use Rattle.wait_model.specs.Covers.{covered}
 use Rattle.wait_model.specs.Edits.{each}
 use Rattle.wait_model.specs.Phases.{if_written}
-use Rattle.revoke_core.specs.Steps.{after}
-use Rattle.revoke_core.proofs.Proper.{owner-by_keys}
-use Rattle.revoke_core.proofs.SettledEntries.{owner_settled, none_settled}
-use Rattle.revoke_core.proofs.entries.settle_owned.Goals as goal
+use Rattle.revoke_calls.specs.Fates.{after}
+use Rattle.revoke_calls.proofs.ProperWrite.{owner-by_keys}
+use Rattle.revoke_calls.proofs.SettledEntries.{owner_settled, none_settled}
+use Rattle.revoke_calls.proofs.entries.settle_owned.Goals as goal
 
 pub settle_keys-requires : goal.settle_keys-requires
 settle_keys-requires c = rw c.as_slice.ensures (owner-by_keys c.args.write.now c.requires (sym c.is_owner.ensures ∙ c.if-is_owner.true))

@@ -1,12 +1,13 @@
-ghost use Rattle.std.specs.Prelude.{◌≡◌, ◌&&◌, ◌||◌, map, None};
+ghost use Rattle.std.specs.Prelude.{◌≡◌, None};
 ghost use Rattle.std.specs.List.{flat_map};
-ghost use Rattle.wait_model.specs.DueOrder.{first_place, due_of, due_found, due_calls, earliest, earlier, is_earlier, kind_rank, less_then};
-ghost use Rattle.revoke_core.specs.Dues.{places};
+ghost use Rattle.wait_model.specs.DueOrder.{first_place, due_of, due_found, due_calls, earliest, earlier, is_earlier};
+ghost use Rattle.revoke_calls.specs.Dues.{places};
 
+use crate::due::{kind_rank, less_then};
 use wait_model::{Asking, Found, JobKind, Place, Sending, Write, WriteStage};
 
 /// Where the first of the writes' due calls stands among all due jobs.
-pub(crate) fn first_place(writes: &[Write]) -> Option<Place>
+pub fn first_place(writes: &[Write]) -> Option<Place>
     ensures { result ≡ first_place writes.now }
 {
     let mut first = None;
@@ -88,21 +89,4 @@ fn is_earlier(place: &Place, other: &Place) -> bool
         other.since,
         less_then(rank, other_rank, place.number < other.number),
     )
-}
-
-fn less_then(number: u64, other: u64, rest: bool) -> bool
-    ensures { result ≡ less_then number other rest }
-{
-    number < other || (number == other && rest)
-}
-
-fn kind_rank(kind: JobKind) -> u64
-    ensures { result ≡ kind_rank kind }
-{
-    match kind {
-        JobKind::Revoke => 0,
-        JobKind::Call => 1,
-        JobKind::Close => 2,
-        JobKind::Open => 3,
-    }
 }

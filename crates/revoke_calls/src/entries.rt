@@ -1,6 +1,5 @@
 ghost use Rattle.std.specs.Prelude.{◌≡◌, IsTrue, true, if◌then◌else◌};
 ghost use Rattle.std.specs.List.{list_all};
-ghost use Rattle.std.specs.Option.{option_copied};
 ghost use Rattle.etcd_types.specs.Ranges.{is_one};
 ghost use Rattle.proxy_model.specs.Keyed.{at};
 ghost use Rattle.proxy_model.specs.LeaseTable.{is_writing, change};
@@ -8,16 +7,17 @@ ghost use Rattle.wait_model.specs.Covers.{covered};
 ghost use Rattle.wait_model.specs.Edits.{each};
 ghost use Rattle.wait_model.specs.Fits.{is_proper};
 ghost use Rattle.wait_model.specs.Phases.{if_written};
-ghost use Rattle.wait_model.specs.Stages.{is_owner, is_due};
-ghost use Rattle.revoke_core.specs.Steps.{after, fate_of, settled_entries, settled_at};
+ghost use Rattle.wait_model.specs.Stages.{is_due};
+ghost use Rattle.revoke_calls.specs.Fates.{after, fate_of, settled_entries, settled_at};
 
+use crate::stages::{is_owner, is_writing};
 use etcd_types::{Bytes, KeyRange};
-use lease_table::{Entry, LeaseTable, Phase};
+use lease_table::LeaseTable;
 use wait_model::{Sending, Write, WriteStage};
 
 /// What becomes of an entry whose owner write is over without having been done.
 #[derive(Clone, Copy)]
-pub(crate) enum Fate {
+pub enum Fate {
     /// It is held again as it was, or leaves where it was marked.
     Back,
     /// It leaves.
@@ -25,7 +25,7 @@ pub(crate) enum Fate {
 }
 
 /// Where its call wasn't sent its entries are held again, and else they leave.
-pub(crate) fn fate_of(stage: &WriteStage) -> Fate
+pub fn fate_of(stage: &WriteStage) -> Fate
     ensures { result ≡ fate_of stage.now }
 {
     if is_due(stage) {
@@ -47,17 +47,8 @@ fn is_due(stage: &WriteStage) -> bool
     )
 }
 
-pub(crate) fn is_owner(stage: &WriteStage) -> bool
-    ensures { result ≡ is_owner stage.now }
-{
-    match stage {
-        WriteStage::Sends { owner, .. } => *owner,
-        WriteStage::Waiting | WriteStage::Finds { .. } => false,
-    }
-}
-
-/// The entries that the write's call is about.
-pub(crate) fn settle_owned(write: &Write, fate: Fate, table: &mut LeaseTable)
+/// Settles the entries that the write's call is about. It takes no memory.
+pub fn settle_owned(write: &Write, fate: Fate, table: &mut LeaseTable)
     requires { is_proper write.now ≡ true }
     ensures { table.new.entries ≡ settled_entries fate write.now table.old.entries }
 {
@@ -91,19 +82,5 @@ fn set_fate(key: &Bytes, fate: Fate, table: &mut LeaseTable)
     match fate {
         Fate::Back => table.unwrite(key),
         Fate::Left => table.leave(key),
-    }
-}
-
-pub(crate) fn is_writing(entry: Option<&Entry>) -> bool
-    ensures { result ≡ is_writing (option_copied entry.entry) }
-{
-    match entry {
-        Some(
-            Entry {
-                phase: Phase::Writing { .. },
-                ..
-            },
-        ) => true,
-        _ => false,
     }
 }

@@ -3,8 +3,8 @@ use Rattle.std.proofs.Common.{◌≡◌, true, take, cond}
 use Rattle.wait_model.specs.Covers.{covered}
 use Rattle.wait_model.specs.Edits.{each}
 use Rattle.wait_model.specs.Phases.{if_written}
-use Rattle.revoke_core.specs.Steps.{after}
-use Rattle.revoke_core.proofs.entries.settle_keys.Given as goal
+use Rattle.revoke_calls.specs.Fates.{after}
+use Rattle.revoke_calls.proofs.entries.settle_keys.Given as goal
 
 abbrev pub invariant-loop-range : goal.invariant-loop-range
 invariant-loop-range l =
