@@ -1,13 +1,14 @@
 -- What a message on the leasing stream says, notice by notice.
-use Rattle.std.specs.Prelude.{ℕ, if◌then◌else◌, List, [], ◌∷◌, Option}
+use Rattle.std.specs.Prelude.{ℕ, Bool, not, ◌&&◌, if◌then◌else◌, List, [], ◌∷◌, Option, is_some}
 use Rattle.std.specs.List.{flat_map}
 use Rattle.etcd_types.specs.declared.watch.Event.{Event}
 use Rattle.etcd_types.specs.declared.watch.Change.{Change}
 use Rattle.etcd_types.specs.declared.watch.Change.TheVariants as change
 use Rattle.etcd_types.specs.Keys.{same}
+use Rattle.proxy_model.specs.declared.lease.Entry.{Entry}
 use Rattle.proxy_model.specs.Foreign.{revoke_word}
-use Rattle.wait_model.specs.Notices.{owned_key, put_noticed, delete_noticed}
-use Rattle.wait_model.specs.State.{Ownership}
+use Rattle.wait_model.specs.Notices.{owned_key}
+use Rattle.wait_model.specs.Phases.{is_session}
 use Rattle.revoke_calls.specs.declared.notices.Notice.{Notice}
 use Rattle.revoke_calls.specs.declared.notices.Notice.TheVariants.{Revoked, Deleted}
 
@@ -21,12 +22,6 @@ notice_in prefix e = notice_of prefix e.change
 abbrev pub notices_of : List ℕ → List Event → List Notice
 notices_of prefix events = flat_map (notice_in prefix) events
 
--- What one notice, and all of them in order, do.
-
-abbrev pub taken : Option ℕ → Notice → Ownership → Ownership
-taken session (Revoked k create lease) own = put_noticed session k create lease own
-taken session (Deleted k revision) own = delete_noticed k revision own
-
-abbrev pub all_taken : Option ℕ → List Notice → Ownership → Ownership
-all_taken session [] own = own
-all_taken session (n ∷ ns) own = all_taken session ns (taken session n own)
+-- it isn't known, and stands under the live session
+abbrev pub is_unknown : Option ℕ → ℕ → Option Entry → Bool
+is_unknown session lease o = is_session session lease && not (is_some o)

@@ -5,16 +5,25 @@
 
 mod asked;
 mod due;
+mod ends;
 mod entries;
+mod failed;
 mod jobs;
+mod left;
 mod notices;
+mod owners;
 mod places;
 mod stages;
 
 pub use asked::new_write;
 pub use due::first_call;
+pub use ends::take_lefts;
 pub use entries::{Fate, fate_of, settle_owned};
+pub use failed::fail;
 pub use jobs::{rescind_due, revoke_due, write_due};
+pub use left::{Left, lefts_of};
 pub use notices::{Notice, notices_of};
 pub use places::first_place;
-pub use stages::{is_held, is_owner, is_single, is_writing};
+pub use stages::{
+    guest_since, is_held, is_of, is_owner, is_session, is_single, is_unknown, is_writing, own_entry,
+};

@@ -23,21 +23,6 @@ use Rattle.revoke_calls.specs.declared.notices.Notice.TheVariants.{Revoked, Dele
 use Rattle.revoke_calls.specs.Messages.{notice_of, notices_of}
 use Rattle.revoke_core.specs.Told.{Told, told_of, with_told, told_one, told_all, revoked_spoiled, revoked_entries, revoked_entry, is_older, is_unknown}
 
--- what stands at a key, put there again
-pub same_at : {A : Type 0} (es : Keyed A) (k : List ℕ) → IsTrue (is_in_order es) → es ≡ with_at es k (at es k)
-same_at es k s =
-    sym (same_keyed (with_at es k (at es k)) es (in_order-with_at es k (at es k) s) s (λ j. at-with_at es k j (at es k) ∙ here j))
-  where
-    here : (j : List ℕ) → cond (same k j) (at es k) (at es j) ≡ at es j
-    here j =
-        elim (same k j) as (λ b. same k j ≡ b → cond b (at es k) (at es j) ≡ at es j) [
-          | true ↦ λ t. ap (λ (i : List ℕ). at es i) (same-equal k j t)
-          | false ↦ λ t. refl
-        ] refl
-
-pub stays_at : {A : Type 0} (es : Keyed A) (k : List ℕ) (o : Option A) → IsTrue (is_in_order es) → at es k ≡ o → es ≡ with_at es k o
-stays_at es k o s e = same_at es k s ∙ ap (λ p. with_at es k p) e
-
 -- The revoking word.
 
 pub revoked_of : (session : Option ℕ) (create lease : ℕ) (o : Option Entry) → is_of create o ≡ true → option_map given_up o ≡ revoked_turn session create lease o
