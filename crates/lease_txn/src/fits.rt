@@ -9,7 +9,7 @@ use etcd_types::{Body, KeyRange, Kv, List, Op, TxnAsk};
 
 /// Which branch of a transaction ran, with its bodies.
 #[tactic(auto, using(proxy_model::proofs::FitsLaws::of_fits))]
-pub fn branch_of(body: &Body) -> Option<(bool, &[Body])>
+pub(crate) fn branch_of(body: &Body) -> Option<(bool, &[Body])>
     ensures { MatchOption result (branch_of body.now ≡ None) (λ ran. branch_of body.now ≡ Some (ran.0, ran.1.now)) }
 {
     match body {

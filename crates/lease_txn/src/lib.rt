@@ -16,7 +16,6 @@ mod revoke;
 mod written;
 
 pub use claims::{acquire, read_acquire};
-pub use fits::branch_of;
 pub use guarded::{
     guarded_write, guest_write, owner_write, range_write, shared_write, written_ranges,
 };

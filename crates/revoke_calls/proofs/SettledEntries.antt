@@ -19,7 +19,7 @@ use Rattle.revoke_calls.specs.Fates.{after, fate_of, settled_entries}
 use Rattle.revoke_calls.proofs.Keys.{each_same, each_none, Idle}
 
 -- the entry is written no more
-calm_back : (p : Phase) → is_writing_phase (phase_after_write p) ≡ false
+pub calm_back : (p : Phase) → is_writing_phase (phase_after_write p) ≡ false
 calm_back Held = refl
 calm_back (Writing true) = refl
 calm_back (Writing false) = refl

@@ -140,18 +140,18 @@ at-kept w os es k =
     of true true None = refl
     of true false None = refl
     of false c None = refl
-    of a c (Some e) = inner a c (is_writing_phase e.phase)
+    of a c (Some e) = inner a c (is_writing_phase e.phase) refl
       where
-        inner : (a c b : Bool) → option_map (λ x. cond (a && b) (unwritten x) x) (cond ((a && b) && not c) None (Some e)) ≡ cond a (cond b (cond c (Some (unwritten e)) None) (Some e)) (Some e)
-        inner true true true = refl
-        inner true true false = refl
-        inner true false true = refl
-        inner true false false = refl
-        inner false c b = refl
+        inner : (a c b : Bool) → is_writing_phase e.phase ≡ b → option_map (λ x. if_written a unwritten x) (cond ((a && b) && not c) None (Some e)) ≡ cond a (cond b (cond c (Some (unwritten e)) None) (Some e)) (Some e)
+        inner true true true h = ap (λ b. Some (cond b (unwritten e) e)) h
+        inner true true false h = ap (λ b. Some (cond b (unwritten e) e)) h
+        inner true false true h = refl
+        inner true false false h = ap (λ b. Some (cond b (unwritten e) e)) h
+        inner false c b h = refl
 
 pub kept_is : (w : Write) (os : List Owner) (es : Keyed Entry) → is_proper w ≡ true → IsTrue (is_in_order es) → turned (kept_turn os) (owned_ranges w) es ≡ kept_entries w os es
 kept_is w os es h s =
-    owned_is (kept_turn os) (kept_idle os) w es (kept_entries w os es) h s (in_order-each _ (without (is_gone w es os) es) ∙ in_order-without (is_gone w es os) es s) (at-kept w os es)
+    owned_is (kept_turn os) (kept_idle os) w es (kept_entries w os es) h s (in_order-each (λ k e. if_written (owns w k) unwritten e) (without (is_gone w es os) es) ∙ in_order-without (is_gone w es os) es s) (at-kept w os es)
 
 -- One key.
 
@@ -184,12 +184,9 @@ wrote_idle : (v : List ℕ → Option Kv) → IdleTurn (λ k. wrote_turn (v k))
 wrote_idle v k None = refl
 wrote_idle v k (Some e) = of (is_writing_phase e.phase) refl
   where
-    x : Entry
-    x = written (v k) e
-
-    of : (b : Bool) → is_writing_phase e.phase ≡ b → wrote_turn (v k) (Some (cond b x e)) ≡ Some (cond b x e)
-    of true h = ap (λ b. Some (cond b (written (v k) x) x)) (calm_back e.phase)
-    of false h = ap (λ b. Some (cond b x e)) h
+    of : (b : Bool) → is_writing_phase e.phase ≡ b → wrote_turn (v k) (Some (cond b (written (v k) e) e)) ≡ Some (cond b (written (v k) e) e)
+    of true h = ap (λ b. Some (cond b (written (v k) (written (v k) e)) (written (v k) e))) (calm_back e.phase)
+    of false h = ap (λ b. Some (cond b (written (v k) e) e)) h
 
 -- one more
 pub wrote_append : (ls : List Left) (l : Left) (es : Keyed Entry) → all_wrote (ls ++ l ∷ []) es ≡ with_at (all_wrote ls es) l.key (wrote_turn l.kv (at (all_wrote ls es) l.key))
@@ -202,7 +199,7 @@ lefts_turned w reply es fs (r ∷ rs) = lefts_turned w reply es (with_at fs r.ke
 
 pub wrote_is : (w : Write) (reply : Reply) (es : Keyed Entry) → is_proper w ≡ true → IsTrue (is_in_order es) → all_wrote (lefts_of w reply es) es ≡ wrote_entries w reply es
 wrote_is w reply es h s =
-    lefts_turned w reply es es (owned_ranges w) ∙ owned_is (λ k. wrote_turn (left_kv w reply k (at es k))) (wrote_idle (λ k. left_kv w reply k (at es k))) w es (wrote_entries w reply es) h s (in_order-each _ es ∙ s) (λ k. at-each _ es k ∙ of k (owns w k) (at es k))
+    lefts_turned w reply es es (owned_ranges w) ∙ owned_is (λ k. wrote_turn (left_kv w reply k (at es k))) (wrote_idle (λ k. left_kv w reply k (at es k))) w es (wrote_entries w reply es) h s (in_order-each (λ j e. if_written (owns w j) (written (left_kv w reply j (Some e))) e) es ∙ s) (λ k. at-each (λ j e. if_written (owns w j) (written (left_kv w reply j (Some e))) e) es k ∙ of k (owns w k) (at es k))
   where
     of : (k : List ℕ) (a : Bool) (o : Option Entry) → option_map (λ e. if_written a (written (left_kv w reply k (Some e))) e) o ≡ cond a (wrote_turn (left_kv w reply k o) o) o
     of k true None = refl
@@ -216,7 +213,7 @@ pub found_is : (session : Option ℕ) (step : ℕ) (es : Keyed Entry) (os : Keye
 found_is session step es [] = refl
 found_is session step es (o ∷ os) = of (is_own session es o) (found_is session step es os)
   where
-    of : (b : Bool) {fs : List Found} → fs ≡ map (found_of step) (others session es os) → cond b fs (found_of step o ∷ fs) ≡ map (found_of step) (cond (not b) (o ∷ others session es os) (others session es os))
+    of : (b : Bool) {fs : List Found} → fs ≡ map (found_of step) (others session es os) → cond b [] (found_of step o ∷ []) ++ fs ≡ map (found_of step) (cond (not b) (o ∷ others session es os) (others session es os))
     of true e = e
     of false e = ap (λ (l : List Found). found_of step o ∷ l) e
 

@@ -9,7 +9,6 @@ ghost use Rattle.etcd_types.specs.declared.operation.Op.TheVariants.{Put, Delete
 use crate::stages::is_owner;
 use etcd_types::{Body, Bytes, DeleteAsk, Kv, List, NoMemory, Op, PutAsk, Reply, Request, TxnAsk};
 use lease_table::{Entry, LeaseTable};
-use lease_txn::branch_of;
 use std::alloc::Global;
 use wait_model::Write;
 
@@ -101,6 +100,7 @@ fn left_of(
     }
 }
 
+#[tactic(auto, using(proxy_model::proofs::FitsLaws::of_fits))]
 fn left_txn(
     alloc: Global,
     revision: u64,
@@ -111,10 +111,14 @@ fn left_txn(
 ) -> Result<Option<Kv>, NoMemory>
     ensures { IfOk result (λ left. left ≡ left_by revision key.now (branch txn.now.success txn.now.failure (branch_of body.now)) old) }
 {
-    match branch_of(body) {
-        None => Ok(old),
-        Some((true, _)) => Ok(left_by(alloc, revision, key, &txn.success, old)?),
-        Some((false, _)) => Ok(left_by(alloc, revision, key, &txn.failure, old)?),
+    match body {
+        Body::Txn {
+            succeeded: true, ..
+        } => Ok(left_by(alloc, revision, key, &txn.success, old)?),
+        Body::Txn {
+            succeeded: false, ..
+        } => Ok(left_by(alloc, revision, key, &txn.failure, old)?),
+        _ => Ok(old),
     }
 }
 

@@ -3,3 +3,4 @@ pub mod Proper
 pub mod Searches
 pub mod LossParts
 pub mod NoticeParts
+pub mod SendParts

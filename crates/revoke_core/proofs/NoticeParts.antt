@@ -1,27 +1,25 @@
 -- A message, notice by notice; and one notice, part by part.
-use Rattle.std.proofs.Common.{◌≡◌, ℕ, Bool, true, false, not, ◌&&◌, cond, nat_lt, ◌==◌, IsTrue, List, [], ◌∷◌, ◌++◌, Option, None, Some, is_some, refl, sym, ap, ◌∙◌}
+use Rattle.std.proofs.Common.{◌≡◌, ℕ, Bool, true, false, not, ◌&&◌, cond, nat_lt, ◌==◌, List, [], ◌∷◌, ◌++◌, Option, None, Some, is_some, refl, sym, ap, ◌∙◌}
 use Rattle.std.specs.Option.{option_map}
 use Rattle.etcd_types.specs.declared.watch.Event.{Event}
 use Rattle.etcd_types.specs.declared.watch.Change.{Change}
 use Rattle.etcd_types.specs.declared.watch.Change.TheVariants as change
 use Rattle.etcd_types.specs.Keys.{same}
 use Rattle.etcd_types.proofs.Bools.{and_first, and_second}
-use Rattle.etcd_types.proofs.KeyOrder.{same-equal}
 use Rattle.proxy_model.specs.declared.lease.Entry.{Entry}
 use Rattle.proxy_model.specs.declared.lease.Phase.{Phase}
 use Rattle.proxy_model.specs.declared.lease.Phase.TheVariants.{Held, Writing, Leaving}
 use Rattle.proxy_model.specs.Foreign.{revoke_word}
-use Rattle.proxy_model.specs.Keyed.{Keyed, at, with_at, changed_at, is_in_order}
+use Rattle.proxy_model.specs.Keyed.{at, changed_at}
 use Rattle.proxy_model.specs.LeaseTable.{marked, given_up, is_held, is_held_phase, is_writing, is_writing_phase}
-use Rattle.proxy_model.proofs.KeyedLaws.{at-with_at, in_order-with_at, same_keyed}
 use Rattle.wait_model.specs.Asked.{acquire_spoiled}
 use Rattle.wait_model.specs.Notices.{owned_key, put_noticed, noticed, all_noticed, revoked_turn, deleted_turn, deleted_phase}
 use Rattle.wait_model.specs.Phases.{is_session, is_of, own_entry}
 use Rattle.wait_model.specs.State.{Ownership}
 use Rattle.revoke_calls.specs.declared.notices.Notice.{Notice}
 use Rattle.revoke_calls.specs.declared.notices.Notice.TheVariants.{Revoked, Deleted}
-use Rattle.revoke_calls.specs.Messages.{notice_of, notices_of}
-use Rattle.revoke_core.specs.Told.{Told, told_of, with_told, told_one, told_all, revoked_spoiled, revoked_entries, revoked_entry, is_older, is_unknown}
+use Rattle.revoke_calls.specs.Messages.{notice_of, notices_of, is_unknown}
+use Rattle.revoke_core.specs.Told.{Told, told_of, with_told, told_one, told_all, revoked_spoiled, revoked_entries, revoked_entry, is_older}
 
 -- The revoking word.
 
@@ -105,7 +103,7 @@ one_told session (change.Put kv) own = by_test (same kv.value revoke_word)
     by_test false = refl
 one_told session (change.Delete k revision) own = refl
 
-told_append : (session : Option ℕ) (ns ms : List Notice) (t : Told) → told_all session (ns ++ ms) t ≡ told_all session ms (told_all session ns t)
+pub told_append : (session : Option ℕ) (ns ms : List Notice) (t : Told) → told_all session (ns ++ ms) t ≡ told_all session ms (told_all session ns t)
 told_append session [] ms t = refl
 told_append session (n ∷ ns) ms t = told_append session ns ms (told_one session n t)
 

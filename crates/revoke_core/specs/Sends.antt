@@ -1,7 +1,7 @@
 -- The sending of the first due job, part by part.
-use Rattle.std.specs.Prelude.{ℕ, if◌then◌else◌, List, [], ◌∷◌, ◌++◌, Option, None, Some}
+use Rattle.std.specs.Prelude.{ℕ, true, if◌then◌else◌, List, [], ◌∷◌, ◌++◌, Option, None, Some}
 use Rattle.proxy_model.specs.declared.lease.Entry.{Entry}
-use Rattle.proxy_model.specs.Keyed.{Keyed}
+use Rattle.proxy_model.specs.Keyed.{Keyed, changed_at}
 use Rattle.wait_model.specs.declared.due.Due.{Due}
 use Rattle.wait_model.specs.declared.due.DueCall.{DueCall}
 use Rattle.wait_model.specs.declared.wait.WaitCall.{WaitCall}
@@ -10,10 +10,11 @@ use Rattle.wait_model.specs.declared.wait.WaitJob.TheVariants as job
 use Rattle.wait_model.specs.declared.write.Write.{Write}
 use Rattle.wait_model.specs.declared.write.WriteStage.{WriteStage}
 use Rattle.wait_model.specs.DueOrder.{first_call}
-use Rattle.wait_model.specs.Sent.{JobSent, is_revoke, stage_revoking, stage_sent, job_sent}
+use Rattle.wait_model.specs.Phases.{rescind_sent}
+use Rattle.wait_model.specs.Sent.{JobSent, is_revoke, stage_revoking, stage_sent}
 use Rattle.wait_model.specs.State.{Ownership}
 use Rattle.wait_model.specs.Writes.{first_by, with_first, has_ticket}
-use Rattle.revoke_calls.specs.Jobs.{revoke_due, write_due}
+use Rattle.revoke_calls.specs.Jobs.{rescind_due, revoke_due, write_due}
 
 -- what stands once the first due job is sent, or where none is due
 abbrev pub after_sending : Ownership → Option JobSent → Ownership
@@ -62,3 +63,19 @@ sent_writes call (Some (d, w)) ws = with_first (has_ticket d.place.number) (stag
 abbrev pub sent_out : ℕ → Option (DueCall × Write) → List WaitCall → List WaitCall
 sent_out call None os = os
 sent_out call (Some (d, w)) os = os ++ out_call call (job_of_call d) ∷ []
+
+abbrev pub sent_of : ℕ → Option (DueCall × Write) → Ownership → Option JobSent
+sent_of call None own = None
+sent_of call (Some (d, w)) own =
+    Some (record {
+      own = record { entries = own.entries; waits = record own.waits { writes = sent_writes call (Some (d, w)) own.waits.writes; out = sent_out call (Some (d, w)) own.waits.out } };
+      due = due_of_call own.waits.prefix own.entries d w;
+    })
+
+-- A rescind of this key and create revision.
+abbrev pub rescind_sent_of : ℕ → List ℕ × ℕ → Ownership → JobSent
+rescind_sent_of call q own =
+    record {
+      own = record { entries = changed_at own.entries q.0 (rescind_sent true); waits = record own.waits { out = own.waits.out ++ out_call call (job.Rescind q.0 q.1) ∷ [] } };
+      due = rescind_due own.waits.prefix q.0 q.1;
+    }

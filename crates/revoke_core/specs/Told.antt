@@ -1,12 +1,11 @@
 -- What the notices of a message do, part by part.
-use Rattle.std.specs.Prelude.{ℕ, Bool, true, ◌&&◌, nat_lt, not, false, if◌then◌else◌, List, [], ◌∷◌, map, Option, None, Some, is_some}
+use Rattle.std.specs.Prelude.{ℕ, Bool, true, nat_lt, false, if◌then◌else◌, List, [], ◌∷◌, map, Option, None, Some, is_some}
 use Rattle.etcd_types.specs.Keys.{same}
 use Rattle.proxy_model.specs.declared.lease.Entry.{Entry}
 use Rattle.proxy_model.specs.Keyed.{Keyed, at, with_at, changed_at}
 use Rattle.wait_model.specs.declared.write.Write.{Write}
 use Rattle.wait_model.specs.ForeignOwnership.{write_gone}
 use Rattle.wait_model.specs.Notices.{revoked_turn, deleted_turn}
-use Rattle.wait_model.specs.Phases.{is_session}
 use Rattle.wait_model.specs.State.{Ownership}
 use Rattle.revoke_calls.specs.declared.notices.Notice.{Notice}
 use Rattle.revoke_calls.specs.declared.notices.Notice.TheVariants.{Revoked, Deleted}
@@ -52,7 +51,3 @@ told_all session (n ∷ ns) t = told_all session ns (told_one session n t)
 abbrev pub is_older : ℕ → Option Entry → Bool
 is_older revision None = false
 is_older revision (Some e) = nat_lt e.create revision
-
--- it isn't known, and stands under the live session
-abbrev pub is_unknown : Option ℕ → ℕ → Option Entry → Bool
-is_unknown session lease o = is_session session lease && not (is_some o)

@@ -1,13 +1,12 @@
-ghost use Rattle.std.specs.Prelude.{◌≡◌, ◌≤◌, ◌+◌, ◌&&◌, length, not, is_some};
+ghost use Rattle.std.specs.Prelude.{◌≡◌, ◌≤◌, ◌+◌, length};
 ghost use Rattle.std.specs.Option.{option_copied};
-ghost use Rattle.wait_model.specs.Phases.{is_session, own_entry, is_of};
-ghost use Rattle.revoke_core.specs.Told.{told_one, told_all, revoked_spoiled, revoked_entry, revoked_entries, deleted_entries, is_older, is_unknown};
+ghost use Rattle.revoke_core.specs.Told.{told_one, told_all, revoked_spoiled, revoked_entry, revoked_entries, deleted_entries, is_older};
 
 use crate::gone::lose;
 use etcd_types::Bytes;
 use keyed_rows::Rows;
-use lease_table::{Entry, LeaseTable, Phase};
-use revoke_calls::{Notice, is_held, is_writing};
+use lease_table::{Entry, LeaseTable};
+use revoke_calls::{Notice, is_held, is_of, is_unknown, is_writing, own_entry};
 use wait_model::Write;
 
 /// Takes the notices of a message in order, in the room that was made for them.
@@ -83,44 +82,6 @@ fn revoke_entry(session: Option<u64>, key: Bytes, create: u64, lease: u64, table
         table.give_up(&key);
     } else if is_unknown(session, lease, table.find(&key)) {
         table.hold(key, own_entry(create));
-    }
-}
-
-/// Whether there is an entry, of this create revision.
-pub(crate) fn is_of(entry: Option<&Entry>, create: u64) -> bool
-    ensures { result ≡ is_of create (option_copied entry.entry) }
-{
-    match entry {
-        Some(entry) => entry.create == create,
-        None => false,
-    }
-}
-
-/// Whether the lease is that of the live session, and there is no entry.
-pub(crate) fn is_unknown(session: Option<u64>, lease: u64, entry: Option<&Entry>) -> bool
-    ensures { result ≡ is_unknown session lease (option_copied entry.entry) }
-{
-    is_session(session, lease) && !entry.is_some()
-}
-
-/// Whether the lease is that of the live session.
-fn is_session(session: Option<u64>, lease: u64) -> bool
-    ensures { result ≡ is_session session lease }
-{
-    match session {
-        Some(number) => number == lease,
-        None => false,
-    }
-}
-
-/// An entry for an ownership key of this proxy that it didn't know of: it is given up.
-pub(crate) fn own_entry(create: u64) -> Entry
-    ensures { result ≡ own_entry create }
-{
-    Entry {
-        create,
-        kv: None,
-        phase: Phase::Leaving { sent: false },
     }
 }
 

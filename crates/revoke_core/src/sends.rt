@@ -69,6 +69,7 @@ pub(crate) fn send_call(
     ensures due { IfOk result (λ due. due ≡ sent_due prefix.now table.now.entries (first_due writes.old.items)) }
     ensures writes { OnOk result (writes.new.items ≡ sent_writes call (first_due writes.old.items) writes.old.items) }
     ensures out { OnOk result (out.new.items ≡ sent_out call (first_due writes.old.items) out.old.items) }
+    ensures proper { are_proper writes.new.items ≡ true }
     ensures err_writes { OnErr result (writes.new.items ≡ writes.old.items) }
     ensures err_out { OnErr result (out.new.items ≡ out.old.items) }
 {
@@ -98,6 +99,7 @@ fn send_of(
     ensures due { IfOk result (λ due. due ≡ due_of_call prefix.now table.now.entries first write.old) }
     ensures write { OnOk result (write.new ≡ staged write.old (stage_of_call call first write.old.stage)) }
     ensures out { OnOk result (out.new.items ≡ out.old.items ++ out_call call (job_of_call first) ∷ []) }
+    ensures proper { is_proper write.new ≡ true }
     ensures err_write { OnErr result (write.new ≡ write.old) }
     ensures err_out { OnErr result (out.new.items ≡ out.old.items) }
 {

@@ -6,5 +6,5 @@ use Rattle.revoke_calls.proofs.owners.give_up_own.Given as goal
 abbrev pub invariant-loop-row : goal.invariant-loop-row
 invariant-loop-row l = record {
   ends : l.table.entries ≡ owned_left l.session l.yielded l.initial.table.entries;
-  room : length l.others ≤ l.table.spare + length l.yielded;
+  room : length l.fn.others ≤ l.table.spare + length l.yielded;
 }
