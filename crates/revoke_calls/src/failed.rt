@@ -1,4 +1,4 @@
-ghost use Rattle.std.specs.Prelude.{◌≡◌, ◌≤◌, true, IfOk, OnOk, OnErr};
+ghost use Rattle.std.specs.Prelude.{◌≡◌, true, IfOk, OnOk, OnErr};
 ghost use Rattle.wait_model.specs.Fits.{is_proper};
 ghost use Rattle.revoke_calls.specs.Failed.{failed_stage, failed_entries, failed_found, found_entries};
 

@@ -1,9 +1,10 @@
-ghost use Rattle.std.specs.Prelude.{◌≡◌, ◌++◌, ◌≤◌, ◌&&◌, [], Some, not, length, is_some, if◌then◌else◌, IfOk, OnOk, OnErr};
+ghost use Rattle.std.specs.Prelude.{◌≡◌, ◌++◌, ◌∷◌, ◌≤◌, ◌+◌, ◌&&◌, [], Some, not, length, is_some, if◌then◌else◌, IfOk, OnOk};
 ghost use Rattle.proxy_model.specs.Keyed.{at, with_at};
 ghost use Rattle.wait_model.specs.Covers.{covered};
 ghost use Rattle.wait_model.specs.ForeignOwnership.{by_key, found_of, is_own, owned_left};
 ghost use Rattle.wait_model.specs.GuardedAnswers.{owns_at, is_kept, is_gone, other_owners, kept_entries};
-ghost use Rattle.revoke_calls.specs.Ends.{found_if, found_in};
+ghost use Rattle.wait_model.specs.Phases.{own_entry};
+ghost use Rattle.revoke_calls.specs.Ends.{found_in};
 
 use crate::ends::is_shown;
 use crate::stages::{is_owner, is_session, is_unknown, is_writing, own_entry};

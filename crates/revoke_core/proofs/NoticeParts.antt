@@ -10,15 +10,18 @@ use Rattle.proxy_model.specs.declared.lease.Entry.{Entry}
 use Rattle.proxy_model.specs.declared.lease.Phase.{Phase}
 use Rattle.proxy_model.specs.declared.lease.Phase.TheVariants.{Held, Writing, Leaving}
 use Rattle.proxy_model.specs.Foreign.{revoke_word}
-use Rattle.proxy_model.specs.Keyed.{at, changed_at}
+use Rattle.proxy_model.specs.Keyed.{Keyed, at, changed_at}
 use Rattle.proxy_model.specs.LeaseTable.{marked, given_up, is_held, is_held_phase, is_writing, is_writing_phase}
 use Rattle.wait_model.specs.Asked.{acquire_spoiled}
 use Rattle.wait_model.specs.Notices.{owned_key, put_noticed, noticed, all_noticed, revoked_turn, deleted_turn, deleted_phase}
 use Rattle.wait_model.specs.Phases.{is_session, is_of, own_entry}
-use Rattle.wait_model.specs.State.{Ownership}
+use Rattle.wait_model.specs.declared.write.Write.{Write}
+use Rattle.wait_model.specs.Fits.{are_proper}
+use Rattle.wait_model.specs.State.{Waits, Ownership}
 use Rattle.revoke_calls.specs.declared.notices.Notice.{Notice}
 use Rattle.revoke_calls.specs.declared.notices.Notice.TheVariants.{Revoked, Deleted}
 use Rattle.revoke_calls.specs.Messages.{notice_of, notices_of, is_unknown}
+use Rattle.revoke_core.proofs.Proper.{proper-gone}
 use Rattle.revoke_core.specs.Told.{Told, told_of, with_told, told_one, told_all, revoked_spoiled, revoked_entries, revoked_entry, is_older}
 
 -- The revoking word.
@@ -113,3 +116,22 @@ message_told session (x ∷ xs) own =
     let ns = notice_of own.waits.prefix x.change in
     let one = one_told session x.change own in
     ap (λ (o : Ownership). all_noticed session xs o) one ∙ message_told session xs (with_told own (told_all session ns (told_of own))) ∙ ap (λ (t : Told). with_told own t) (sym (told_append session ns (notices_of own.waits.prefix xs) (told_of own)))
+
+-- The parts of a message's end are those of the definition.
+
+pub notice_waits : (session : Option ℕ) (events : List Event) (own : Ownership) (es : Keyed Entry) (ns : List Notice) (ss : Keyed Bool) (ws : List Write) → es ≡ own.entries → ns ≡ notices_of own.waits.prefix events → ss ≡ (told_all session ns (record { entries = es; spoiled = own.waits.spoiled; writes = own.waits.writes })).spoiled → ws ≡ (told_all session ns (record { entries = es; spoiled = own.waits.spoiled; writes = own.waits.writes })).writes → ◌≡◌ {A = Waits} (record own.waits { spoiled = ss; writes = ws }) (all_noticed session events own).waits
+notice_waits session events own es ns ss ws e n s w =
+    (λ i. record own.waits { spoiled = s i; writes = w i }) ∙ (λ i. (with_told own (told_all session (n i) (record { entries = e i; spoiled = own.waits.spoiled; writes = own.waits.writes }))).waits) ∙ sym (ap (λ (o : Ownership). o.waits) (message_told session events own))
+
+pub notice_entries : (session : Option ℕ) (events : List Event) (own : Ownership) (es fs : Keyed Entry) (ns : List Notice) → es ≡ own.entries → ns ≡ notices_of own.waits.prefix events → fs ≡ (told_all session ns (record { entries = es; spoiled = own.waits.spoiled; writes = own.waits.writes })).entries → fs ≡ (all_noticed session events own).entries
+notice_entries session events own es fs ns e n f =
+    f ∙ (λ i. (told_all session (n i) (record { entries = e i; spoiled = own.waits.spoiled; writes = own.waits.writes })).entries) ∙ sym (ap (λ (o : Ownership). o.entries) (message_told session events own))
+
+-- and the writes stay proper
+one_proper : (session : Option ℕ) (n : Notice) (t : Told) → are_proper t.writes ≡ true → are_proper (told_one session n t).writes ≡ true
+one_proper session (Revoked k create lease) t h = h
+one_proper session (Deleted k revision) t h = proper-gone (same k) t.writes h
+
+pub told_proper : (session : Option ℕ) (ns : List Notice) (t : Told) → are_proper t.writes ≡ true → are_proper (told_all session ns t).writes ≡ true
+told_proper session [] t h = h
+told_proper session (n ∷ ns) t h = told_proper session ns (told_one session n t) (one_proper session n t h)
