@@ -4,8 +4,8 @@
 
 mod gone;
 mod losses;
-mod passes;
 mod notices;
+mod passes;
 mod places;
 mod sends;
 mod turns;
