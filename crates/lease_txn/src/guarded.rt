@@ -44,7 +44,7 @@ pub fn range_write(alloc: Global, prefix: &Bytes, write: &Request) -> Result<Req
     requires { IsSeveralKeys write.now }
     ensures { IfOk result (λ request. request ≡ Txn (guarded prefix.now write.now (λ k. 0))) }
 {
-    Ok(with_owned(alloc, prefix, write, &[])?)
+    Ok(guarded_write(alloc, prefix, write, &[])?)
 }
 
 /// A transaction whose writes are of single keys, of which some are owned.
@@ -57,16 +57,16 @@ pub fn shared_write(
     requires { IsTxn write.now }
     ensures { IfOk result (λ request. request ≡ Txn (guarded prefix.now write.now (create_or 0 owned.now))) }
 {
-    Ok(with_owned(alloc, prefix, write, owned.as_slice())?)
+    Ok(guarded_write(alloc, prefix, write, owned.as_slice())?)
 }
 
-fn with_owned(
+/// Any write, of whose keys some are owned.
+pub fn guarded_write(
     alloc: Global,
     prefix: &Bytes,
     write: &Request,
     owned: &[Owned],
 ) -> Result<Request, NoMemory>
-    requires { IsSeveralKeys write.now }
     ensures { IfOk result (λ request. request ≡ Txn (guarded prefix.now write.now (create_or 0 owned.now))) }
 {
     let ranges = written_ranges(alloc, write)?;
@@ -75,7 +75,7 @@ fn with_owned(
 }
 
 /// The distinct ranges that the write writes, rising.
-pub(crate) fn written_ranges(alloc: Global, write: &Request) -> Result<Vec<KeyRange>, NoMemory>
+pub fn written_ranges(alloc: Global, write: &Request) -> Result<Vec<KeyRange>, NoMemory>
     ensures { IfOk result (λ ranges. ranges.items ≡ written_ranges write.now) }
 {
     let mut ranges = Vec::new(alloc);

@@ -16,8 +16,11 @@ mod revoke;
 mod written;
 
 pub use claims::{acquire, read_acquire};
-pub use guarded::{guest_write, owner_write, range_write, shared_write};
+pub use guarded::{
+    guarded_write, guest_write, owner_write, range_write, shared_write, written_ranges,
+};
 pub use not_shape::NotShape;
+pub use owner::{is_revoke, owned_key};
 pub use proxy_model::{Claim, Owned, Owner, Written};
 pub use revoke::{ask_revoke, read_guard, rescind};
 pub use snapshot_reads::{Records, read_only};

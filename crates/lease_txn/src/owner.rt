@@ -1,5 +1,6 @@
 ghost use Rattle.std.specs.Prelude.{◌≡◌, ◌++◌, length, drop, map, IfOk, OnOk};
 ghost use Rattle.std.specs.Option.{option_copied, option_map};
+ghost use Rattle.etcd_types.specs.Keys.{same};
 ghost use Rattle.proxy_model.specs.Foreign.{owner_of, revoke_word};
 ghost use Rattle.proxy_model.specs.Readings.{records_of};
 
@@ -14,13 +15,27 @@ pub(crate) const REVOKE: &[u8] = b"REVOKE";
 pub(crate) fn owner_of(alloc: Global, prefix: &Bytes, kv: &Kv) -> Result<Owner, NoMemory>
     ensures { IfOk result (λ owner. owner ≡ owner_of prefix.now kv.now) }
 {
-    let key = behind(kv.key.as_slice(), prefix.as_slice().len());
     Ok(Owner {
-        key: Bytes::from_slice(alloc, key)?,
+        key: owned_key(alloc, prefix, &kv.key)?,
         lease: kv.lease,
         create: kv.create,
-        revoked: kv.value.as_slice().cmp(REVOKE).is_eq(),
+        revoked: is_revoke(&kv.value),
     })
+}
+
+/// The key that is owned by this ownership key, which stands under the leasing prefix.
+pub fn owned_key(alloc: Global, prefix: &Bytes, key: &Bytes) -> Result<Bytes, NoMemory>
+    ensures { IfOk result (λ owned. owned ≡ drop (length prefix.now) key.now) }
+{
+    let rest = behind(key.as_slice(), prefix.as_slice().len());
+    Ok(Bytes::from_slice(alloc, rest)?)
+}
+
+/// Whether an ownership key's value asks its owner to give the key up.
+pub fn is_revoke(value: &Bytes) -> bool
+    ensures { result ≡ same value.now revoke_word }
+{
+    value.as_slice().cmp(REVOKE).is_eq()
 }
 
 pub(crate) fn owner_in(

@@ -9,12 +9,12 @@ use Rattle.wait_model.specs.Fits.{is_proper, are_proper}
 use Rattle.wait_model.specs.GuardedAnswers.{Ending, ended_by, write_lost}
 use Rattle.wait_model.specs.State.{Waits, Ownership}
 use Rattle.wait_model.specs.Writes.{first_by, without_first, has_ticket, job_of, without_call, asks, sends}
-use Rattle.revoke_core.specs.declared.entries.Fate.TheVariants.{Left}
+use Rattle.revoke_calls.specs.declared.entries.Fate.TheVariants.{Left}
 use Rattle.revoke_core.specs.Losses.{lost_writes, lost_entries, lost_settled}
 use Rattle.revoke_core.specs.Steps.{settled_if, failed_of, given_back_if}
 use Rattle.etcd_types.proofs.Bools.{and_first, and_second, and_both}
 use Rattle.revoke_core.proofs.Searches.{none_removed}
-use Rattle.revoke_core.proofs.SettledEntries.{given_back-fate}
+use Rattle.revoke_calls.proofs.SettledEntries.{given_back-fate}
 
 -- the first that passes is proper
 pub first_proper : (p : Write → Bool) (ws : List Write) (w : Write) → are_proper ws ≡ true → first_by p ws ≡ Some w → is_proper w ≡ true

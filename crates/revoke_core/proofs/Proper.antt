@@ -4,6 +4,7 @@ use Rattle.std.specs.List.{list_any, list_all}
 use Rattle.etcd_types.proofs.Bools.{and_first, and_second, and_both}
 use Rattle.proxy_model.specs.declared.lease.Entry.{Entry}
 use Rattle.proxy_model.specs.Keyed.{Keyed, at}
+use Rattle.revoke_calls.proofs.ProperWrite.{proper-staged, proper-restaged}
 use Rattle.wait_model.specs.declared.write.Write.{Write}
 use Rattle.wait_model.specs.declared.write.WriteStage.{WriteStage}
 use Rattle.wait_model.specs.declared.write.WriteStage.TheVariants.{Waiting, Sends, Finds}
@@ -41,30 +42,6 @@ all-set p (y ∷ xs) (suc i) x h t = and_both (p y) (list_all p (set xs i x)) (a
 pub by_cases : {A : Type 0} (P : A → Type 0) (b : Bool) (x y : A) → (b ≡ true → P x) → (b ≡ false → P y) → P (cond b x y)
 by_cases P true x y f g = f refl
 by_cases P false x y f g = g refl
-
-pub proper-write : (w : Write) → is_proper w ≡ true → is_write w.request ≡ true
-proper-write w h = and_first (is_write w.request) (is_by_keys w || not (is_owner w.stage)) h
-
-pub owner-by_keys : (w : Write) → is_proper w ≡ true → is_owner w.stage ≡ true → is_by_keys w ≡ true
-owner-by_keys w h o = inner (is_by_keys w) (is_owner w.stage) (and_second (is_write w.request) (is_by_keys w || not (is_owner w.stage)) h) o
-  where
-    inner : (k o : Bool) → k || not o ≡ true → o ≡ true → k ≡ true
-    inner true o h t = refl
-    inner false true h t = h
-    inner false false h t = t
-
-pub proper-staged : (w : Write) (stage : WriteStage) → is_proper w ≡ true → (is_owner stage ≡ true → is_by_keys w ≡ true) → is_proper (staged w stage) ≡ true
-proper-staged w stage h o =
-    and_both (is_write w.request) (is_by_keys w || not (is_owner stage)) (proper-write w h) (inner (is_by_keys w) (is_owner stage) o)
-  where
-    inner : (k o : Bool) → (o ≡ true → k ≡ true) → k || not o ≡ true
-    inner true o f = refl
-    inner false true f = f refl
-    inner false false f = refl
-
--- no more an owner than before
-pub proper-restaged : (w : Write) (stage : WriteStage) → is_proper w ≡ true → (is_owner stage ≡ true → is_owner w.stage ≡ true) → is_proper (staged w stage) ≡ true
-proper-restaged w stage h o = proper-staged w stage h (λ t. owner-by_keys w h (o t))
 
 pub proper-map : (g : Write → WriteStage) → ((w : Write) → is_owner (g w) ≡ true → is_owner w.stage ≡ true) → (ws : List Write) → are_proper ws ≡ true → are_proper (map (λ w. staged w (g w)) ws) ≡ true
 proper-map g o [] h = h

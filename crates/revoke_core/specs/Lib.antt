@@ -1,3 +1,4 @@
 pub mod Steps
 pub mod Losses
-pub mod Dues
+pub mod Sends
+pub mod Told

@@ -9,7 +9,7 @@ use Rattle.wait_model.specs.declared.wait.WaitJob.TheVariants as job
 use Rattle.wait_model.specs.declared.write.Write.{Write}
 use Rattle.wait_model.specs.Phases.{rescind_sent}
 use Rattle.wait_model.specs.Writes.{first_by, without_first, sends, asks}
-use Rattle.revoke_core.specs.declared.entries.Fate.TheVariants.{Left}
+use Rattle.revoke_calls.specs.declared.entries.Fate.TheVariants.{Left}
 use Rattle.revoke_core.specs.Steps.{settled_if, failed_of}
 
 abbrev pub lost_writes : ℕ → Option WaitJob → List Write → List Write

@@ -18,8 +18,8 @@ use Rattle.wait_model.specs.Stages.{is_due}
 use Rattle.wait_model.specs.Writes.{has_ticket, sends, asks}
 use Rattle.revoke_core.specs.declared.places.By.{By}
 use Rattle.revoke_core.specs.declared.places.By.TheVariants as by
-use Rattle.revoke_core.specs.declared.entries.Fate.{Fate}
-use Rattle.revoke_core.specs.declared.entries.Fate.TheVariants as fate
+use Rattle.revoke_calls.specs.declared.entries.Fate.{Fate}
+use Rattle.revoke_calls.specs.Fates.{fate_of, settled_entries}
 
 -- the first of these shares a key with one of those before
 abbrev pub first_shares : List Write → List Write → Bool
@@ -59,26 +59,11 @@ IsCall call [] i = ⊥
 IsCall call (c ∷ cs) zero = is_call call c ≡ true
 IsCall call (c ∷ cs) (suc i) = (is_call call c ≡ false) × IsCall call cs i
 
--- The entries of a write.
-
--- an entry whose write is over is held again as it was, or leaves
-abbrev pub after : Fate → Entry → Entry
-after fate.Back e = unwritten e
-after fate.Left e = leaving e
-
-abbrev pub fate_of : WriteStage → Fate
-fate_of stage = if is_due stage then fate.Back else fate.Left
-
-abbrev pub settled_entries : Fate → Write → Keyed Entry → Keyed Entry
-settled_entries f w es = change_owned w (λ k e. after f e) es
+-- The entries of a write, where there is one.
 
 abbrev pub settled_if : Fate → Option Write → Keyed Entry → Keyed Entry
 settled_if f None es = es
 settled_if f (Some w) es = settled_entries f w es
-
--- the change of one key, where it is being written
-abbrev pub settled_at : Fate → List ℕ → List ℕ → Entry → Entry
-settled_at f key k e = if same k key then if_written true (after f) e else e
 
 -- A lost call.
 

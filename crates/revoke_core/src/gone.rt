@@ -1,12 +1,10 @@
 ghost use Rattle.std.specs.Prelude.{◌≡◌, map, true, false};
 ghost use Rattle.etcd_types.specs.Keys.{same};
-ghost use Rattle.wait_model.specs.Covers.{is_single};
 ghost use Rattle.wait_model.specs.ForeignOwnership.{write_gone, stage_gone};
-ghost use Rattle.wait_model.specs.declared.sending.Sending.TheVariants.{Due};
-ghost use Rattle.wait_model.specs.declared.write.WriteStage.TheVariants.{Sends};
 ghost use Rattle.wait_model.specs.SessionEnd.{write_ended, stage_ended};
 
-use etcd_types::{Bytes, Request};
+use etcd_types::Bytes;
+use revoke_calls::{guest_since, is_single};
 use wait_model::{Sending, Write, WriteStage};
 
 /// What every write found is gone.
@@ -88,25 +86,5 @@ fn end_stage(stage: &mut WriteStage, single: bool)
             };
         }
         WriteStage::Waiting | WriteStage::Sends { .. } | WriteStage::Finds { .. } => {}
-    }
-}
-
-fn guest_since(since: u64) -> WriteStage
-    ensures { result ≡ Sends false (Due since) }
-{
-    WriteStage::Sends {
-        owner: false,
-        sending: Sending::Due { since },
-    }
-}
-
-/// Whether it is a write of one key, and no transaction.
-pub(crate) fn is_single(request: &Request) -> bool
-    ensures { result ≡ is_single request.now }
-{
-    match request {
-        Request::Put(_) => true,
-        Request::Delete(ask) => ask.range.is_one(),
-        _ => false,
     }
 }

@@ -2,12 +2,12 @@
 //! foreign owners to give their keys up, and wait. What this proxy gives up itself is sent from here too.
 #![tactic(auto)]
 
-mod due;
-mod entries;
 mod gone;
 mod losses;
+mod notices;
 mod passes;
 mod places;
+mod sends;
 mod turns;
 mod waits;
 

@@ -3,11 +3,11 @@ ghost use Rattle.wait_model.specs.Fits.{are_proper};
 ghost use Rattle.wait_model.specs.Writes.{first_by, without_first, has_ticket};
 ghost use Rattle.revoke_core.specs.Losses.{lost_writes, lost_entries, lost_settled};
 ghost use Rattle.revoke_core.specs.Steps.{passes, settled_if, failed_of, given_back_if};
-ghost use Rattle.revoke_core.specs.declared.entries.Fate.TheVariants.{Left};
+ghost use Rattle.revoke_calls.specs.declared.entries.Fate.TheVariants.{Left};
 
-use crate::entries::{Fate, fate_of, settle_owned};
 use crate::places::{By, take_write};
 use lease_table::LeaseTable;
+use revoke_calls::{Fate, fate_of, settle_owned};
 use wait_model::{Settled, WaitJob, Write};
 
 /// What a call was about is lost.

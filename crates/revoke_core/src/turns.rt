@@ -4,7 +4,7 @@ ghost use Rattle.std.specs.Option.{option_copied};
 ghost use Rattle.etcd_types.specs.Keys.{same};
 ghost use Rattle.etcd_types.specs.Ranges.{overlaps, is_one, contains};
 ghost use Rattle.proxy_model.specs.Keyed.{at};
-ghost use Rattle.proxy_model.specs.LeaseTable.{is_held, given_up};
+ghost use Rattle.proxy_model.specs.LeaseTable.{given_up};
 ghost use Rattle.wait_model.specs.Covers.{shares, meets, covered, is_by_keys, leases, op_leases, leased};
 ghost use Rattle.wait_model.specs.Edits.{each};
 ghost use Rattle.wait_model.specs.Passes.{turn_if, goes};
@@ -17,6 +17,7 @@ ghost use Rattle.revoke_core.specs.Steps.{begun_at, let_go_at};
 use etcd_types::{Bytes, KeyRange, Op, PutAsk, Request};
 use keyed_rows::Rows;
 use lease_table::{Entry, LeaseTable, Phase};
+use revoke_calls::is_held;
 use wait_model::{Asking, Found, Sending, Write, WriteStage};
 
 /// Whether some key is written by both.
@@ -173,20 +174,6 @@ fn is_leaving(entry: Option<&Entry>) -> bool
         Some(
             Entry {
                 phase: Phase::Leaving { .. },
-                ..
-            },
-        ) => true,
-        _ => false,
-    }
-}
-
-fn is_held(entry: Option<&Entry>) -> bool
-    ensures { result ≡ is_held (option_copied entry.entry) }
-{
-    match entry {
-        Some(
-            Entry {
-                phase: Phase::Held,
                 ..
             },
         ) => true,

@@ -1,25 +1,31 @@
-ghost use Rattle.std.specs.Prelude.{◌≡◌, ◌≤◌, OnOk, OnErr, [], map};
-ghost use Rattle.std.specs.Option.{option_copied};
-ghost use Rattle.wait_model.specs.Asked.{acquire_begun, acquire_spoiled, acquire_ended, is_spoiled, is_true};
+ghost use Rattle.std.specs.Prelude.{◌≡◌, true, IfOk, OnOk, OnErr, []};
+ghost use Rattle.std.specs.Option.{option_copied, option_map};
+ghost use Rattle.wait_model.specs.Asked.{submitted, acquire_begun, acquire_spoiled, acquire_ended, is_spoiled, is_true};
 ghost use Rattle.wait_model.specs.DueOrder.{first_place};
 ghost use Rattle.wait_model.specs.Endings.{lost, forgotten};
+ghost use Rattle.wait_model.specs.Fits.{is_write};
 ghost use Rattle.wait_model.specs.Leaving.{quiet_of, moment_or_zero};
 ghost use Rattle.wait_model.specs.LeasingStream.{resynced, all_given_up};
+ghost use Rattle.wait_model.specs.Notices.{all_noticed};
 ghost use Rattle.wait_model.specs.Passes.{proceeded};
+ghost use Rattle.wait_model.specs.Sent.{job_sent};
 ghost use Rattle.wait_model.specs.SessionEnd.{session_ended};
 ghost use Rattle.wait_model.specs.State.{first_waits, owned, step_begun};
+ghost use Rattle.revoke_core.specs.Sends.{after_sending};
 
-use crate::due::first_place;
 use crate::gone::{end_all, lose_all};
 use crate::losses::{forget_write, lose_job};
+use crate::notices::take_all;
 use crate::passes::pass;
 use crate::places::take_job;
-use etcd_types::{Bytes, NoMemory};
+use crate::sends::{first_rescind, send_call, send_rescind};
+use etcd_types::{Bytes, Event, List, NoMemory, Request};
 use keyed_rows::Rows;
 use lease_table::LeaseTable;
+use revoke_calls::{first_place, new_write, notices_of};
 use std::alloc::Global;
 use std::marker::Model;
-use wait_model::{Place, Settled, WaitCall, Write};
+use wait_model::{Due, Place, Settled, WaitCall, Write};
 
 /// The unanswered writes, the acquires that are due or out, and what both wait for. The lease table stands beside it.
 #[derive(Debug, Drop)]
@@ -72,6 +78,17 @@ impl Waits {
         self.step = step;
     }
 
+    /// Hands in a write, which waits behind all others. Where memory was wanting all is as before.
+    pub fn submit(&mut self, ticket: u64, request: Request) -> Result<(), NoMemory>
+        requires { is_write request ≡ true }
+        ensures ok { OnOk result (self.new ≡ (submitted ticket request (owned [] self.old)).waits) }
+        ensures err { OnErr result (self.new ≡ self.old) }
+    {
+        let write = new_write(self.alloc, ticket, request)?;
+        self.writes.push(write)?;
+        Ok(())
+    }
+
     /// An acquire of the key is due. Where memory was wanting all is as before.
     pub fn begin_acquire(&mut self, key: &Bytes) -> Result<(), NoMemory>
         ensures ok { OnOk result (self.new ≡ (acquire_begun key.now (owned [] self.old)).waits) }
@@ -121,6 +138,60 @@ impl Waits {
     {
         let job = take_job(&mut self.out, call);
         lose_job(&mut self.writes, call, job, table)
+    }
+
+    /// A message on the leasing stream, under the live session of this number. Where memory was wanting the writes and entries are
+    /// as before.
+    pub fn notice(
+        &mut self,
+        events: &List<Event>,
+        session: Option<u64>,
+        table: &mut LeaseTable,
+    ) -> Result<(), NoMemory>
+        ensures waits { OnOk result (self.new ≡ (all_noticed session events.now (owned table.old.entries self.old)).waits) }
+        ensures entries { OnOk result (table.new.entries ≡ (all_noticed session events.now (owned table.old.entries self.old)).entries) }
+        ensures err { OnErr result (self.new ≡ self.old) }
+        ensures err_entries { OnErr result (table.new.entries ≡ table.old.entries) }
+    {
+        let notices = notices_of(self.alloc, &self.prefix, events)?;
+        table.reserve(notices.len() as u64)?;
+        take_all(
+            notices,
+            session,
+            &mut self.writes,
+            &mut self.spoiled,
+            table,
+        );
+        Ok(())
+    }
+
+    /// The first due job, which is then out under this number, which no call had before; nothing exactly where none is due. Where
+    /// memory was wanting all is as before.
+    pub fn next_job(&mut self, call: u64, table: &mut LeaseTable) -> Result<Option<Due>, NoMemory>
+        ensures due { IfOk result (λ due. due ≡ option_map (λ sent. sent.due) (job_sent call (owned table.old.entries self.old))) }
+        ensures waits { OnOk result (self.new ≡ (after_sending (owned table.old.entries self.old) (job_sent call (owned table.old.entries self.old))).waits) }
+        ensures entries { OnOk result (table.new.entries ≡ (after_sending (owned table.old.entries self.old) (job_sent call (owned table.old.entries self.old))).entries) }
+        ensures err { OnErr result (self.new ≡ self.old) }
+        ensures err_table { OnErr result (table.new ≡ table.old) }
+    {
+        match first_rescind(self.alloc, table)? {
+            Some((key, create)) => {
+                let out = &mut self.out;
+                let due = send_rescind(self.alloc, &self.prefix, out, call, key, create, table)?;
+                Ok(Some(due))
+            }
+            None => {
+                let due = send_call(
+                    self.alloc,
+                    &self.prefix,
+                    &mut self.writes,
+                    &mut self.out,
+                    call,
+                    table,
+                )?;
+                Ok(due)
+            }
+        }
     }
 
     /// The request of this ticket timed out or left, and its write with it.

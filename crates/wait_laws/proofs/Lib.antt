@@ -7,3 +7,4 @@ pub mod Kept
 pub mod Steps
 pub mod Sendings
 pub mod OwnersShown
+pub mod WrittenKept

@@ -2,6 +2,7 @@
 #![tactic(auto)]
 
 ghost use Rattle.wait_laws.specs.Laws.{Settles, KeepsKeys, AnswersKeep, LossesKeep, SessionEndKeeps, ForgettingKeeps, NoticesKeep, AsksKeep, AcquiresKeep, SendingKeeps, OwnersAreCovered};
+ghost use Rattle.wait_laws.specs.Written.{RangesStay, AnswersKeepWritten};
 
 /// After one pass each waiting write has what it waits for, and a pass keeps what holds of each key.
 pub fn one_pass()
@@ -24,4 +25,11 @@ pub fn each_step()
 /// The owners that an answer shows are of keys that the write covers, which the law on answers asks for.
 pub fn owners_shown()
     ensures { OwnersAreCovered }
+{}
+
+/// Every step keeps the ranges of each write those that its request writes, and so every answer whose ownership keys are bytes keeps
+/// what holds of each key.
+pub fn ranges_stay()
+    ensures steps { RangesStay }
+    ensures answers { AnswersKeepWritten }
 {}

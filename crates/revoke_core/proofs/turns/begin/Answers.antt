@@ -6,7 +6,7 @@ use Rattle.wait_model.specs.Covers.{covered}
 use Rattle.wait_model.specs.Edits.{each}
 use Rattle.wait_model.specs.Phases.{begun}
 use Rattle.revoke_core.specs.Steps.{begun_at}
-use Rattle.revoke_core.proofs.Keys.{each_none, one_more, covered_one_more, begun_idle}
+use Rattle.revoke_calls.proofs.Keys.{each_none, one_more, covered_one_more, begun_idle}
 use Rattle.revoke_core.proofs.turns.begin.Goals as goal
 
 pub loop-range-init : goal.loop-range-init

@@ -6,7 +6,7 @@ use Rattle.proxy_model.specs.Keyed.{at}
 use Rattle.proxy_model.specs.LeaseTable.{is_held, writing}
 use Rattle.wait_model.specs.Phases.{begun}
 use Rattle.revoke_core.specs.Steps.{begun_at}
-use Rattle.revoke_core.proofs.Keys.{changed_is, unchanged_is, held_begun, other_begun}
+use Rattle.revoke_calls.proofs.Keys.{changed_is, unchanged_is, held_begun, other_begun}
 use Rattle.revoke_core.proofs.turns.begin_key.Goals as goal
 
 pub returns-then-is_held : goal.returns-then-is_held

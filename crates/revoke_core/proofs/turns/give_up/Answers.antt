@@ -7,7 +7,7 @@ use Rattle.proxy_model.specs.Keyed.{Keyed}
 use Rattle.proxy_model.specs.LeaseTable.{given_up}
 use Rattle.wait_model.specs.Covers.{covered}
 use Rattle.wait_model.specs.Edits.{each}
-use Rattle.revoke_core.proofs.Keys.{each_none, one_more, covered_more, given_up_idle}
+use Rattle.revoke_calls.proofs.Keys.{each_none, one_more, covered_more, given_up_idle}
 use Rattle.revoke_core.proofs.turns.give_up.Goals as goal
 
 pub loop-range-init : goal.loop-range-init

@@ -6,7 +6,7 @@ use Rattle.wait_model.specs.Covers.{covered, leased}
 use Rattle.wait_model.specs.Edits.{each}
 use Rattle.wait_model.specs.Phases.{let_go}
 use Rattle.revoke_core.specs.Steps.{let_go_at}
-use Rattle.revoke_core.proofs.Keys.{each_none, one_more, covered_one_more, let_go_idle, and_or}
+use Rattle.revoke_calls.proofs.Keys.{each_none, one_more, covered_one_more, let_go_idle, and_or}
 use Rattle.revoke_core.proofs.turns.let_go.Goals as goal
 
 pub loop-range-init : goal.loop-range-init

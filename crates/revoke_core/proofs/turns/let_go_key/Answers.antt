@@ -9,7 +9,7 @@ use Rattle.wait_model.specs.Covers.{leased}
 use Rattle.wait_model.specs.Phases.{let_go}
 use Rattle.etcd_types.proofs.Bools.{and_both}
 use Rattle.revoke_core.specs.Steps.{let_go_at}
-use Rattle.revoke_core.proofs.Keys.{changed_is, unchanged_is, held_let_go, other_let_go, none_let_go}
+use Rattle.revoke_calls.proofs.Keys.{changed_is, unchanged_is, held_let_go, other_let_go, none_let_go}
 use Rattle.revoke_core.proofs.turns.let_go_key.Goals.{else-is_held-via-then-is_held+else-is_leased, else-is_held-via-else-is_held}
 use Rattle.revoke_core.proofs.turns.let_go_key.Goals as goal
 

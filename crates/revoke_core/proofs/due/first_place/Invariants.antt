@@ -1,9 +1,0 @@
--- What is left to be looked at ends where the whole ends.
-use Rattle.std.proofs.Common.{◌≡◌, drop, None}
-use Rattle.std.specs.List.{flat_map}
-use Rattle.wait_model.specs.DueOrder.{due_of, due_found, earliest}
-use Rattle.revoke_core.specs.Dues.{places}
-use Rattle.revoke_core.proofs.due.first_place.Given as goal
-
-abbrev pub invariant-loop-write : goal.invariant-loop-write
-invariant-loop-write l = earliest l.first (places (flat_map due_of (drop l.write-index l.writes))) ≡ earliest None (places (flat_map due_of l.writes))
