@@ -1,4 +1,4 @@
-ghost use Rattle.std.specs.Prelude.{◌≡◌, ◌<◌, ◌≤◌, ◌+◌, ◌-◌, None, Some, slice_get, slice_set, IfOk, IfErr, OnErr};
+ghost use Rattle.std.specs.Prelude.{◌≡◌, ◌<◌, ◌≤◌, ◌+◌, ◌-◌, None, Some, slice_get, slice_set, length, IsSome, IfOk, IfErr, OnErr};
 ghost use Rattle.std.specs.Option.{option_copied};
 ghost use Rattle.store_model.specs.declared.watch.OpenWatch.{OpenWatch};
 ghost use Rattle.store_model.specs.History.{newest};
@@ -182,6 +182,7 @@ impl Store {
 
     /// Moves the watch on, and gives the message.
     fn go_on(&mut self, number: u64, push: Push) -> WatchItem
+        requires { IsSome (watch_of (state_of self.old) number) }
         ensures item { result ≡ push.item }
         ensures watch { (w : OpenWatch) → watch_of (state_of self.old) number ≡ Some w → state_of self.new ≡ moved (state_of self.old) number w push.next }
     {
@@ -192,23 +193,21 @@ impl Store {
     }
 
     fn set_next(&mut self, number: u64, next: u64)
+        requires { IsSome (watch_of (state_of self.old) number) }
         ensures { (w : OpenWatch) → watch_of (state_of self.old) number ≡ Some w → state_of self.new ≡ with_next (state_of self.old) number w next }
     {
-        if number != 0 {
-            self.watches.set_next((number - 1) as usize, next);
-        }
+        self.watches.set_next((number - 1) as usize, next);
     }
 }
 
 impl Table<OpenWatch> {
-    /// Moves the watch at this place on, where there is one.
+    /// Moves the watch at this place on.
     fn set_next(&mut self, place: usize, next: u64)
+        requires { place < length self.old }
         ensures { (w : OpenWatch) → slice_get self.old place ≡ Some w → self.new ≡ slice_set self.old place (record w { next = next }) }
     {
-        if place < self.items.len() {
-            let watch = &mut self.items[place];
-            watch.next = next;
-        }
+        let watch = &mut self.items[place];
+        watch.next = next;
     }
 }
 
