@@ -27,7 +27,7 @@ text { font: 12px monospace; fill: #222; }
 .lost { stroke: #b03030; stroke-dasharray: 5 4; }
 .arrow { stroke-width: 1.5; fill: none; }
 .cross { stroke: #b03030; stroke-width: 2; }
-.cached { fill: #2a7f3f; font-weight: bold; } .asked { fill: #1f5fa8; } .told { fill: #222; } .event { fill: #777; }
+.uncalled { fill: #2a7f3f; font-weight: bold; } .asked { fill: #1f5fa8; } .told, .taken { fill: #222; } .event { fill: #777; }
 """
 
 
@@ -117,14 +117,14 @@ class Picture:
         self.note("asked", proxy, f"posts {ticket}: {path} {readable([body])}")
 
     def on_reply(self, proxy, ticket, *answer):
-        cached = answer[0] == "ok" and (proxy, ticket) not in self.named
-        self.note("cached" if cached else "told", proxy, f"reply {ticket}{' from the cache' if cached else ''}: {readable(answer)}")
+        uncalled = answer[0] == "ok" and (proxy, ticket) not in self.named
+        self.note("uncalled" if uncalled else "told", proxy, f"reply {ticket}{', no call of its own' if uncalled else ''}: {readable(answer)}")
 
     def on_body(self, proxy, ticket, status, body):
-        self.note("told", proxy, f"body {ticket}: {status} {readable([body])}")
+        self.note("taken", proxy, f"body {ticket}: {status} {readable([body])}")
 
     def on_taken(self, proxy, ticket, *item):
-        self.note("told", proxy, f"takes {ticket}: {readable(item)}")
+        self.note("taken", proxy, f"takes {ticket}: {readable(item)}")
 
     def on_pending(self, proxy, ticket):
         self.note("event", proxy, f"takes {ticket}: nothing yet")

@@ -20,7 +20,7 @@ for transcript in "$@"; do
     agree "$transcript" executed 'class="arrow call"'
     agree "$transcript" answered 'class="arrow answer"'
     agree "$transcript" 'opened|closed|delivered' 'class="arrow message"'
-    agree "$transcript" reply 'class="(told|cached)" cx='
+    agree "$transcript" reply 'class="(told|uncalled)" cx='
 done
 
 printf 'world 1 ~ ~\nstarted 1\nbegun 7\n' > "$work/spoiled"
