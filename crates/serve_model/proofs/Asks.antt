@@ -1,67 +1,258 @@
 -- The steps of one request.
-use Rattle.std.proofs.Common.{◌≡◌, ℕ, true, false, List, [], ◌∷◌, ◌++◌, Option, Result, Ok, Err, refl, append-nil, subst, sym}
+use Rattle.std.proofs.Common.{◌≡◌, ℕ, Bool, true, false, not, ◌||◌, List, [], ◌∷◌, ◌++◌, Option, Result, Ok, Err, refl, append-nil, append_assoc, subst, sym, ap, ◌∙◌}
+use Rattle.std.proofs.KnownBytes.{Appends-trans}
+use Rattle.std.specs.Io.KnownBytes.{Appends}
+use Rattle.outside.specs.Streams.{WritesFront}
 use Rattle.etcd_types.specs.declared.request.Request.{Request}
 use Rattle.etcd_types.specs.declared.answer.Answer.{Answer}
+use Rattle.etcd_types.specs.declared.watch.WatchItem.{WatchItem}
 use Rattle.turn_hub.specs.History.{entry_of}
 use Rattle.core_model.specs.declared.event.CoreEvent.{CoreEvent}
 use Rattle.core_model.specs.declared.event.CoreEvent.TheVariants.{Ask, Take, Leave}
 use Rattle.core_model.specs.declared.event.Outcome.{Outcome}
-use Rattle.core_model.specs.declared.event.Outcome.TheVariants.{Replied, Waiting, Pending}
+use Rattle.core_model.specs.declared.event.Outcome.TheVariants.{Replied, Waiting, Pending, Item}
+use Rattle.core_model.specs.declared.event.StepFault.{StepFault}
+use Rattle.core_model.specs.declared.event.StepFault.TheVariants as step
 use Rattle.serve_model.specs.declared.ends.SessionEnd.{SessionEnd}
 use Rattle.serve_model.specs.declared.ends.SessionEnd.TheVariants as end
 use Rattle.serve_model.specs.declared.fault.TurnFault.{TurnFault}
 use Rattle.serve_model.specs.declared.fault.TurnFault.TheVariants as turn
 use Rattle.serve_model.specs.Steps.{Step, steps_by, MadeBy, Rested, Did, Fits, IsOfRest}
-use Rattle.serve_model.specs.Dialog.{ArePending, Failing, Gone, Replies, Breaks, is_worn, end_of}
-use Rattle.serve_model.specs.Parts.{Waits, Asks}
+use Rattle.serve_model.specs.Dialog.{ArePartial, TakesAll, Whole, Stopping, Stops, Gone, Breaks, AreInUse, IsUntold, is_worn, is_in_use, end_of, is_final, is_cancel, goes_on, begins, said_at, said_from}
 use Rattle.serve_model.proofs.Steps.{did_then, did_nothing, did_rest, did_turn, every_append}
+use Rattle.serve_model.specs.declared.progress.Attempt.{Attempt}
+use Rattle.serve_model.specs.declared.progress.Attempt.TheVariants as attempt
+use Rattle.serve_model.specs.declared.progress.Stop.{Stop}
+use Rattle.serve_model.specs.declared.progress.Stop.TheVariants as stop
+use Rattle.serve_model.specs.declared.progress.Taken.{Taken}
+use Rattle.serve_model.specs.declared.progress.Taken.TheVariants as taken
+use Rattle.serve_model.specs.Parts.{Partly, PassesOn, Takes, Follows, Asks, IsTaken, begun_by}
+use Rattle.serve_model.proofs.Said.{front_all, front_none, front_after, front_more, keeps_itself, appends_nothing}
 
 -- the same result by another name
 pub made_as : (a b : Option (List Step)) (event : CoreEvent) (now : ℕ) (x y : Outcome) → x ≡ y → MadeBy a b event now (Ok x) → MadeBy a b event now (Ok y)
 made_as a b event now x y e m = subst (λ (o : Outcome). MadeBy a b event now (Ok o)) e m
 
+or_false : (b : Bool) → b ≡ (b || false)
+or_false true = refl
+or_false false = refl
+
+or_assoc : (a b c : Bool) → ((a || b) || c) ≡ (a || (b || c))
+or_assoc true b c = refl
+or_assoc false b c = refl
+
+-- what is said goes on where it ended
+pub said_append : (begun : Bool) (xs ys : List Step) → said_from begun (xs ++ ys) ≡ said_from begun xs ++ said_from (begun || begun_by xs) ys
+said_append begun [] ys = ap (λ (b : Bool). said_from b ys) (or_false begun)
+said_append begun (x ∷ xs) ys =
+    let rest = said_append (begun || begins x.answer) xs ys in
+    ap (λ (bytes : List ℕ). said_at begun x.answer ++ bytes) rest
+    ∙ sym (append_assoc (said_at begun x.answer) (said_from (begun || begins x.answer) xs) (said_from ((begun || begins x.answer) || begun_by xs) ys))
+    ∙ ap (λ (b : Bool). (said_at begun x.answer ++ said_from (begun || begins x.answer) xs) ++ said_from b ys) (or_assoc begun (begins x.answer) (begun_by xs))
+
+begun_append : (xs ys : List Step) → begun_by (xs ++ ys) ≡ (begun_by xs || begun_by ys)
+begun_append [] ys = refl
+begun_append (x ∷ xs) ys = ap (λ (b : Bool). begins x.answer || b) (begun_append xs ys) ∙ sym (or_assoc (begins x.answer) (begun_by xs) (begun_by ys))
+
+-- a front of what is said, and of what is said with more steps behind
+front_of_more : (begun : Bool) (a b : Option (List ℕ)) (xs ys : List Step) → WritesFront a b (said_from begun xs) → WritesFront a b (said_from begun (xs ++ ys))
+front_of_more begun a b xs ys w =
+    subst (WritesFront a b) (sym (said_append begun xs ys)) (front_more a b (said_from begun xs) (said_from (begun || begun_by xs) ys) w)
+
+-- one step alone
+one_said : (begun : Bool) (e : Step) → said_from begun (e ∷ []) ≡ said_at begun e.answer
+one_said begun e = append-nil (said_at begun e.answer)
+
 module _ (rests : CoreEvent → Type 0) where
-  -- what was taken so far
-  abbrev pub Taken : ℕ → Option (List Step) → Option (List Step) → Type 0
-  Taken ticket a b = (takes : List Step) × ArePending ticket takes × Did rests a b takes
-
-  pub nothing_taken : (ticket : ℕ) (a : Option (List Step)) → Taken ticket a a
-  nothing_taken ticket a = ([], tt, did_nothing rests a)
-
-  -- a rest ended the wait
-  pub rest_failed : (ticket : ℕ) (a b c : Option (List Step)) (fault : TurnFault) → Taken ticket a b → Rested rests b c → IsOfRest fault → Waits rests ticket a c (Err fault)
-  rest_failed ticket a b c fault t r f = (t.0, [], t.1, Failing.resting fault f, did_then rests a b c t.0 [] t.2 (did_rest rests b c r))
-
   rested : (a b c : Option (List Step)) (takes : List Step) → Did rests a b takes → Rested rests b c → Did rests a c takes
   rested a b c takes d r = subst (Did rests a c) (append-nil takes) (did_then rests a b c takes [] d (did_rest rests b c r))
 
-  taken_then : (ticket now : ℕ) (a b c d : Option (List Step)) (result : Result Outcome TurnFault) (takes : List Step) → Did rests a b takes → Rested rests b c
-      → MadeBy c d (Take ticket) now result → Did rests a d (takes ++ steps_by (Take ticket) now result)
-  taken_then ticket now a b c d result takes t r m =
-      did_then rests a c d takes (steps_by (Take ticket) now result) (rested a b c takes t r) (did_turn rests c d (Take ticket) now result refl m)
+  -- ---- one take
 
-  -- the reply was taken
-  pub was_replied : (ticket now : ℕ) (a b c d : Option (List Step)) (answer : Answer) → Taken ticket a b → Rested rests b c
-      → MadeBy c d (Take ticket) now (Ok (Replied answer)) → Waits rests ticket a d (Ok answer)
-  was_replied ticket now a b c d answer t r m = (t.0, now, t.1, taken_then ticket now a b c d (Ok (Replied answer)) t.0 t.2 r m)
+  pub took_nothing : (ticket now : ℕ) (begun : Bool) (a b : Option (List Step)) (w : Option (List ℕ)) → MadeBy a b (Take ticket) now (Ok Pending)
+      → Takes rests ticket begun a b w w (Ok taken.Nothing)
+  took_nothing ticket now begun a b w m =
+      (now, Ok Pending, refl, did_turn rests a b (Take ticket) now (Ok Pending) refl m, appends_nothing w)
 
-  -- it isn't there yet
-  pub was_pending : (ticket now : ℕ) (a b c d : Option (List Step)) → Taken ticket a b → Rested rests b c
-      → MadeBy c d (Take ticket) now (Ok Pending) → Taken ticket a d
-  was_pending ticket now a b c d t r m =
-      (_, every_append (λ (e : Step). (e.event ≡ Take ticket) × (e.answer ≡ Ok Pending)) t.0 (entry_of (Take ticket) now (Ok Pending) ∷ []) t.1 ((refl, refl), tt), taken_then ticket now a b c d (Ok Pending) t.0 t.2 r m)
+  pub took_reply : (ticket now : ℕ) (begun : Bool) (a b : Option (List Step)) (w w' : Option (List ℕ)) (answer : Answer) → MadeBy a b (Take ticket) now (Ok (Replied answer))
+      → Appends w w' (said_at begun (Ok (Replied answer))) → Takes rests ticket begun a b w w' (Ok taken.Last)
+  took_reply ticket now begun a b w w' answer m s =
+      (now, Ok (Replied answer), refl, did_turn rests a b (Take ticket) now (Ok (Replied answer)) refl m, s)
 
-  -- a take failed
-  failed_is : (ticket now : ℕ) (fault : TurnFault) → Fits (Take ticket) (Err fault) → Failing ticket fault (steps_by (Take ticket) now (Err fault))
-  failed_is ticket now turn.Worn f = Failing.resting turn.Worn tt
-  failed_is ticket now (turn.Core fault) f = Failing.taking now fault f
+  took_last : (ticket now : ℕ) (begun : Bool) (a b : Option (List Step)) (w w' : Option (List ℕ)) (item : WatchItem) → MadeBy a b (Take ticket) now (Ok (Item item))
+      → is_cancel item ≡ true → Appends w w' (said_at begun (Ok (Item item))) → Takes rests ticket begun a b w w' (Ok taken.Last)
+  took_last ticket now begun a b w w' item m c s =
+      (now, Ok (Item item), c, did_turn rests a b (Take ticket) now (Ok (Item item)) refl m, s)
 
-  pub take_failed : (ticket now : ℕ) (a b c d : Option (List Step)) (fault : TurnFault) → Taken ticket a b → Rested rests b c
-      → MadeBy c d (Take ticket) now (Err fault) → Fits (Take ticket) (Err fault) → Waits rests ticket a d (Err fault)
-  take_failed ticket now a b c d fault t r m f =
-      (t.0, steps_by (Take ticket) now (Err fault), t.1, failed_is ticket now fault f, taken_then ticket now a b c d (Err fault) t.0 t.2 r m)
+  took_part : (ticket now : ℕ) (begun : Bool) (a b : Option (List Step)) (w w' : Option (List ℕ)) (item : WatchItem) → MadeBy a b (Take ticket) now (Ok (Item item))
+      → is_cancel item ≡ false → Appends w w' (said_at begun (Ok (Item item))) → Takes rests ticket begun a b w w' (Ok taken.Part)
+  took_part ticket now begun a b w w' item m c s =
+      (now, Ok (Item item), (ap not c, refl), did_turn rests a b (Take ticket) now (Ok (Item item)) refl m, s)
 
-  -- where a ticket is left
+  -- it couldn't be written
+  pub unsaid_last : (ticket now : ℕ) (begun : Bool) (a b : Option (List Step)) (w w' : Option (List ℕ)) (answer : Outcome) (end : SessionEnd)
+      → MadeBy a b (Take ticket) now (Ok answer) → is_final (Ok answer) ≡ true → IsUntold end → WritesFront w w' (said_at begun (Ok answer))
+      → Takes rests ticket begun a b w w' (Err (stop.Answered end))
+  unsaid_last ticket now begun a b w w' answer end m f u s =
+      let e = entry_of (Take ticket) now (Ok answer) in (
+        e ∷ [],
+        TakesAll.up_to now [] (Ok answer) tt f,
+        u,
+        did_turn rests a b (Take ticket) now (Ok answer) refl m,
+        subst (WritesFront w w') (sym (one_said begun e)) s,
+      )
+
+  unsaid_part : (ticket now : ℕ) (begun : Bool) (a b : Option (List Step)) (w w' : Option (List ℕ)) (item : WatchItem) (end : SessionEnd)
+      → MadeBy a b (Take ticket) now (Ok (Item item)) → is_cancel item ≡ false → IsUntold end → WritesFront w w' (said_at begun (Ok (Item item)))
+      → Takes rests ticket begun a b w w' (Err (stop.Unanswered end))
+  unsaid_part ticket now begun a b w w' item end m c u s =
+      let e = entry_of (Take ticket) now (Ok (Item item)) in (
+        e ∷ [],
+        [],
+        ((refl, ap not c), tt),
+        Stopping.untold end u,
+        did_turn rests a b (Take ticket) now (Ok (Item item)) refl m,
+        subst (WritesFront w w') (sym (one_said begun e)) s,
+      )
+
+  -- a message was passed on, or couldn't be
+  pub passed_on : (ticket now : ℕ) (begun : Bool) (a b : Option (List Step)) (w w' : Option (List ℕ)) (item : WatchItem) (result : Result Taken Stop)
+      → MadeBy a b (Take ticket) now (Ok (Item item)) → PassesOn begun item w w' result → Takes rests ticket begun a b w w' result
+  passed_on ticket now begun a b w w' item (Ok taken.Nothing) m p = absurd p
+  passed_on ticket now begun a b w w' item (Ok taken.Part) m p = took_part ticket now begun a b w w' item m p.0 p.1
+  passed_on ticket now begun a b w w' item (Ok taken.Last) m p = took_last ticket now begun a b w w' item m p.0 p.1
+  passed_on ticket now begun a b w w' item (Err (stop.Unanswered end)) m p = unsaid_part ticket now begun a b w w' item end m p.0 p.1 p.2
+  passed_on ticket now begun a b w w' item (Err (stop.Answered end)) m p = unsaid_last ticket now begun a b w w' (Item item) end m p.0 p.1 p.2
+
+  -- the take failed
+  failed_is : (ticket now : ℕ) (fault : TurnFault) → Fits (Take ticket) (Err fault) → Stopping ticket (end_of fault) (steps_by (Take ticket) now (Err fault))
+  failed_is ticket now turn.Worn f = Stopping.resting turn.Worn tt
+  failed_is ticket now (turn.Core fault) f = Stopping.taking now fault f
+
+  pub take_failed : (ticket now : ℕ) (begun : Bool) (a b : Option (List Step)) (w : Option (List ℕ)) (fault : TurnFault) (last : SessionEnd) → last ≡ end_of fault
+      → MadeBy a b (Take ticket) now (Err fault) → Fits (Take ticket) (Err fault) → Takes rests ticket begun a b w w (Err (stop.Unanswered last))
+  take_failed ticket now begun a b w fault last e m f = (
+    [],
+    steps_by (Take ticket) now (Err fault),
+    tt,
+    subst (λ (x : SessionEnd). Stopping ticket x (steps_by (Take ticket) now (Err fault))) (sym e) (failed_is ticket now fault f),
+    did_turn rests a b (Take ticket) now (Err fault) refl m,
+    front_none w w [] (keeps_itself w),
+  )
+
+  -- the same by another name
+  pub taken_as : (ticket : ℕ) (begun : Bool) (a b : Option (List Step)) (u v : Option (List ℕ)) (x y : Taken) → x ≡ y → Takes rests ticket begun a b u v (Ok x)
+      → Takes rests ticket begun a b u v (Ok y)
+  taken_as ticket begun a b u v x y e t = subst (λ (z : Taken). Takes rests ticket begun a b u v (Ok z)) e t
+
+  pub stopped_as : (ticket : ℕ) (a b : Option (List Step)) (u v : Option (List ℕ)) (x y : Stop) → x ≡ y → Follows rests ticket a b u v (Err x)
+      → Follows rests ticket a b u v (Err y)
+  stopped_as ticket a b u v x y e t = subst (λ (z : Stop). Follows rests ticket a b u v (Err z)) e t
+
+  pub asked_as : (request : Request) (a b : Option (List Step)) (u v : Option (List ℕ)) (x y : Attempt) → x ≡ y → Asks rests request a b u v (Ok x)
+      → Asks rests request a b u v (Ok y)
+  asked_as request a b u v x y e t = subst (λ (z : Attempt). Asks rests request a b u v (Ok z)) e t
+
+  -- ---- rests and takes
+
+  pub nothing_yet : (ticket : ℕ) (a : Option (List Step)) (w : Option (List ℕ)) → Partly rests ticket false a a w w
+  nothing_yet ticket a w = record { takes = []; partial = tt; did = did_nothing rests a; said = appends_nothing w; begun_so = refl }
+
+  said_then : (ticket : ℕ) (begun : Bool) (a b : Option (List Step)) (u v w : Option (List ℕ)) (p : Partly rests ticket begun a b u v) (e : Step)
+      → Appends v w (said_at begun e.answer) → Appends u w (said_from false (p.takes ++ e ∷ []))
+  said_then ticket begun a b u v w p e s =
+      subst (Appends u w) (sym (said_append false p.takes (e ∷ []))) (Appends-trans u v w (said_from false p.takes) (said_from (begun_by p.takes) (e ∷ [])) p.said
+      (subst (Appends v w) (ap (λ (b : Bool). said_at b e.answer) (sym p.begun_so) ∙ sym (one_said (begun_by p.takes) e)) s))
+
+  more : (ticket now : ℕ) (begun : Bool) (a b c d : Option (List Step)) (u v w : Option (List ℕ)) (answer : Result Outcome StepFault) → (p : Partly rests ticket begun a b u v)
+      → Rested rests b c → goes_on answer ≡ true → Did rests c d (entry_of (Take ticket) now answer ∷ []) → Appends v w (said_at begun answer)
+      → Partly rests ticket (begun || begins answer) a d u w
+  more ticket now begun a b c d u v w answer p r g m s =
+      let e = entry_of (Take ticket) now answer in
+      record {
+        takes = p.takes ++ e ∷ [];
+        partial = every_append (λ (x : Step). (x.event ≡ Take ticket) × (goes_on x.answer ≡ true)) p.takes (e ∷ []) p.partial ((refl, g), tt);
+        did = did_then rests a c d p.takes (e ∷ []) (rested a b c p.takes p.did r) m;
+        said = said_then ticket begun a b u v w p e s;
+        begun_so = begun_append p.takes (e ∷ []) ∙ ap (λ (x : Bool). x || (begins answer || false)) p.begun_so ∙ ap (λ (x : Bool). begun || x) (sym (or_false (begins answer)));
+      }
+
+  or_true : (b : Bool) → (b || true) ≡ true
+  or_true true = refl
+  or_true false = refl
+
+  pub part_taken : (ticket : ℕ) (begun : Bool) (a b c d : Option (List Step)) (u v w : Option (List ℕ)) → Partly rests ticket begun a b u v → Rested rests b c
+      → Takes rests ticket begun c d v w (Ok taken.Part) → Partly rests ticket true a d u w
+  part_taken ticket begun a b c d u v w p r t =
+      let all = more ticket t.0 begun a b c d u v w t.1 p r t.2.0 t.3 t.4 in
+      subst (λ (x : Bool). Partly rests ticket x a d u w) (ap (λ (x : Bool). begun || x) t.2.1 ∙ or_true begun) all
+
+  pub nothing_taken : (ticket : ℕ) (begun : Bool) (a b c d : Option (List Step)) (u v w : Option (List ℕ)) → Partly rests ticket begun a b u v → Rested rests b c
+      → Takes rests ticket begun c d v w (Ok taken.Nothing) → Partly rests ticket begun a d u w
+  nothing_taken ticket begun a b c d u v w p r t =
+      let all = more ticket t.0 begun a b c d u v w t.1 p r (ap goes_on t.2) t.3 t.4 in
+      subst (λ (x : Bool). Partly rests ticket x a d u w) (ap (λ (x : Bool). begun || x) (ap begins t.2) ∙ sym (or_false begun)) all
+
+  pub last_taken : (ticket : ℕ) (begun : Bool) (a b c d : Option (List Step)) (u v w : Option (List ℕ)) → Partly rests ticket begun a b u v → Rested rests b c
+      → Takes rests ticket begun c d v w (Ok taken.Last) → Follows rests ticket a d u w (Ok tt)
+  last_taken ticket begun a b c d u v w p r t =
+      let e = entry_of (Take ticket) t.0 t.1 in (
+        p.takes ++ e ∷ [],
+        TakesAll.up_to t.0 p.takes t.1 p.partial t.2,
+        did_then rests a c d p.takes (e ∷ []) (rested a b c p.takes p.did r) t.3,
+        said_then ticket begun a b u v w p e t.4,
+      )
+
+  -- no more is taken, behind what was taken before
+  front_behind : (begun : Bool) (u v w : Option (List ℕ)) (xs ys : List Step) → begun_by xs ≡ begun → Appends u v (said_from false xs) → WritesFront v w (said_from begun ys)
+      → WritesFront u w (said_from false (xs ++ ys))
+  front_behind begun u v w xs ys e a f =
+      subst (WritesFront u w) (sym (said_append false xs ys))
+      (front_after u v w (said_from false xs) (said_from (begun_by xs) ys) a (subst (λ (b : Bool). WritesFront v w (said_from b ys)) (sym e) f))
+
+  all_behind : (ticket : ℕ) (xs ys : List Step) → ArePartial ticket xs → TakesAll ticket ys → TakesAll ticket (xs ++ ys)
+  all_behind ticket xs _ p (TakesAll.up_to now takes last q f) =
+      let e = entry_of (Take ticket) now last in
+      subst (TakesAll ticket) (append_assoc xs takes (e ∷ []))
+      (TakesAll.up_to now (xs ++ takes) last (every_append (λ (x : Step). (x.event ≡ Take ticket) × (goes_on x.answer ≡ true)) xs takes p q) f)
+
+  pub stopped_then : (ticket : ℕ) (begun : Bool) (a b c d : Option (List Step)) (u v w : Option (List ℕ)) (why : Stop) → Partly rests ticket begun a b u v → Rested rests b c
+      → Takes rests ticket begun c d v w (Err why) → Follows rests ticket a d u w (Err why)
+  stopped_then ticket begun a b c d u v w (stop.Unanswered end) p r s = (
+    p.takes ++ s.0,
+    s.1,
+    every_append (λ (x : Step). (x.event ≡ Take ticket) × (goes_on x.answer ≡ true)) p.takes s.0 p.partial s.2,
+    s.3,
+    subst (Did rests a d) (sym (append_assoc p.takes s.0 s.1)) (did_then rests a c d p.takes (s.0 ++ s.1) (rested a b c p.takes p.did r) s.4),
+    front_behind begun u v w p.takes s.0 p.begun_so p.said s.5,
+  )
+  stopped_then ticket begun a b c d u v w (stop.Answered end) p r s = (
+    p.takes ++ s.0,
+    all_behind ticket p.takes s.0 p.partial s.1,
+    s.2,
+    did_then rests a c d p.takes s.0 (rested a b c p.takes p.did r) s.3,
+    front_behind begun u v w p.takes s.0 p.begun_so p.said s.4,
+  )
+
+  pub rest_failed : (ticket : ℕ) (begun : Bool) (a b c : Option (List Step)) (u v : Option (List ℕ)) (fault : TurnFault) (last : SessionEnd) → last ≡ end_of fault
+      → Partly rests ticket begun a b u v → Rested rests b c → IsOfRest fault → Follows rests ticket a c u v (Err (stop.Unanswered last))
+  rest_failed ticket begun a b c u v fault last e p r f = (
+    p.takes,
+    [],
+    p.partial,
+    subst (λ (x : SessionEnd). Stopping ticket x []) (sym e) (Stopping.resting fault f),
+    did_then rests a c c p.takes [] (rested a b c p.takes p.did r) (did_nothing rests c),
+    front_all u v (said_from false p.takes) p.said,
+  )
+
+  -- the client went away
+  pub client_went : (ticket : ℕ) (begun : Bool) (a b : Option (List Step)) (u v : Option (List ℕ)) → Partly rests ticket begun a b u v
+      → Follows rests ticket a b u v (Err (stop.Unanswered end.ReadFault))
+  client_went ticket begun a b u v p =
+      (p.takes, [], p.partial, Stopping.went, did_then rests a b b p.takes [] p.did (did_nothing rests b), front_all u v (said_from false p.takes) p.said)
+
+  -- ---- where a ticket is left
+
   abbrev pub Left : ℕ → SessionEnd → SessionEnd → Option (List Step) → Option (List Step) → Type 0
   Left ticket first end a b = (tail : List Step) × Gone ticket first end tail × Did rests a b tail
 
@@ -85,29 +276,89 @@ module _ (rests : CoreEvent → Type 0) where
 
   -- ---- the kinds of an Ask
 
-  pub replied_at_once : (ticket word now : ℕ) (request : Request) (a b : Option (List Step)) (answer : Answer)
-      → MadeBy a b (Ask ticket request word) now (Ok (Replied answer)) → Asks rests request a b (Ok answer)
-  replied_at_once ticket word now request a b answer m =
-      (_, Replies.at_once ticket word now, did_turn rests a b (Ask ticket request word) now (Ok (Replied answer)) refl m)
+  pub replied_at_once : (ticket word now : ℕ) (request : Request) (a b : Option (List Step)) (w w' : Option (List ℕ)) (answer : Answer)
+      → MadeBy a b (Ask ticket request word) now (Ok (Replied answer)) → Appends w w' (said_at false (Ok (Replied answer))) → Asks rests request a b w w' (Ok attempt.Whole)
+  replied_at_once ticket word now request a b w w' answer m s =
+      let e = entry_of (Ask ticket request word) now (Ok (Replied answer)) in (
+        e ∷ [],
+        Whole.at_once ticket word now answer,
+        did_turn rests a b (Ask ticket request word) now (Ok (Replied answer)) refl m,
+        subst (Appends w w') (sym (one_said false e)) s,
+      )
 
-  pub not_asked : (ticket word now : ℕ) (request : Request) (a b : Option (List Step)) (fault : TurnFault) (last : SessionEnd) → last ≡ end_of fault
-      → MadeBy a b (Ask ticket request word) now (Err fault) → Fits (Ask ticket request word) (Err fault) → Asks rests request a b (Err last)
-  not_asked ticket word now request a b turn.Worn last e m f =
-      ([], subst (λ (x : SessionEnd). Breaks request x []) (sym e) (Breaks.unasked end.Worn tt), did_turn rests a b (Ask ticket request word) now (Err turn.Worn) refl m)
-  not_asked ticket word now request a b (turn.Core fault) last e m f =
-      (_, subst (λ (x : SessionEnd). Breaks request x (steps_by (Ask ticket request word) now (Err (turn.Core fault)))) (sym e) (Breaks.fails ticket word now fault f), did_turn rests a b (Ask ticket request word) now (Err (turn.Core fault)) refl m)
+  pub reply_unsaid : (ticket word now : ℕ) (request : Request) (a b : Option (List Step)) (w w' : Option (List ℕ)) (answer : Answer) (end : SessionEnd)
+      → MadeBy a b (Ask ticket request word) now (Ok (Replied answer)) → IsUntold end → WritesFront w w' (said_at false (Ok (Replied answer)))
+      → Asks rests request a b w w' (Err end)
+  reply_unsaid ticket word now request a b w w' answer end m u s =
+      let e = entry_of (Ask ticket request word) now (Ok (Replied answer)) in (
+        e ∷ [],
+        Breaks.unsaid ticket word now answer end u,
+        did_turn rests a b (Ask ticket request word) now (Ok (Replied answer)) refl m,
+        subst (WritesFront w w') (sym (one_said false e)) s,
+      )
 
-  pub replied_later : (ticket word at : ℕ) (request : Request) (a b c : Option (List Step)) (answer : Answer)
-      → MadeBy a b (Ask ticket request word) at (Ok Waiting) → Waits rests ticket b c (Ok answer) → Asks rests request a c (Ok answer)
-  replied_later ticket word at request a b c answer m w =
-      (_, Replies.waited ticket word at w.1 w.0 w.2, did_then rests a b c (entry_of (Ask ticket request word) at (Ok Waiting) ∷ []) (w.0 ++ entry_of (Take ticket) w.1 (Ok (Replied answer)) ∷ []) (did_turn rests a b (Ask ticket request word) at (Ok Waiting) refl m) w.3)
+  pub ticket_in_use : (ticket word now : ℕ) (request : Request) (a b : Option (List Step)) (w : Option (List ℕ)) (fault : TurnFault) → is_in_use fault ≡ true
+      → MadeBy a b (Ask ticket request word) now (Err fault) → Fits (Ask ticket request word) (Err fault) → Asks rests request a b w w (Ok attempt.InUse)
+  ticket_in_use ticket word now request a b w (turn.Core (step.TicketUsed used)) u m f =
+      let e = entry_of (Ask ticket request word) now (Err (step.TicketUsed used)) in
+      (e ∷ [], ((ticket, word, refl, ap (λ (n : ℕ). Err (step.TicketUsed n)) f), tt), did_turn rests a b (Ask ticket request word) now (Err (turn.Core (step.TicketUsed used))) refl m, refl)
+  ticket_in_use ticket word now request a b w turn.Worn u m f = absurd (cc)
+  ticket_in_use ticket word now request a b w (turn.Core (step.NoSuchTicket other)) u m f = absurd f
+  ticket_in_use ticket word now request a b w (turn.Core (step.NoSuchCall other)) u m f = absurd f
+  ticket_in_use ticket word now request a b w (turn.Core (step.NoSuchStream other)) u m f = absurd f
+  ticket_in_use ticket word now request a b w (turn.Core step.Worn) u m f = absurd (cc)
+  ticket_in_use ticket word now request a b w (turn.Core step.NoMemory) u m f = absurd (cc)
 
-  pub gave_up : (ticket word at : ℕ) (request : Request) (a b c d : Option (List Step)) (fault : TurnFault) (first last : SessionEnd) → first ≡ end_of fault
-      → MadeBy a b (Ask ticket request word) at (Ok Waiting) → Waits rests ticket b c (Err fault) → Left ticket first last c d → Asks rests request a d (Err last)
-  gave_up ticket word at request a b c d fault first last is m w l =
-      let asked = did_turn rests a b (Ask ticket request word) at (Ok Waiting) refl m in
+  -- the Ask failed for another reason than that its ticket was in use
+  of_rest : (ticket word : ℕ) (request : Request) (fault : TurnFault) → is_in_use fault ≡ false → Fits (Ask ticket request word) (Err fault) → IsOfRest fault
+  of_rest ticket word request turn.Worn u f = tt
+  of_rest ticket word request (turn.Core step.Worn) u f = tt
+  of_rest ticket word request (turn.Core step.NoMemory) u f = tt
+  of_rest ticket word request (turn.Core (step.TicketUsed used)) u f = absurd (cc)
+  of_rest ticket word request (turn.Core (step.NoSuchTicket other)) u f = absurd f
+  of_rest ticket word request (turn.Core (step.NoSuchCall other)) u f = absurd f
+  of_rest ticket word request (turn.Core (step.NoSuchStream other)) u f = absurd f
+
+  pub not_asked : (ticket word now : ℕ) (request : Request) (a b : Option (List Step)) (w : Option (List ℕ)) (fault : TurnFault) (last : SessionEnd) → last ≡ end_of fault
+      → is_in_use fault ≡ false → MadeBy a b (Ask ticket request word) now (Err fault) → Fits (Ask ticket request word) (Err fault) → Asks rests request a b w w (Err last)
+  not_asked ticket word now request a b w turn.Worn last e u m f = (
+    [],
+    subst (λ (x : SessionEnd). Breaks request x []) (sym e) (Breaks.unasked end.Worn tt),
+    did_turn rests a b (Ask ticket request word) now (Err turn.Worn) refl m,
+    front_none w w [] (keeps_itself w),
+  )
+  not_asked ticket word now request a b w (turn.Core fault) last e u m f =
+      let steps = steps_by (Ask ticket request word) now (Err (turn.Core fault)) in (
+        steps,
+        subst (λ (x : SessionEnd). Breaks request x steps) (sym e) (Breaks.fails ticket word now fault (of_rest ticket word request (turn.Core fault) u f)),
+        did_turn rests a b (Ask ticket request word) now (Err (turn.Core fault)) refl m,
+        front_none w w [] (keeps_itself w),
+      )
+
+  pub waits_whole : (ticket word at : ℕ) (request : Request) (a b c : Option (List Step)) (w w' : Option (List ℕ)) → MadeBy a b (Ask ticket request word) at (Ok Waiting)
+      → Follows rests ticket b c w w' (Ok tt) → Asks rests request a c w w' (Ok attempt.Whole)
+  waits_whole ticket word at request a b c w w' m f =
+      let e = entry_of (Ask ticket request word) at (Ok Waiting) in
+      (e ∷ f.0, Whole.waited ticket word at f.0 f.1, did_then rests a b c (e ∷ []) f.0 (did_turn rests a b (Ask ticket request word) at (Ok Waiting) refl m) f.2, f.3)
+
+  pub waits_unsaid : (ticket word at : ℕ) (request : Request) (a b c : Option (List Step)) (w w' : Option (List ℕ)) (end : SessionEnd) → MadeBy a b (Ask ticket request word) at (Ok Waiting)
+      → Follows rests ticket b c w w' (Err (stop.Answered end)) → Asks rests request a c w w' (Err end)
+  waits_unsaid ticket word at request a b c w w' end m f =
       let e = entry_of (Ask ticket request word) at (Ok Waiting) in (
-        _,
-        Breaks.gone fault last ticket word at w.0 w.1 l.0 w.2 w.3 (subst (λ (x : SessionEnd). Gone ticket x last l.0) is l.1),
-        did_then rests a c d (e ∷ (w.0 ++ w.1)) l.0 (did_then rests a b c (e ∷ []) (w.0 ++ w.1) asked w.4) l.2,
+        e ∷ f.0,
+        Breaks.waiting ticket word at end f.0 (Stops.unsaid end f.0 f.2 f.1),
+        did_then rests a b c (e ∷ []) f.0 (did_turn rests a b (Ask ticket request word) at (Ok Waiting) refl m) f.3,
+        f.4,
+      )
+
+  pub gave_up : (ticket word at : ℕ) (request : Request) (a b c d : Option (List Step)) (w w' : Option (List ℕ)) (first end : SessionEnd)
+      → MadeBy a b (Ask ticket request word) at (Ok Waiting) → Follows rests ticket b c w w' (Err (stop.Unanswered first)) → Left ticket first end c d
+      → Asks rests request a d w w' (Err end)
+  gave_up ticket word at request a b c d w w' first end m f l =
+      let e = entry_of (Ask ticket request word) at (Ok Waiting) in
+      let steps = f.0 ++ f.1 ++ l.0 in (
+        e ∷ steps,
+        Breaks.waiting ticket word at end steps (Stops.gone first end f.0 f.1 l.0 f.2 f.3 l.1),
+        did_then rests a b d (e ∷ []) steps (did_turn rests a b (Ask ticket request word) at (Ok Waiting) refl m) (did_then rests b c d (f.0 ++ f.1) l.0 f.4 l.2),
+        subst (λ (xs : List Step). WritesFront w w' (said_from false xs)) (sym (append_assoc f.0 f.1 l.0)) (front_of_more false w w' f.0 (f.1 ++ l.0) f.5),
       )

@@ -1,83 +1,129 @@
 -- One request: what is done and written for it, and how the connection ends in its midst.
-use Rattle.std.proofs.Common.{◌≡◌, ℕ, true, false, List, [], ◌∷◌, ◌++◌, Option, None, Some, Result, Ok, Err, IfSome, refl, sym, ◌∙◌, append-nil, subst}
-use Rattle.std.proofs.lemmas.Grind.{flat_map-append}
+use Rattle.std.proofs.Common.{◌≡◌, ℕ, true, false, ◌||◌, List, [], ◌∷◌, ◌++◌, Option, None, Some, Result, Ok, Err, IfSome, refl, sym, ap, ◌∙◌, append-nil, subst}
 use Rattle.std.proofs.KnownBytes.{Appends-trans}
 use Rattle.std.specs.Io.KnownBytes.{Appends, Keeps}
 use Rattle.outside.specs.Streams.{WritesFront}
 use Rattle.etcd_types.specs.declared.request.Request.{Request}
-use Rattle.etcd_types.specs.declared.answer.Answer.{Answer}
 use Rattle.http_wire.specs.declared.fault.WireFault.{WireFault}
 use Rattle.http_wire.specs.declared.message.Head.{Head}
+use Rattle.http_wire.specs.Connections.{WireState, bytes_ahead}
 use Rattle.http_wire.specs.Written.{Writes}
-use Rattle.turn_hub.specs.History.{entry_of}
 use Rattle.core_model.specs.declared.event.CoreEvent.{CoreEvent}
-use Rattle.core_model.specs.declared.event.CoreEvent.TheVariants.{Take}
-use Rattle.core_model.specs.declared.event.Outcome.TheVariants.{Replied}
+use Rattle.core_model.specs.declared.event.CoreEvent.TheVariants.{Ask}
+use Rattle.core_model.specs.declared.event.StepFault.TheVariants as step
 use Rattle.serve_model.specs.declared.ends.SessionEnd.{SessionEnd}
 use Rattle.serve_model.specs.declared.ends.SessionEnd.TheVariants as end
+use Rattle.serve_model.specs.declared.progress.Attempt.TheVariants as attempt
 use Rattle.serve_model.specs.declared.refused.Refused.{Refused}
 use Rattle.serve_model.specs.Steps.{Step, Did}
-use Rattle.serve_model.specs.Dialog.{Last, Suits, Said, Ahead, IsRequest, Exchange, Ends, Turned, StopsIn, Replies, Breaks, Breaking, IsUnasked, IsUntold, ArePending, said_by, said_by_all, said_for, said_in, reply_of, refusal_to, go_on_of, asked_of}
-use Rattle.serve_model.specs.Parts.{EndsUnasked, Asks, Responds}
-use Rattle.serve_model.proofs.Steps.{did_nothing}
-use Rattle.serve_model.proofs.Said.{front_none, front_by, front_after}
+use Rattle.serve_model.specs.Dialog.{Last, Suits, Said, Ahead, IsRequest, Exchange, Ends, Turned, StopsIn, Breaks, Breaking, IsUntold, AreInUse, begins, said_at, said_from, said_for, said_in, refusal_to, go_on_of, asked_of}
+use Rattle.serve_model.specs.Parts.{EndsUnasked, Asks, Tried, Responds, begun_by}
+use Rattle.serve_model.proofs.Steps.{did_nothing, did_then, every_append}
+use Rattle.serve_model.proofs.Said.{front_none, front_by, front_after, keeps_itself}
+use Rattle.serve_model.proofs.Asks.{said_append}
 
-pub keeps_itself : (written : Option (List ℕ)) → Keeps written written
-keeps_itself None = tt
-keeps_itself (Some bytes) = refl
+-- a look at the source takes no bytes
+pub bytes_kept : (left left' : Option (List ℕ)) (wire : WireState) → Keeps left left' → Keeps (bytes_ahead left wire) (bytes_ahead left' wire)
+bytes_kept None left' wire k = tt
+bytes_kept (Some bytes) None wire k = absurd k
+bytes_kept (Some bytes) (Some more) wire k = ap (λ (xs : List ℕ). wire.held ++ xs) k
 
-pending_says : (ticket : ℕ) (steps : List Step) → ArePending ticket steps → said_by_all steps ≡ []
-pending_says ticket [] p = refl
-pending_says ticket (e ∷ es) p = (λ i. said_by (p.0.1 i) ++ pending_says ticket es p.1 i)
+pub keeps_then : (a b c : Option (List ℕ)) → Keeps a b → Keeps b c → Keeps a c
+keeps_then None b c p q = tt
+keeps_then (Some x) None c p q = absurd p
+keeps_then (Some x) (Some y) None p q = absurd q
+keeps_then (Some x) (Some y) (Some z) p q = q ∙ p
 
--- the steps of a request that was answered say its reply
-pub said_whole : (request : Request) (answer : Answer) (steps : List Step) → Replies request answer steps → said_by_all steps ≡ reply_of answer
-said_whole request answer _ (Replies.at_once ticket word now) = append-nil (reply_of answer)
-said_whole request answer _ (Replies.waited ticket word at now takes p) =
-    flat_map-append (λ (e : Step). said_by e.answer) takes (entry_of (Take ticket) now (Ok (Replied answer)) ∷ [])
-    ∙ (λ i. pending_says ticket takes p i ++ append-nil (reply_of answer) i)
+pub ahead_kept : (P : List ℕ → List ℕ → Type 0) (a b c : Option (List ℕ)) → Ahead P a b → Keeps b c → Ahead P a c
+ahead_kept P None b c p k = tt
+ahead_kept P (Some all) None c p k = absurd p
+ahead_kept P (Some all) (Some rest) None p k = absurd k
+ahead_kept P (Some all) (Some rest) (Some same) p k = subst (P all) (sym k) p
 
 module _ (rests : CoreEvent → Type 0) where
-  pub out_of_tickets : (method : List ℕ) (request : Request) (made : Option (List Step)) (written : Option (List ℕ)) (end : SessionEnd) → IsUnasked end → Responds rests method (Ok request) made made written written (Some end)
-  out_of_tickets method request made written end u = ([], Breaks.unasked end u, did_nothing rests made, front_none written written [] (keeps_itself written))
+  -- ---- what was asked with tickets that were in use
 
-  pub ask_failed : (method : List ℕ) (request : Request) (made made' : Option (List Step)) (written : Option (List ℕ)) (end : SessionEnd) → Asks rests request made made' (Err end)
-      → Responds rests method (Ok request) made made' written written (Some end)
-  ask_failed method request made made' written end a = (a.0, a.1, a.2, front_none written written (said_by_all a.0) (keeps_itself written))
+  used_says : (request : Request) (steps : List Step) → AreInUse request steps → said_from false steps ≡ []
+  used_says request [] u = refl
+  used_says request (e ∷ es) u = (λ i. said_at false (u.0.3 i) ++ said_from (false || begins (u.0.3 i)) es) ∙ used_says request es u.1
 
-  pub was_told : (method : List ℕ) (request : Request) (made made' : Option (List Step)) (written written' : Option (List ℕ)) (answer : Answer) → Asks rests request made made' (Ok answer)
-      → Appends written written' (reply_of answer) → Responds rests method (Ok request) made made' written written' None
-  was_told method request made made' written written' answer a w =
-      (a.0, (answer, a.1), a.2, subst (Appends written written') (sym (said_whole request answer a.0 a.1)) w)
+  used_begins : (request : Request) (steps : List Step) → AreInUse request steps → begun_by steps ≡ false
+  used_begins request [] u = refl
+  used_begins request (e ∷ es) u = (λ i. begins (u.0.3 i) || begun_by es) ∙ used_begins request es u.1
 
-  pub not_told : (method : List ℕ) (request : Request) (made made' : Option (List Step)) (written written' : Option (List ℕ)) (answer : Answer) (fault : WireFault) (end : SessionEnd)
-      → IsUntold end → Asks rests request made made' (Ok answer) → Writes written written' (reply_of answer) (Err fault) → Responds rests method (Ok request) made made' written written' (Some end)
-  not_told method request made made' written written' answer fault end u a w = (
-    a.0,
-    Breaks.answered end answer a.0 u a.1,
-    a.2,
-    subst (WritesFront written written') (sym (said_whole request answer a.0 a.1)) (front_by written written' (reply_of answer) (Err fault) w),
+  -- tickets that were in use say nothing
+  said_after_used : (request : Request) (tries steps : List Step) → AreInUse request tries → said_from false (tries ++ steps) ≡ said_from false steps
+  said_after_used request tries steps u =
+      said_append false tries steps ∙ (λ i. used_says request tries u i ++ said_from (used_begins request tries u i) steps)
+
+  pub none_tried : (asked : Result Request Refused) (made : Option (List Step)) (w : Option (List ℕ)) → Tried rests asked made made w w
+  none_tried (Ok request) made w = ([], tt, did_nothing rests made, refl)
+  none_tried (Err refused) made w = (refl, refl)
+
+  pub tried_as : (x y : Result Request Refused) (a b : Option (List Step)) (u v : Option (List ℕ)) → x ≡ y → Tried rests x a b u v → Tried rests y a b u v
+  tried_as x y a b u v e t = subst (λ (z : Result Request Refused). Tried rests z a b u v) e t
+
+  pub one_more_try : (request : Request) (a b c : Option (List Step)) (u v w : Option (List ℕ)) → Tried rests (Ok request) a b u v
+      → Asks rests request b c v w (Ok attempt.InUse) → Tried rests (Ok request) a c u w
+  one_more_try request a b c u v w t m =
+      let Uses : Step → Type 0 = λ e. (ticket : ℕ) × (word : ℕ) × (e.event ≡ Ask ticket request word) × (e.answer ≡ Err (step.TicketUsed ticket)) in
+      (t.0 ++ m.0, every_append Uses t.0 m.0 t.1 m.1, did_then rests a b c t.0 m.0 t.2 m.2, m.3 ∙ t.3)
+
+  pub was_told : (method : List ℕ) (request : Request) (a b c : Option (List Step)) (u v w : Option (List ℕ)) → Tried rests (Ok request) a b u v
+      → Asks rests request b c v w (Ok attempt.Whole) → Responds rests method (Ok request) a c u w None
+  was_told method request a b c u v w t m = (
+    t.0 ++ m.0,
+    record { tries = t.0; rest = m.0; in_use = t.1; parts = refl; last = m.1 },
+    did_then rests a b c t.0 m.0 t.2 m.2,
+    subst (Appends u w) (sym (said_after_used request t.0 m.0 t.1)) (subst (λ (x : Option (List ℕ)). Appends x w (said_from false m.0)) t.3 m.3),
   )
 
-  -- ---- a refusal
+  pub not_told : (method : List ℕ) (request : Request) (a b c : Option (List Step)) (u v w : Option (List ℕ)) (end : SessionEnd) → Tried rests (Ok request) a b u v
+      → Asks rests request b c v w (Err end) → Responds rests method (Ok request) a c u w (Some end)
+  not_told method request a b c u v w end t m = (
+    t.0 ++ m.0,
+    record { tries = t.0; rest = m.0; in_use = t.1; parts = refl; last = m.1 },
+    did_then rests a b c t.0 m.0 t.2 m.2,
+    subst (WritesFront u w) (sym (said_after_used request t.0 m.0 t.1)) (subst (λ (x : Option (List ℕ)). WritesFront x w (said_from false m.0)) t.3 m.3),
+  )
 
-  pub was_refused : (method : List ℕ) (refused : Refused) (made : Option (List Step)) (written written' : Option (List ℕ)) → Appends written written' (refusal_to method refused)
-      → Responds rests method (Err refused) made made written written' None
-  was_refused method refused made written written' w = ([], refl, did_nothing rests made, w)
+  -- no ticket is left
+  pub out_of_tickets : (request : Request) (made : Option (List Step)) (w : Option (List ℕ)) → Asks rests request made made w w (Err end.OutOfTickets)
+  out_of_tickets request made w = ([], Breaks.unasked end.OutOfTickets tt, did_nothing rests made, front_none w w [] (keeps_itself w))
 
-  pub not_refused : (method : List ℕ) (refused : Refused) (made : Option (List Step)) (written written' : Option (List ℕ)) (fault : WireFault) (end : SessionEnd)
-      → IsUntold end → Writes written written' (refusal_to method refused) (Err fault) → Responds rests method (Err refused) made made written written' (Some end)
-  not_refused method refused made written written' fault end u w =
-      ([], (refl, u), did_nothing rests made, front_by written written' (refusal_to method refused) (Err fault) w)
+  -- ---- a refusal, and a request that memory was wanting to decode
 
-  no_steps : (asked : Result Request Refused) → StopsIn asked end.NoMemory []
-  no_steps (Ok request) = Breaks.unasked end.NoMemory tt
-  no_steps (Err refused) = (refl, tt)
+  did_the_same : (a b : Option (List Step)) → b ≡ a → Did rests a b []
+  did_the_same a b e = subst (λ (x : Option (List Step)). Did rests a x []) (sym e) (did_nothing rests a)
 
-  pub not_decoded : (method : List ℕ) (asked : Result Request Refused) (made : Option (List Step)) (written : Option (List ℕ))
-      → Responds rests method asked made made written written (Some end.NoMemory)
-  not_decoded method asked made written =
-      ([], no_steps asked, did_nothing rests made, front_none written written (said_for method asked []) (keeps_itself written))
+  pub was_refused : (method : List ℕ) (refused : Refused) (a b : Option (List Step)) (u v w : Option (List ℕ)) → Tried rests (Err refused) a b u v
+      → Appends v w (refusal_to method refused) → Responds rests method (Err refused) a b u w None
+  was_refused method refused a b u v w t r =
+      ([], refl, did_the_same a b t.0, subst (λ (x : Option (List ℕ)). Appends x w (refusal_to method refused)) t.1 r)
+
+  pub not_refused : (method : List ℕ) (refused : Refused) (a b : Option (List Step)) (u v w : Option (List ℕ)) (fault : WireFault) (end : SessionEnd)
+      → IsUntold end → Tried rests (Err refused) a b u v → Writes v w (refusal_to method refused) (Err fault) → Responds rests method (Err refused) a b u w (Some end)
+  not_refused method refused a b u v w fault end un t r = (
+    [],
+    (refl, un),
+    did_the_same a b t.0,
+    subst (λ (x : Option (List ℕ)). WritesFront x w (refusal_to method refused)) t.1 (front_by v w (refusal_to method refused) (Err fault) r),
+  )
+
+  pub not_decoded : (method : List ℕ) (asked : Result Request Refused) (a b : Option (List Step)) (u v : Option (List ℕ)) → Tried rests asked a b u v
+      → Responds rests method asked a b u v (Some end.NoMemory)
+  not_decoded method (Ok request) a b u v t = (
+    t.0,
+    record { tries = t.0; rest = []; in_use = t.1; parts = sym (append-nil t.0); last = Breaks.unasked end.NoMemory tt },
+    t.2,
+    subst (λ (x : Option (List ℕ)). WritesFront u x (said_from false t.0)) (sym t.3) (front_none u u (said_from false t.0) (keeps_itself u)),
+  )
+  not_decoded method (Err refused) a b u v t = (
+    [],
+    (refl, tt),
+    did_the_same a b t.0,
+    subst (λ (x : Option (List ℕ)). WritesFront u x (refusal_to method refused)) (sym t.1) (front_none u u (refusal_to method refused) (keeps_itself u)),
+  )
 
   pub responds_as : (method : List ℕ) (x y : Result Request Refused) (made made' : Option (List Step)) (written written' : Option (List ℕ)) (result : Option SessionEnd) → x ≡ y
       → Responds rests method x made made' written written' result → Responds rests method y made made' written written' result
@@ -99,7 +145,7 @@ module _ (rests : CoreEvent → Type 0) where
   suits_broken : (end : SessionEnd) (x : Exchange) → Breaking end → StopsIn (asked_of x.head x.body) end x.steps → Suits end (Last.Broken x)
   suits_broken end.Closed x b s = absurd b
   suits_broken (end.BadRequest fault) x b s = absurd b
-  suits_broken end.ReadFault x b s = absurd b
+  suits_broken end.ReadFault x b s = s
   suits_broken end.WriteFault x b s = s
   suits_broken end.OutOfTickets x b s = s
   suits_broken (end.TicketTaken ticket) x b s = s
@@ -109,7 +155,7 @@ module _ (rests : CoreEvent → Type 0) where
   front_is_said : (end : SessionEnd) (old new : Option (List ℕ)) (bytes : List ℕ) → Breaking end → WritesFront old new bytes → Said end old new bytes
   front_is_said end.Closed old new bytes b w = absurd b
   front_is_said (end.BadRequest fault) old new bytes b w = absurd b
-  front_is_said end.ReadFault old new bytes b w = absurd b
+  front_is_said end.ReadFault old new bytes b w = w
   front_is_said end.WriteFault old new bytes b w = w
   front_is_said end.OutOfTickets old new bytes b w = w
   front_is_said (end.TicketTaken ticket) old new bytes b w = w

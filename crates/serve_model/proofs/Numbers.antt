@@ -1,5 +1,5 @@
 -- The tickets and words of steps that were made one after the other.
-use Rattle.std.proofs.Common.{◌≡◌, ℕ, ◌+◌, false, List, [], ◌∷◌, ◌++◌, Option, None, Some, Result, Ok, Err, refl, sym, ap, ◌∙◌, append-nil, append_assoc, subst, map, ◌⊎◌, inl, inr}
+use Rattle.std.proofs.Common.{◌≡◌, ℕ, ◌+◌, ◌<◌, ◌≤◌, true, false, List, [], ◌∷◌, ◌++◌, Option, None, Some, Result, Ok, Err, refl, sym, ap, ◌∙◌, append-nil, append_assoc, subst, map, ◌⊎◌, inl, inr}
 use Rattle.std.proofs.lemmas.Grind.{flat_map-append}
 use Rattle.std.proofs.lemmas.List.{map-append}
 use Rattle.outside.specs.Draw.{Gives}
@@ -8,13 +8,13 @@ use Rattle.core_model.specs.declared.event.CoreEvent.{CoreEvent}
 use Rattle.core_model.specs.declared.event.CoreEvent.TheVariants.{Ask, Answer, Lost, Tick, Item, Cut, Take, Leave, Work}
 use Rattle.core_model.specs.declared.event.Outcome.{Outcome}
 use Rattle.serve_model.specs.declared.ends.SessionEnd.{SessionEnd}
-use Rattle.serve_model.specs.declared.ends.SessionEnd.TheVariants.{Worn}
+use Rattle.serve_model.specs.declared.ends.SessionEnd.TheVariants.{Worn, OutOfTickets}
 use Rattle.serve_model.specs.declared.fault.TurnFault.{TurnFault}
 use Rattle.serve_model.specs.declared.fault.TurnFault.TheVariants as turn
 use Rattle.serve_model.specs.Steps.{Step, Every, MadeBy, Rested, is_own}
-use Rattle.serve_model.specs.Dialog.{end_of}
-use Rattle.serve_model.specs.Numbers.{ask_of, asks, Asked, Rises, Numbered, LastNumbered}
-use Rattle.serve_model.proofs.Steps.{adds_then, adds_none}
+use Rattle.serve_model.specs.Dialog.{end_of, is_in_use}
+use Rattle.serve_model.specs.Numbers.{ask_of, asks, Asked, Rises, Numbered, LastNumbered, IsElse}
+use Rattle.serve_model.proofs.Steps.{adds_then, adds_none, every_append}
 
 pub asked_then : (a b c : Option (List Step)) (xs ys : List (ℕ × ℕ)) → Asked a b xs → Asked b c ys → Asked a c (xs ++ ys)
 asked_then a b c xs ys p q = record {
@@ -71,40 +71,76 @@ gives_none : (a : Option (List ℕ)) → Gives a a []
 gives_none None = tt
 gives_none (Some a) = sym (append-nil a)
 
-pub numbered_none : (n : ℕ) (given : Option (List ℕ)) (made : Option (List Step)) → Numbered n n given given made made
-numbered_none n given made = record { pairs = []; asked = asked_none made; rises = refl; drawn = gives_none given }
+pub numbered_none : (limit n : ℕ) (given : Option (List ℕ)) (made : Option (List Step)) → Numbered limit n n given given made made
+numbered_none limit n given made = record { pairs = []; asked = asked_none made; rises = refl; below = tt; drawn = gives_none given }
 
-pub numbered_then : (l m n : ℕ) (g h k : Option (List ℕ)) (a b c : Option (List Step)) → Numbered l m g h a b → Numbered m n h k b c → Numbered l n g k a c
-numbered_then l m n g h k a b c p q = record {
+words_then : (g h k : Option (List ℕ)) (xs ys : List (ℕ × ℕ)) → Gives g h (map (λ x. x.1) xs) → Gives h k (map (λ x. x.1) ys) → Gives g k (map (λ x. x.1) (xs ++ ys))
+words_then g h k xs ys p q =
+    subst (Gives g k) (sym (map-append (λ (x : ℕ × ℕ). x.1) xs ys)) (gives_then g h k (map (λ x. x.1) xs) (map (λ x. x.1) ys) p q)
+
+pub numbered_then : (limit l m n : ℕ) (g h k : Option (List ℕ)) (a b c : Option (List Step)) → Numbered limit l m g h a b → Numbered limit m n h k b c
+    → Numbered limit l n g k a c
+numbered_then limit l m n g h k a b c p q = record {
   pairs = p.pairs ++ q.pairs;
   asked = asked_then a b c p.pairs q.pairs p.asked q.asked;
   rises = rises_then l m n p.pairs q.pairs p.rises q.rises;
-  drawn = subst (Gives g k) (sym (map-append (λ (x : ℕ × ℕ). x.1) p.pairs q.pairs)) (gives_then g h k (map (λ x. x.1) p.pairs) (map (λ x. x.1) q.pairs) p.drawn q.drawn);
+  below = every_append (λ (x : ℕ × ℕ). x.0 < limit) p.pairs q.pairs p.below q.below;
+  drawn = words_then g h k p.pairs q.pairs p.drawn q.drawn;
 }
 
-pub numbered_last : (end : SessionEnd) (l m : ℕ) (g h k : Option (List ℕ)) (a b c : Option (List Step)) → Numbered l m g h a b → LastNumbered end m h k b c → LastNumbered end l g k a c
-numbered_last end l m g h k a b c p q = record {
+pub numbered_last : (end : SessionEnd) (limit l m : ℕ) (g h k : Option (List ℕ)) (a b c : Option (List Step)) → Numbered limit l m g h a b
+    → LastNumbered end limit m h k b c → LastNumbered end limit l g k a c
+numbered_last end limit l m g h k a b c p q = record {
   pairs = p.pairs ++ q.pairs;
   to = q.to;
   spare = q.spare;
   asked = asked_then a b c p.pairs q.pairs p.asked q.asked;
   rises = rises_then l m q.to p.pairs q.pairs p.rises q.rises;
+  below = every_append (λ (x : ℕ × ℕ). x.0 < limit) p.pairs q.pairs p.below q.below;
   drawn = subst (Gives g k) (sym (append_assoc (map (λ x. x.1) p.pairs) (map (λ x. x.1) q.pairs) q.spare) ∙ (λ i. sym (map-append (λ (x : ℕ × ℕ). x.1) p.pairs q.pairs) i ++ q.spare)) (gives_then g h k (map (λ x. x.1) p.pairs) (map (λ x. x.1) q.pairs ++ q.spare) p.drawn q.drawn);
   none_spare = q.none_spare;
+  none_left = q.none_left;
 }
 
+-- an end that isn't for want of tickets
+pub has_tickets : (end : SessionEnd) (limit to : ℕ) → IsElse end → end ≡ OutOfTickets → limit ≤ to
+has_tickets end limit to other e = absurd (subst IsElse e other)
+
 -- no step was made for a request, and nothing was drawn
-pub none_last : (end : SessionEnd) (n : ℕ) (given : Option (List ℕ)) (made : Option (List Step)) → LastNumbered end n given given made made
-none_last end n given made = record { pairs = []; to = n; spare = []; asked = asked_none made; rises = refl; drawn = gives_none given; none_spare = inl refl }
+pub none_last : (end : SessionEnd) (limit n : ℕ) (given : Option (List ℕ)) (made : Option (List Step)) → (end ≡ OutOfTickets → limit ≤ n)
+    → LastNumbered end limit n given given made made
+none_last end limit n given made out =
+    record { pairs = []; to = n; spare = []; asked = asked_none made; rises = refl; below = tt; drawn = gives_none given; none_spare = inl refl; none_left = out }
 
 -- a request was asked
-pub one_asked : (n word : ℕ) (given given' : Option (List ℕ)) (made made' : Option (List Step)) → Gives given given' (word ∷ []) → Asked made made' ((n, word) ∷ []) → Numbered n (n + 1) given given' made made'
-one_asked n word given given' made made' d a = record { pairs = (n, word) ∷ []; asked = a; rises = (refl, refl); drawn = d }
+pub one_asked : (limit n word : ℕ) (given given' : Option (List ℕ)) (made made' : Option (List Step)) → n < limit → Gives given given' (word ∷ []) → Asked made made' ((n, word) ∷ [])
+    → Numbered limit n (n + 1) given given' made made'
+one_asked limit n word given given' made made' b d a = record { pairs = (n, word) ∷ []; asked = a; rises = (refl, refl); below = (b, tt); drawn = d }
 
-pub one_last : (end : SessionEnd) (n word : ℕ) (given given' : Option (List ℕ)) (made made' : Option (List Step)) → Gives given given' (word ∷ [])
-    → Asked made made' ((n, word) ∷ []) ⊎ (Asked made made' [] × (end ≡ Worn)) → LastNumbered end n given given' made made'
-one_last end n word given given' made made' d (inl a) = record { pairs = (n, word) ∷ []; to = n + 1; spare = []; asked = a; rises = (refl, refl); drawn = d; none_spare = inl refl }
-one_last end n word given given' made made' d (inr a) = record { pairs = []; to = n; spare = word ∷ []; asked = a.0; rises = refl; drawn = d; none_spare = inr a.1 }
+pub one_last : (end : SessionEnd) (limit n word : ℕ) (given given' : Option (List ℕ)) (made made' : Option (List Step)) → n < limit → IsElse end → Gives given given' (word ∷ [])
+    → Asked made made' ((n, word) ∷ []) ⊎ (Asked made made' [] × (end ≡ Worn)) → LastNumbered end limit n given given' made made'
+one_last end limit n word given given' made made' b other d (inl a) = record {
+  pairs = (n, word) ∷ [];
+  to = n + 1;
+  spare = [];
+  asked = a;
+  rises = (refl, refl);
+  below = (b, tt);
+  drawn = d;
+  none_spare = inl refl;
+  none_left = has_tickets end limit (n + 1) other;
+}
+one_last end limit n word given given' made made' b other d (inr a) = record {
+  pairs = [];
+  to = n;
+  spare = word ∷ [];
+  asked = a.0;
+  rises = refl;
+  below = tt;
+  drawn = d;
+  none_spare = inr a.1;
+  none_left = has_tickets end limit n other;
+}
 
 pub quiet_rest : (rests : CoreEvent → Type 0) (a b c : Option (List Step)) → Asked a b [] → Rested rests b c → Asked a c []
 quiet_rest rests a b c p r = asked_then a b c [] [] p (rest_asks rests b c r)
@@ -125,13 +161,33 @@ pub not_one : (a b : Option (List Step)) (ticket word now : ℕ) (request : Requ
 not_one a b ticket word now request turn.Worn x e m = inr (record { steps = []; adds = m; are = refl }, e)
 not_one a b ticket word now request (turn.Core fault) x e m = inl (record { steps = _; adds = m; are = refl })
 
-pub all_numbered : (end : SessionEnd) (n m : ℕ) (g h : Option (List ℕ)) (a b : Option (List Step)) → Numbered n m g h a b → LastNumbered end n g h a b
-all_numbered end n m g h a b p = record {
+-- all requests have their replies, and the connection ends
+pub all_numbered : (end : SessionEnd) (limit n m : ℕ) (g h : Option (List ℕ)) (a b : Option (List Step)) → IsElse end → Numbered limit n m g h a b → LastNumbered end limit n g h a b
+all_numbered end limit n m g h a b other p = record {
   pairs = p.pairs;
   to = m;
   spare = [];
   asked = p.asked;
   rises = p.rises;
+  below = p.below;
   drawn = subst (Gives g h) (sym (append-nil (map (λ x. x.1) p.pairs))) p.drawn;
   none_spare = inl refl;
+  none_left = has_tickets end limit m other;
 }
+
+-- an Ask whose ticket is in use has an entry
+pub used_one : (a b : Option (List Step)) (ticket word now : ℕ) (request : Request) (fault : TurnFault) → is_in_use fault ≡ true
+    → MadeBy a b (Ask ticket request word) now (Err fault) → Asked a b ((ticket, word) ∷ [])
+used_one a b ticket word now request turn.Worn u m = absurd (cc)
+used_one a b ticket word now request (turn.Core fault) u m = record { steps = _; adds = m; are = refl }
+
+-- the same by an equal limit
+pub numbered_more : (limit limit' l m n : ℕ) (g h k : Option (List ℕ)) (a b c : Option (List Step)) → limit' ≡ limit → Numbered limit l m g h a b
+    → Numbered limit' m n h k b c → Numbered limit l n g k a c
+numbered_more limit limit' l m n g h k a b c e p q =
+    numbered_then limit l m n g h k a b c p (subst (λ (x : ℕ). Numbered x m n h k b c) e q)
+
+pub numbered_end : (end : SessionEnd) (limit limit' l m : ℕ) (g h k : Option (List ℕ)) (a b c : Option (List Step)) → limit' ≡ limit → Numbered limit l m g h a b
+    → LastNumbered end limit' m h k b c → LastNumbered end limit l g k a c
+numbered_end end limit limit' l m g h k a b c e p q =
+    numbered_last end limit l m g h k a b c p (subst (λ (x : ℕ). LastNumbered end x m h k b c) e q)

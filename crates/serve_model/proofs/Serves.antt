@@ -11,8 +11,7 @@ use Rattle.serve_model.specs.declared.ends.SessionEnd.TheVariants as end
 use Rattle.serve_model.specs.Steps.{Step, Did}
 use Rattle.serve_model.specs.Dialog.{Last, IsLast, Said, Ahead, IsRequest, Exchange, Ends, Turned, Answers, Requests, Has, Dialog, asked_in, said_in}
 use Rattle.serve_model.proofs.Steps.{did_nothing, did_then, every_append}
-use Rattle.serve_model.proofs.Said.{front_none, front_after}
-use Rattle.serve_model.proofs.Exchanges.{keeps_itself}
+use Rattle.serve_model.proofs.Said.{front_none, front_after, keeps_itself}
 
 one_more : {A B : Type 0} (f : A → List B) (xs : List A) (x : A) → flat_map f (xs ++ x ∷ []) ≡ flat_map f xs ++ f x
 one_more f xs x = flat_map-append f xs (x ∷ []) ∙ (λ i. flat_map f xs ++ append-nil (f x) i)

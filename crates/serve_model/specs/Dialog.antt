@@ -1,6 +1,6 @@
 -- A connection's dialog: the requests among the bytes that were read, the steps that were made for them, and the bytes that
 -- were written. HTTP is RFC 9112's; requests and answers are in the JSON mapping of etcd's gateway.
-use Rattle.std.specs.Prelude.{◌≡◌, ℕ, Bool, true, false, not, List, [], ◌∷◌, ◌++◌, Option, None, Some, IfSome, Result, Ok, Err, if◌then◌else◌, codes, IsTrue, nat_eq, ⊤}
+use Rattle.std.specs.Prelude.{◌≡◌, ℕ, Bool, true, false, not, List, [], ◌∷◌, ◌++◌, ◌||◌, Option, None, Some, IfSome, Result, Ok, Err, if◌then◌else◌, codes, IsTrue, nat_eq, ⊤}
 use Rattle.std.specs.List.{flat_map}
 use Rattle.std.specs.Cmp.Lexicographic.{pointwise}
 use Rattle.std.specs.Io.KnownBytes.{Appends}
@@ -9,7 +9,9 @@ use Rattle.etcd_types.specs.declared.request.Request.{Request}
 use Rattle.etcd_types.specs.declared.answer.Answer.{Answer}
 use Rattle.etcd_types.specs.declared.answer.Answer.TheVariants.{Refused as Refusing}
 use Rattle.json_model.specs.Mapping.{request_of}
-use Rattle.json_model.specs.WrittenReplies.{answer_status, answer_text}
+use Rattle.etcd_types.specs.declared.watch.WatchItem.{WatchItem}
+use Rattle.etcd_types.specs.declared.watch.WatchItem.TheVariants.{Canceled}
+use Rattle.json_model.specs.WrittenReplies.{answer_status, answer_text, item_text}
 use Rattle.json_model.specs.declared.extra.Reading.TheVariants.{Client}
 use Rattle.json_model.specs.declared.fault.ApiFault.{ApiFault}
 use Rattle.json_model.specs.declared.fault.ApiFault.TheVariants as api
@@ -21,12 +23,12 @@ use Rattle.http_wire.specs.declared.fault.WireFault.{WireFault}
 use Rattle.http_wire.specs.declared.message.Head.{Head}
 use Rattle.http_wire.specs.Bodies.{BodyRead, is_of_bytes}
 use Rattle.http_wire.specs.Heads.{HeadRead}
-use Rattle.http_wire.specs.Written.{reply, bodiless_reply, go_on}
+use Rattle.http_wire.specs.Written.{reply, bodiless_reply, go_on, chunks_head, chunk, last_chunk}
 use Rattle.turn_hub.specs.History.{entry_of}
 use Rattle.core_model.specs.declared.event.CoreEvent.{CoreEvent}
 use Rattle.core_model.specs.declared.event.CoreEvent.TheVariants.{Ask, Take, Leave}
 use Rattle.core_model.specs.declared.event.Outcome.{Outcome}
-use Rattle.core_model.specs.declared.event.Outcome.TheVariants.{Replied, Waiting, Pending}
+use Rattle.core_model.specs.declared.event.Outcome.TheVariants.{Replied, Waiting, Pending, Item}
 use Rattle.core_model.specs.declared.event.StepFault.{StepFault}
 use Rattle.core_model.specs.declared.event.StepFault.TheVariants as step
 use Rattle.serve_model.specs.declared.fault.TurnFault.{TurnFault}
@@ -120,15 +122,36 @@ Ahead P (Some all) (Some rest) = P all rest
 
 -- ---- what is done for it
 
--- the ticket's reply isn't there yet
-abbrev pub ArePending : ℕ → List Step → Type 0
-ArePending ticket steps = Every (λ e. (e.event ≡ Take ticket) × (e.answer ≡ Ok Pending)) steps
+-- the message that ends a watch
+abbrev pub is_cancel : WatchItem → Bool
+is_cancel (Canceled header compact) = true
+is_cancel _ = false
 
--- the steps of a request that was answered so: at the step that asked it, or at a later one that took the reply
-pub data Replies (request : Request) (answer : Answer) : List Step → Type 0 where
-  at_once : (ticket word now : ℕ) → Replies request answer (entry_of (Ask ticket request word) now (Ok (Replied answer)) ∷ [])
-  waited : (ticket word at now : ℕ) (takes : List Step) → ArePending ticket takes
-      → Replies request answer (entry_of (Ask ticket request word) at (Ok Waiting) ∷ takes ++ entry_of (Take ticket) now (Ok (Replied answer)) ∷ [])
+-- a take that brought the reply, or the last message of a watch
+abbrev pub is_final : Result Outcome StepFault → Bool
+is_final (Ok (Replied answer)) = true
+is_final (Ok (Item item)) = is_cancel item
+is_final _ = false
+
+-- a take behind which more is to come: nothing was there yet, or a message that isn't the last
+abbrev pub goes_on : Result Outcome StepFault → Bool
+goes_on (Ok Pending) = true
+goes_on (Ok (Item item)) = not (is_cancel item)
+goes_on _ = false
+
+-- takes of a ticket behind which more is to come
+abbrev pub ArePartial : ℕ → List Step → Type 0
+ArePartial ticket steps = Every (λ e. (e.event ≡ Take ticket) × (goes_on e.answer ≡ true)) steps
+
+-- the takes of a ticket whose reply was taken whole
+pub data TakesAll (ticket : ℕ) : List Step → Type 0 where
+  up_to : (now : ℕ) (takes : List Step) (last : Result Outcome StepFault) → ArePartial ticket takes → is_final last ≡ true
+      → TakesAll ticket (takes ++ entry_of (Take ticket) now last ∷ [])
+
+-- the steps of a request that was answered whole: by the step that asked it, or by takes
+pub data Whole (request : Request) : List Step → Type 0 where
+  at_once : (ticket word now : ℕ) (answer : Answer) → Whole request (entry_of (Ask ticket request word) now (Ok (Replied answer)) ∷ [])
+  waited : (ticket word at : ℕ) (takes : List Step) → TakesAll ticket takes → Whole request (entry_of (Ask ticket request word) at (Ok Waiting) ∷ takes)
 
 -- the end of a connection because of a fault of the core: it is worn, where it isn't one of the others
 abbrev pub end_of_step : StepFault → SessionEnd
@@ -144,7 +167,6 @@ end_of (turn.Core fault) = end_of_step fault
 abbrev pub Breaking : SessionEnd → Type 0
 Breaking Closed = ⊥
 Breaking (BadRequest fault) = ⊥
-Breaking ReadFault = ⊥
 Breaking _ = ⊤
 
 -- an end before the request was asked: no ticket is left, the turn makes no more steps, or memory was wanting
@@ -165,6 +187,11 @@ abbrev pub is_worn : Result Outcome TurnFault → Bool
 is_worn (Err turn.Worn) = true
 is_worn _ = false
 
+-- the ticket that was asked is in use
+abbrev pub is_in_use : TurnFault → Bool
+is_in_use (turn.Core (step.TicketUsed used)) = true
+is_in_use _ = false
+
 -- A connection was to end so, and ends so with these steps: the ticket is left, but where it isn't known any more; the turn makes
 -- no more steps, which then is the end.
 pub data Gone (ticket : ℕ) : SessionEnd → SessionEnd → List Step → Type 0 where
@@ -172,38 +199,82 @@ pub data Gone (ticket : ℕ) : SessionEnd → SessionEnd → List Step → Type 
   worn : (end : SessionEnd) → Gone ticket end Worn []
   taken : (other : ℕ) → Gone ticket (TicketTaken other) (TicketTaken other) []
 
--- the step by which a wait failed, if it was one: a rest fails with none
-pub data Failing (ticket : ℕ) : TurnFault → List Step → Type 0 where
-  resting : (fault : TurnFault) → IsOfRest fault → Failing ticket fault []
-  taking : (now : ℕ) (fault : StepFault) → FitsFault (Take ticket) fault → Failing ticket (turn.Core fault) (entry_of (Take ticket) now (Err fault) ∷ [])
+-- why a connection ends while a ticket waits, and the step that shows it, if one does: a rest or a take failed, the client went away,
+-- or what a take brought wasn't written
+pub data Stopping (ticket : ℕ) : SessionEnd → List Step → Type 0 where
+  resting : (fault : TurnFault) → IsOfRest fault → Stopping ticket (end_of fault) []
+  taking : (now : ℕ) (fault : StepFault) → FitsFault (Take ticket) fault → Stopping ticket (end_of_step fault) (entry_of (Take ticket) now (Err fault) ∷ [])
+  went : Stopping ticket ReadFault []
+  untold : (end : SessionEnd) → IsUntold end → Stopping ticket end []
 
--- The steps of a request in whose midst the connection ended: none; the one that asked, with a fault; those up to the one that
--- left the ticket; or all, where the reply couldn't be written.
+-- The takes of a ticket in whose midst the connection ended: those before the end's cause, its step, and the one that left the ticket; or
+-- all of them, where the last thing couldn't be written.
+pub data Stops (ticket : ℕ) : SessionEnd → List Step → Type 0 where
+  gone : (first end : SessionEnd) (takes failed tail : List Step) → ArePartial ticket takes → Stopping ticket first failed → Gone ticket first end tail
+      → Stops ticket end (takes ++ failed ++ tail)
+  unsaid : (end : SessionEnd) (takes : List Step) → IsUntold end → TakesAll ticket takes → Stops ticket end takes
+
+-- The steps of a request in whose midst the connection ended: none; the one that asked it, with a fault, or with a reply that couldn't be
+-- written; or that one and takes.
 pub data Breaks (request : Request) : SessionEnd → List Step → Type 0 where
   unasked : (end : SessionEnd) → IsUnasked end → Breaks request end []
-  fails : (ticket word now : ℕ) (fault : StepFault) → FitsFault (Ask ticket request word) fault
+  fails : (ticket word now : ℕ) (fault : StepFault) → IsOfRest (turn.Core fault)
       → Breaks request (end_of_step fault) (entry_of (Ask ticket request word) now (Err fault) ∷ [])
-  gone : (fault : TurnFault) (end : SessionEnd) (ticket word at : ℕ) (takes failed tail : List Step) → ArePending ticket takes
-      → Failing ticket fault failed → Gone ticket (end_of fault) end tail
-      → Breaks request end (entry_of (Ask ticket request word) at (Ok Waiting) ∷ takes ++ failed ++ tail)
-  answered : (end : SessionEnd) (answer : Answer) (steps : List Step) → IsUntold end → Replies request answer steps → Breaks request end steps
+  unsaid : (ticket word now : ℕ) (answer : Answer) (end : SessionEnd) → IsUntold end
+      → Breaks request end (entry_of (Ask ticket request word) now (Ok (Replied answer)) ∷ [])
+  waiting : (ticket word at : ℕ) (end : SessionEnd) (takes : List Step) → Stops ticket end takes
+      → Breaks request end (entry_of (Ask ticket request word) at (Ok Waiting) ∷ takes)
+
+-- asks of the request with a ticket that was in use
+abbrev pub AreInUse : Request → List Step → Type 0
+AreInUse request steps = Every (λ e. (ticket : ℕ) × (word : ℕ) × (e.event ≡ Ask ticket request word) × (e.answer ≡ Err (step.TicketUsed ticket))) steps
+
+-- steps of the request: first it was asked with tickets that were in use, and then P
+pub record AfterUsed (request : Request) (P : List Step → Type 0) (steps : List Step) : Type 0 where
+  pub tries : List Step
+  pub rest : List Step
+  pub in_use : AreInUse request tries
+  pub parts : steps ≡ tries ++ rest
+  pub last : P rest
 
 -- ---- what is written for it
 
 unfoldable pub reply_of : Answer → List ℕ
 reply_of answer = reply (answer_status answer) (answer_text answer)
 
--- what a step says to the client
-abbrev pub said_by : Result Outcome StepFault → List ℕ
-said_by (Ok (Replied answer)) = reply_of answer
-said_by _ = []
+-- the head of a reply in chunks, where that isn't written yet
+unfoldable pub head_unless : Bool → List ℕ
+head_unless begun = if begun then [] else chunks_head
 
-abbrev pub said_by_all : List Step → List ℕ
-said_by_all steps = flat_map (λ e. said_by e.answer) steps
+-- the end of a reply in chunks, behind the last one
+unfoldable pub end_if : Bool → List ℕ
+end_if last = if last then last_chunk else []
+
+-- what a message of a watch says to the client: a chunk, with the head before the first, and the end behind the last
+unfoldable pub said_in_chunk : Bool → WatchItem → List ℕ
+said_in_chunk begun item = head_unless begun ++ chunk (item_text item) ++ end_if (is_cancel item)
+
+-- a reply says itself, or no more than the end of the chunks that were begun
+unfoldable pub said_as_reply : Bool → Answer → List ℕ
+said_as_reply begun answer = if begun then last_chunk else reply_of answer
+
+-- what a step says to the client, where the head of the chunks was written or wasn't
+abbrev pub said_at : Bool → Result Outcome StepFault → List ℕ
+said_at begun (Ok (Replied answer)) = said_as_reply begun answer
+said_at begun (Ok (Item item)) = said_in_chunk begun item
+said_at begun _ = []
+
+abbrev pub begins : Result Outcome StepFault → Bool
+begins (Ok (Item item)) = true
+begins _ = false
+
+abbrev pub said_from : Bool → List Step → List ℕ
+said_from begun [] = []
+said_from begun (e ∷ es) = said_at begun e.answer ++ said_from (begun || begins e.answer) es
 
 -- what is said for a request with this method
 abbrev pub said_for : List ℕ → Result Request Refused → List Step → List ℕ
-said_for method (Ok request) steps = said_by_all steps
+said_for method (Ok request) steps = said_from false steps
 said_for method (Err refused) steps = refusal_to method refused
 
 -- where the client waits for it before it sends the body
@@ -222,14 +293,14 @@ asked_in x = asked_of x.head x.body
 abbrev pub said_in : Exchange → List ℕ
 said_in x = go_on_of x.head ++ said_for x.head.method (asked_in x) x.steps
 
--- a refusal needs no step, and a request has its reply
+-- a refusal needs no step, and a request has its whole reply
 abbrev pub Answers : Result Request Refused → List Step → Type 0
 Answers (Err refused) steps = steps ≡ []
-Answers (Ok request) steps = (answer : Answer) × Replies request answer steps
+Answers (Ok request) steps = AfterUsed request (Whole request) steps
 
 abbrev pub StopsIn : Result Request Refused → SessionEnd → List Step → Type 0
 StopsIn (Err refused) end steps = (steps ≡ []) × IsUntold end
-StopsIn (Ok request) end steps = Breaks request end steps
+StopsIn (Ok request) end steps = AfterUsed request (Breaks request end) steps
 
 -- ---- the end of a connection
 

@@ -1,22 +1,29 @@
 -- What the parts of one exchange do.
-use Rattle.std.specs.Prelude.{◌≡◌, ℕ, List, [], ◌∷◌, ◌++◌, Option, None, Some, IfSome, Result, Ok, Err, ⊤}
+use Rattle.std.specs.Prelude.{◌≡◌, ℕ, Bool, true, false, ◌||◌, List, [], ◌∷◌, ◌++◌, Option, None, Some, IfSome, Result, Ok, Err, ⊤}
 use Rattle.std.specs.Io.KnownBytes.{Appends}
 use Rattle.outside.specs.Streams.{WritesFront}
 use Rattle.etcd_types.specs.declared.request.Request.{Request}
-use Rattle.etcd_types.specs.declared.answer.Answer.{Answer}
+use Rattle.etcd_types.specs.declared.watch.WatchItem.{WatchItem}
 use Rattle.http_wire.specs.declared.fault.WireFault.{WireFault}
 use Rattle.http_wire.specs.declared.fault.WireFault.TheVariants as wire
 use Rattle.turn_hub.specs.History.{entry_of}
 use Rattle.core_model.specs.declared.event.CoreEvent.{CoreEvent}
 use Rattle.core_model.specs.declared.event.CoreEvent.TheVariants.{Take}
-use Rattle.core_model.specs.declared.event.Outcome.TheVariants.{Replied}
+use Rattle.core_model.specs.declared.event.Outcome.{Outcome}
+use Rattle.core_model.specs.declared.event.Outcome.TheVariants.{Pending}
+use Rattle.core_model.specs.declared.event.StepFault.{StepFault}
 use Rattle.serve_model.specs.declared.ends.SessionEnd.{SessionEnd}
 use Rattle.serve_model.specs.declared.ends.SessionEnd.TheVariants.{BadRequest, ReadFault, WriteFault, NoMemory}
-use Rattle.serve_model.specs.declared.fault.TurnFault.{TurnFault}
+use Rattle.serve_model.specs.declared.progress.Attempt.{Attempt}
+use Rattle.serve_model.specs.declared.progress.Attempt.TheVariants as attempt
+use Rattle.serve_model.specs.declared.progress.Stop.{Stop}
+use Rattle.serve_model.specs.declared.progress.Stop.TheVariants as stop
+use Rattle.serve_model.specs.declared.progress.Taken.{Taken}
+use Rattle.serve_model.specs.declared.progress.Taken.TheVariants as taken
 use Rattle.serve_model.specs.declared.received.Received as received
 use Rattle.serve_model.specs.declared.refused.Refused.{Refused}
 use Rattle.serve_model.specs.Steps.{Step, Did}
-use Rattle.serve_model.specs.Dialog.{Last, IsLast, Suits, Said, last_steps, last_said, Ahead, IsRequest, go_on_of, Replies, Breaks, ArePending, Failing, Answers, StopsIn, said_for}
+use Rattle.serve_model.specs.Dialog.{Last, IsLast, Suits, Said, last_steps, last_said, Ahead, IsRequest, go_on_of, Whole, ArePartial, TakesAll, Stopping, Breaks, AreInUse, IsUntold, Answers, StopsIn, is_final, is_cancel, goes_on, begins, said_in_chunk, said_at, said_from, said_for}
 
 abbrev pub end_by : WireFault → SessionEnd
 end_by wire.ReadFault = ReadFault
@@ -29,6 +36,37 @@ abbrev pub IsOfWriting : WireFault → Type 0
 IsOfWriting wire.WriteFault = ⊤
 IsOfWriting wire.NoMemory = ⊤
 IsOfWriting _ = ⊥
+
+-- it was told, or a front of it
+abbrev pub Tells : Option (List ℕ) → Option (List ℕ) → List ℕ → Result (Unit {0}) WireFault → Type 0
+Tells old new bytes (Ok done) = Appends old new bytes
+Tells old new bytes (Err fault) = WritesFront old new bytes
+
+-- what a take brought
+abbrev pub IsTaken : Taken → Result Outcome StepFault → Type 0
+IsTaken taken.Nothing answer = answer ≡ Ok Pending
+IsTaken taken.Part answer = (goes_on answer ≡ true) × (begins answer ≡ true)
+IsTaken taken.Last answer = is_final answer ≡ true
+
+-- a message of a watch was told
+abbrev pub PassesOn : Bool → WatchItem → Option (List ℕ) → Option (List ℕ) → Result Taken Stop → Type 0
+PassesOn begun item written written' (Ok taken.Nothing) = ⊥
+PassesOn begun item written written' (Ok taken.Part) = (is_cancel item ≡ false) × Appends written written' (said_in_chunk begun item)
+PassesOn begun item written written' (Ok taken.Last) = (is_cancel item ≡ true) × Appends written written' (said_in_chunk begun item)
+PassesOn begun item written written' (Err (stop.Unanswered end)) =
+    (is_cancel item ≡ false) × IsUntold end × WritesFront written written' (said_in_chunk begun item)
+PassesOn begun item written written' (Err (stop.Answered end)) =
+    (is_cancel item ≡ true) × IsUntold end × WritesFront written written' (said_in_chunk begun item)
+
+-- one of these takes brought a message
+abbrev pub begun_by : List Step → Bool
+begun_by [] = false
+begun_by (e ∷ es) = begins e.answer || begun_by es
+
+-- the end of a connection that stopped so
+abbrev pub end_in : Stop → SessionEnd
+end_in (stop.Unanswered end) = end
+end_in (stop.Answered end) = end
 
 -- the connection ended with no step
 pub record EndsUnasked (left written written' : Option (List ℕ)) (end : SessionEnd) : Type 0 where
@@ -44,17 +82,43 @@ Received left left' written written' (Ok r) = Ahead (IsRequest r.head r.body) le
 Received left left' written written' (Err end) = EndsUnasked left written written' end
 
 module _ (rests : CoreEvent → Type 0) where
-  -- rests and takes, until the reply was taken
-  abbrev pub Waits : ℕ → Option (List Step) → Option (List Step) → Result Answer TurnFault → Type 0
-  Waits ticket made made' (Ok answer) =
-      (takes : List Step) × (now : ℕ) × ArePending ticket takes × Did rests made made' (takes ++ entry_of (Take ticket) now (Ok (Replied answer)) ∷ [])
-  Waits ticket made made' (Err fault) =
-      (takes : List Step) × (failed : List Step) × ArePending ticket takes × Failing ticket fault failed × Did rests made made' (takes ++ failed)
+  -- no more is taken of a ticket: what its takes say was written up to some place
+  abbrev pub Stopped : ℕ → Bool → Option (List Step) → Option (List Step) → Option (List ℕ) → Option (List ℕ) → Stop → Type 0
+  Stopped ticket begun made made' written written' (stop.Unanswered end) =
+      (takes : List Step) × (failed : List Step) × ArePartial ticket takes × Stopping ticket end failed × Did rests made made' (takes ++ failed)
+      × WritesFront written written' (said_from begun takes)
+  Stopped ticket begun made made' written written' (stop.Answered end) =
+      (takes : List Step) × TakesAll ticket takes × IsUntold end × Did rests made made' takes × WritesFront written written' (said_from begun takes)
 
-  -- the steps of one request
-  abbrev pub Asks : Request → Option (List Step) → Option (List Step) → Result Answer SessionEnd → Type 0
-  Asks request made made' (Ok answer) = (steps : List Step) × Replies request answer steps × Did rests made made' steps
-  Asks request made made' (Err end) = (steps : List Step) × Breaks request end steps × Did rests made made' steps
+  -- one take, and what it says, where the head of the chunks was written or wasn't
+  abbrev pub Takes : ℕ → Bool → Option (List Step) → Option (List Step) → Option (List ℕ) → Option (List ℕ) → Result Taken Stop → Type 0
+  Takes ticket begun made made' written written' (Ok taken) =
+      (now : ℕ) × (answer : Result Outcome StepFault) × IsTaken taken answer × Did rests made made' (entry_of (Take ticket) now answer ∷ [])
+      × Appends written written' (said_at begun answer)
+  Takes ticket begun made made' written written' (Err why) = Stopped ticket begun made made' written written' why
+
+  -- takes behind which more is to come, all of whose messages are written
+  pub record Partly (ticket : ℕ) (begun : Bool) (made made' : Option (List Step)) (written written' : Option (List ℕ)) : Type 0 where
+    pub takes : List Step
+    pub partial : ArePartial ticket takes
+    pub did : Did rests made made' takes
+    pub said : Appends written written' (said_from false takes)
+    pub begun_so : begun_by takes ≡ begun
+
+  -- rests and takes, until the last thing was taken and written
+  abbrev pub Follows : ℕ → Option (List Step) → Option (List Step) → Option (List ℕ) → Option (List ℕ) → Result (Unit {0}) Stop → Type 0
+  Follows ticket made made' written written' (Ok done) =
+      (takes : List Step) × TakesAll ticket takes × Did rests made made' takes × Appends written written' (said_from false takes)
+  Follows ticket made made' written written' (Err why) = Stopped ticket false made made' written written' why
+
+  -- the steps of one request with one ticket
+  abbrev pub Asks : Request → Option (List Step) → Option (List Step) → Option (List ℕ) → Option (List ℕ) → Result Attempt SessionEnd → Type 0
+  Asks request made made' written written' (Ok attempt.Whole) =
+      (steps : List Step) × Whole request steps × Did rests made made' steps × Appends written written' (said_from false steps)
+  Asks request made made' written written' (Ok attempt.InUse) =
+      (steps : List Step) × AreInUse request steps × Did rests made made' steps × (written' ≡ written)
+  Asks request made made' written written' (Err end) =
+      (steps : List Step) × Breaks request end steps × Did rests made made' steps × WritesFront written written' (said_from false steps)
 
   -- what is done and written for a request of this method that was read
   abbrev pub Responds : List ℕ → Result Request Refused → Option (List Step) → Option (List Step) → Option (List ℕ) → Option (List ℕ) → Option SessionEnd → Type 0
@@ -62,3 +126,9 @@ module _ (rests : CoreEvent → Type 0) where
       (steps : List Step) × Answers asked steps × Did rests made made' steps × Appends written written' (said_for method asked steps)
   Responds method asked made made' written written' (Some end) =
       (steps : List Step) × StopsIn asked end steps × Did rests made made' steps × WritesFront written written' (said_for method asked steps)
+
+  -- it was asked with tickets that were in use, or, where it is refused with no step, not at all
+  abbrev pub Tried : Result Request Refused → Option (List Step) → Option (List Step) → Option (List ℕ) → Option (List ℕ) → Type 0
+  Tried (Ok request) made made' written written' =
+      (tries : List Step) × AreInUse request tries × Did rests made made' tries × (written' ≡ written)
+  Tried (Err refused) made made' written written' = (made' ≡ made) × (written' ≡ written)

@@ -6,7 +6,7 @@ use Rattle.turn_hub.specs.History.{entry_of}
 use Rattle.core_model.specs.declared.event.CoreEvent.{CoreEvent}
 use Rattle.core_model.specs.declared.event.CoreEvent.TheVariants.{Ask, Answer, Lost, Tick, Item, Cut, Take, Leave, Work}
 use Rattle.core_model.specs.declared.event.Outcome.{Outcome}
-use Rattle.core_model.specs.declared.event.Outcome.TheVariants.{Replied, Waiting, Pending, Noted, Job}
+use Rattle.core_model.specs.declared.event.Outcome.TheVariants.{Replied, Waiting, Pending, Item as Message, Noted, Job}
 use Rattle.core_model.specs.declared.event.StepFault.{StepFault}
 use Rattle.core_model.specs.declared.event.StepFault.TheVariants as step
 use Rattle.serve_model.specs.declared.fault.TurnFault.{TurnFault}
@@ -52,11 +52,12 @@ pub record Rested (rests : CoreEvent → Type 0) (old new : Option (List Step)) 
   pub others : Every (λ e. rests e.event) steps
   pub none_own : Every (λ e. is_own e.event ≡ false) steps
 
--- which faults a core may answer to an event, where no ticket that is asked is in use: beside those of each, a ticket that isn't
+-- which faults a core may answer to an event: beside those of each, that a ticket is in use to an Ask of it, and that it isn't
 -- known to a Take or a Leave of it
 abbrev pub FitsFault : CoreEvent → StepFault → Type 0
 FitsFault event step.Worn = ⊤
 FitsFault event step.NoMemory = ⊤
+FitsFault (Ask ticket request word) (step.TicketUsed other) = other ≡ ticket
 FitsFault (Take ticket) (step.NoSuchTicket other) = other ≡ ticket
 FitsFault (Leave ticket) (step.NoSuchTicket other) = other ≡ ticket
 FitsFault (Answer call answer) (step.NoSuchCall other) = other ≡ call
@@ -65,13 +66,14 @@ FitsFault (Item stream item) (step.NoSuchStream other) = other ≡ stream
 FitsFault (Cut stream) (step.NoSuchStream other) = other ≡ stream
 FitsFault event _ = ⊥
 
--- which outcomes a core that opens no watch for a client may answer to an event
+-- which outcomes a core may answer to an event
 abbrev pub FitsOutcome : CoreEvent → Outcome → Type 0
 FitsOutcome (Ask ticket request word) (Replied answer) = ⊤
 FitsOutcome (Ask ticket request word) Waiting = ⊤
 FitsOutcome (Ask ticket request word) _ = ⊥
 FitsOutcome (Take ticket) (Replied answer) = ⊤
 FitsOutcome (Take ticket) Pending = ⊤
+FitsOutcome (Take ticket) (Message item) = ⊤
 FitsOutcome (Take ticket) _ = ⊥
 FitsOutcome Work (Job job) = ⊤
 FitsOutcome Work _ = ⊥

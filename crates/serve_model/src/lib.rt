@@ -4,10 +4,12 @@
 
 mod ends;
 mod fault;
+mod progress;
 mod received;
 mod refused;
 
 pub use ends::SessionEnd;
 pub use fault::TurnFault;
+pub use progress::{Attempt, Stop, Taken};
 pub use received::Received;
 pub use refused::Refused;

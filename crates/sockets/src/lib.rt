@@ -14,3 +14,6 @@ pub use connection::{SocketSink, SocketSource, ends_of, linger};
 pub use host::SocketHost;
 pub use link::{AnswerStream, LinkLimits, SocketLink};
 pub use permits::Permits;
+
+#[cfg(test)]
+mod tests;

@@ -46,6 +46,6 @@ impl Permits {
     /// Gives a permit back.
     pub(crate) fn give(&self) {
         self.free.fetch_add(1, SeqCst);
-        self.free.wake_one(1);
+        self.free.wake_one();
     }
 }

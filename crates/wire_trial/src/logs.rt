@@ -12,16 +12,55 @@ const MOST_ANSWERS: u32 = 4;
 
 const MOST_LINES: u32 = 8;
 
-/// The text of the requests that come, up to a fault or the end. A fault is asked for twice.
-pub fn requests(alloc: Global, source: &mut Pieces) -> Result<String, Wrong> {
+/// What is read of the bytes.
+#[derive(Clone, Copy, Debug)]
+pub enum Way {
+    /// Requests.
+    Requests,
+    /// Requests, each of which is waited for before it is read.
+    Waited,
+    /// Answers, each by lines of at most so many bytes.
+    Lines(usize),
+    /// Answers, each with its whole body of at most so many bytes.
+    Whole(usize),
+}
+
+/// The text of the requests or answers that come, up to a fault or the end. An answer's lines, or its whole body, stand in
+/// brackets. A fault is asked for twice.
+pub fn log(alloc: Global, way: Way, source: &mut Pieces) -> Result<String, Wrong> {
     let mut log = String::new(alloc);
     let mut wire = Wire::new(alloc)?;
-    for _ in 0..MOST_REQUESTS {
-        if !tell_request(&mut log, &mut wire, source)? {
+    let most = match way {
+        Way::Requests | Way::Waited => MOST_REQUESTS,
+        Way::Lines(_) | Way::Whole(_) => MOST_ANSWERS,
+    };
+    for _ in 0..most {
+        let goes_on = match way {
+            Way::Requests => tell_request(&mut log, &mut wire, source)?,
+            Way::Waited => tell_awaited(&mut log, &mut wire, source)?,
+            Way::Lines(_) | Way::Whole(_) => tell_answer(&mut log, way, &mut wire, source)?,
+        };
+        if !goes_on {
             break;
         }
     }
     Ok(log)
+}
+
+/// Waits for the next request, twice, and tells it.
+fn tell_awaited(log: &mut String, wire: &mut Wire, source: &mut Pieces) -> Result<bool, Wrong> {
+    for _ in 0..2 {
+        match some_comes(wire, source) {
+            Ok(true) => log.push_str("+")?,
+            Ok(false) => log.push_str("-")?,
+            Err(fault) => return tell_fault(log, fault, some_comes(wire, source).err()),
+        }
+    }
+    tell_request(log, wire, source)
+}
+
+fn some_comes(wire: &mut Wire, source: &mut Pieces) -> Result<bool, WireFault> {
+    wire.wait(source)
 }
 
 /// Tells the next request, and whether another may follow.
@@ -79,24 +118,21 @@ fn tell_fault(log: &mut String, fault: WireFault, again: Option<WireFault>) -> R
     Ok(false)
 }
 
-/// The text of the answers that come, each with its lines in brackets. A fault is asked for twice.
-pub fn answers(alloc: Global, source: &mut Pieces) -> Result<String, Wrong> {
-    let mut log = String::new(alloc);
-    let mut wire = Wire::new(alloc)?;
-    for _ in 0..MOST_ANSWERS {
-        if !tell_answer(&mut log, &mut wire, source)? {
-            break;
-        }
-    }
-    Ok(log)
-}
-
 /// Tells the next answer, and whether another may follow.
-fn tell_answer(log: &mut String, wire: &mut Wire, source: &mut Pieces) -> Result<bool, Wrong> {
+fn tell_answer(
+    log: &mut String,
+    way: Way,
+    wire: &mut Wire,
+    source: &mut Pieces,
+) -> Result<bool, Wrong> {
     match next_answer(wire, source) {
         Ok((status, framing)) => {
             write!(log, "{status} ")?;
-            tell_lines(log, wire, source, framing)
+            match way {
+                Way::Whole(most) => tell_whole(log, wire, source, framing, most),
+                Way::Lines(most) => tell_lines(log, wire, source, framing, most),
+                Way::Requests | Way::Waited => Err(Wrong::Word),
+            }
         }
         Err(fault) => tell_fault(log, fault, next_answer(wire, source).err()),
     }
@@ -106,22 +142,48 @@ fn next_answer(wire: &mut Wire, source: &mut Pieces) -> Result<(u16, Framing), W
     wire.read_answer(source)
 }
 
+fn tell_whole(
+    log: &mut String,
+    wire: &mut Wire,
+    source: &mut Pieces,
+    framing: Framing,
+    most: usize,
+) -> Result<bool, Wrong> {
+    match whole(wire, source, framing, most) {
+        Ok(body) => {
+            write!(log, "[{}]; ", text(body.as_slice()))?;
+            Ok(true)
+        }
+        Err(fault) => tell_fault(log, fault, whole(wire, source, framing, most).err()),
+    }
+}
+
+fn whole(
+    wire: &mut Wire,
+    source: &mut Pieces,
+    framing: Framing,
+    most: usize,
+) -> Result<Bytes, WireFault> {
+    wire.read_whole(source, framing, most)
+}
+
 fn tell_lines(
     log: &mut String,
     wire: &mut Wire,
     source: &mut Pieces,
     framing: Framing,
+    most: usize,
 ) -> Result<bool, Wrong> {
     let mut framing = framing;
     for _ in 0..MOST_LINES {
-        match next_line(wire, source, &mut framing) {
+        match next_line(wire, source, &mut framing, most) {
             Ok(Some(line)) => write!(log, "[{}]", text(line.as_slice()))?,
             Ok(None) => {
                 log.push_str("; ")?;
                 return Ok(true);
             }
             Err(fault) => {
-                let again = next_line(wire, source, &mut framing).err();
+                let again = next_line(wire, source, &mut framing, most).err();
                 return tell_fault(log, fault, again);
             }
         }
@@ -133,8 +195,9 @@ fn next_line(
     wire: &mut Wire,
     source: &mut Pieces,
     framing: &mut Framing,
+    most: usize,
 ) -> Result<Option<Bytes>, WireFault> {
-    wire.next_line(source, framing, LINE_LIMIT)
+    wire.next_line(source, framing, most)
 }
 
 /// The length of the first request's body, or the fault.
@@ -152,7 +215,7 @@ pub fn line_length(alloc: Global, source: &mut Pieces) -> Result<String, Wrong> 
     let Ok((_, mut framing)) = next_answer(&mut wire, source) else {
         return Err(Wrong::Word);
     };
-    match next_line(&mut wire, source, &mut framing) {
+    match next_line(&mut wire, source, &mut framing, LINE_LIMIT) {
         Ok(Some(line)) => length_told(alloc, Ok(line)),
         Ok(None) => Err(Wrong::Word),
         Err(fault) => length_told(alloc, Err(fault)),

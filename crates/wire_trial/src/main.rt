@@ -5,12 +5,14 @@
 //!
 //! - `request BYTES LOG`, `answer BYTES LOG`: what is read in one piece, in two pieces at each cut, and byte by
 //!   byte.
+//! - `awaited BYTES LOG`, `lines MOST BYTES LOG`, `whole MOST BYTES LOG`: the same, where each request is waited for twice
+//!   before it is read; where a line has at most so many bytes; where each answer's body is read whole, of at most so many.
 //! - `request_failing BYTES LOG`: byte by byte, and with each read failing in turn.
 //! - `request_at_once BYTES LOG`, `answer_at_once BYTES LOG`: in one piece, where the second read fails.
 //! - `request_filled FRONT FILLING TIMES BACK LOG`: the filling so many times between the front and the back.
 //! - `body FRONT COUNT BACK TOLD`, `line FRONT COUNT BACK TOLD`: so many bytes between the front and the back; the length of
 //!   the first request's body, or of the first answer's first line, or the fault.
-//! - `reply STATUS BODY BYTES`, `continue BYTES`, `begin BYTES`, `chunk PIECE BYTES`, `end BYTES`: what is written, at once,
+//! - `reply STATUS BODY BYTES`, `bodiless STATUS BODY BYTES`, `continue BYTES`, `begin BYTES`, `chunk PIECE BYTES`, `end BYTES`: what is written, at once,
 //!   a few bytes at a time, and with each write failing in turn.
 //! - `call HOST PATH BODY BYTES`: the bytes of a call to a member.
 #![tactic(auto)]

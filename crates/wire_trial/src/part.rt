@@ -1,7 +1,8 @@
 use crate::outcome::Outcome;
 use etcd_types::Bytes;
 use http_wire::{
-    WireFault, begin_chunks, end_chunks, write_call, write_chunk, write_continue, write_reply,
+    WireFault, begin_chunks, end_chunks, write_bodiless_reply, write_call, write_chunk,
+    write_continue, write_reply,
 };
 use outside::MemSink;
 use std::alloc::Global;
@@ -18,6 +19,7 @@ const PIECE: usize = 5;
 #[derive(Debug, Drop)]
 pub enum Part {
     Reply { status: u16, body: Bytes },
+    Bodiless { status: u16, body: Bytes },
     Continue,
     Begin,
     Chunk(Bytes),
@@ -31,6 +33,10 @@ impl Part {
             let status = read_number_within(words, 0, 999)? as u16;
             let body = read_bytes(alloc, words)?;
             Ok(Part::Reply { status, body })
+        } else if is_word(name, "bodiless") {
+            let status = read_number_within(words, 0, 999)? as u16;
+            let body = read_bytes(alloc, words)?;
+            Ok(Part::Bodiless { status, body })
         } else if is_word(name, "continue") {
             Ok(Part::Continue)
         } else if is_word(name, "begin") {
@@ -47,6 +53,9 @@ impl Part {
     fn write(&self, alloc: Global, sink: &mut MemSink) -> Result<(), WireFault> {
         match self {
             Part::Reply { status, body } => write_reply(alloc, sink, *status, body.as_slice()),
+            Part::Bodiless { status, body } => {
+                write_bodiless_reply(alloc, sink, *status, body.as_slice())
+            }
             Part::Continue => write_continue(sink),
             Part::Begin => begin_chunks(sink),
             Part::Chunk(piece) => write_chunk(alloc, sink, piece.as_slice()),

@@ -1,8 +1,9 @@
-use crate::logs::{answers, body_length, line_length, requests};
+use crate::logs::{Way, body_length, line_length, log};
 use crate::outcome::Outcome;
 use crate::part::{Part, try_call};
 use crate::pieces::Pieces;
 use etcd_types::Bytes;
+use http_wire::LINE_LIMIT;
 use std::alloc::Global;
 use table_rows::Wrong;
 use text_words::{Words, is_word, read_bytes, read_number_within};
@@ -23,10 +24,12 @@ const LONG_PIECE: usize = 1_000_000;
 pub fn try_line(alloc: Global, line: &str) -> Result<Outcome, Wrong> {
     let mut words = Words::of(b' ', line.as_bytes());
     let name = words.take()?;
-    if is_word(name, "request") || is_word(name, "answer") {
-        try_cuts(alloc, is_word(name, "answer"), &mut words)
-    } else if is_word(name, "request_at_once") || is_word(name, "answer_at_once") {
-        try_at_once(alloc, is_word(name, "answer_at_once"), &mut words)
+    if let Some(way) = way_of(name, &mut words)? {
+        try_cuts(alloc, way, &mut words)
+    } else if is_word(name, "request_at_once") {
+        try_at_once(alloc, Way::Requests, &mut words)
+    } else if is_word(name, "answer_at_once") {
+        try_at_once(alloc, Way::Lines(LINE_LIMIT), &mut words)
     } else if is_word(name, "request_failing") {
         try_failing(alloc, &mut words)
     } else if is_word(name, "request_filled") {
@@ -40,6 +43,27 @@ pub fn try_line(alloc: Global, line: &str) -> Result<Outcome, Wrong> {
     }
 }
 
+/// What is read under this name, if it is one of the names of cases that are read at each cut.
+fn way_of(name: &[u8], words: &mut Words) -> Result<Option<Way>, Wrong> {
+    Ok(if is_word(name, "request") {
+        Some(Way::Requests)
+    } else if is_word(name, "awaited") {
+        Some(Way::Waited)
+    } else if is_word(name, "answer") {
+        Some(Way::Lines(LINE_LIMIT))
+    } else if is_word(name, "lines") {
+        Some(Way::Lines(read_limit(words)?))
+    } else if is_word(name, "whole") {
+        Some(Way::Whole(read_limit(words)?))
+    } else {
+        None
+    })
+}
+
+fn read_limit(words: &mut Words) -> Result<usize, Wrong> {
+    Ok(read_number_within(words, 0, MOST_TIMES)? as usize)
+}
+
 /// The last word: what has to come.
 fn read_outcome(alloc: Global, words: &mut Words) -> Result<Outcome, Wrong> {
     let wanted = read_bytes(alloc, words)?;
@@ -48,33 +72,25 @@ fn read_outcome(alloc: Global, words: &mut Words) -> Result<Outcome, Wrong> {
 }
 
 /// In one piece, in two pieces at each cut, and byte by byte.
-fn try_cuts(alloc: Global, is_answer: bool, words: &mut Words) -> Result<Outcome, Wrong> {
+fn try_cuts(alloc: Global, way: Way, words: &mut Words) -> Result<Outcome, Wrong> {
     let bytes = read_bytes(alloc, words)?;
     let mut outcome = read_outcome(alloc, words)?;
     let bytes = bytes.as_slice();
     for first in 0..=bytes.len() {
         let later = if first == 0 { 1 } else { bytes.len() };
         let mut source = Pieces::new(bytes, first, later);
-        outcome.compare(log(alloc, is_answer, &mut source)?);
+        outcome.compare(log(alloc, way, &mut source)?);
     }
     Ok(outcome)
 }
 
-fn log(alloc: Global, is_answer: bool, source: &mut Pieces) -> Result<String, Wrong> {
-    if is_answer {
-        answers(alloc, source)
-    } else {
-        requests(alloc, source)
-    }
-}
-
 /// In one piece, and the second read fails: what it takes to tell the first is there without it.
-fn try_at_once(alloc: Global, is_answer: bool, words: &mut Words) -> Result<Outcome, Wrong> {
+fn try_at_once(alloc: Global, way: Way, words: &mut Words) -> Result<Outcome, Wrong> {
     let bytes = read_bytes(alloc, words)?;
     let mut outcome = read_outcome(alloc, words)?;
     let bytes = bytes.as_slice();
     let mut source = Pieces::new(bytes, bytes.len(), 1).failing(2);
-    outcome.compare(log(alloc, is_answer, &mut source)?);
+    outcome.compare(log(alloc, way, &mut source)?);
     Ok(outcome)
 }
 
@@ -84,13 +100,15 @@ fn try_failing(alloc: Global, words: &mut Words) -> Result<Outcome, Wrong> {
     let mut outcome = read_outcome(alloc, words)?;
     let bytes = bytes.as_slice();
     let reads = (bytes.len() as u64).saturating_add(1);
-    outcome.compare(requests(alloc, &mut Pieces::new(bytes, 0, 1))?);
-    outcome.compare(requests(
+    outcome.compare(log(alloc, Way::Requests, &mut Pieces::new(bytes, 0, 1))?);
+    outcome.compare(log(
         alloc,
+        Way::Requests,
         &mut Pieces::new(bytes, 0, 1).failing(reads.saturating_add(1)),
     )?);
     for failing in 1..=reads {
-        let came = requests(alloc, &mut Pieces::new(bytes, 0, 1).failing(failing))?;
+        let mut source = Pieces::new(bytes, 0, 1).failing(failing);
+        let came = log(alloc, Way::Requests, &mut source)?;
         outcome.note(came.as_str().ends_with(READ_FAULT), came);
     }
     Ok(outcome)
@@ -105,7 +123,7 @@ fn try_filled(alloc: Global, words: &mut Words) -> Result<Outcome, Wrong> {
     let mut outcome = read_outcome(alloc, words)?;
     let bytes = filled(alloc, &front, &filling, times, &back)?;
     let mut source = Pieces::new(bytes.as_slice(), 0, SHORT_PIECE);
-    outcome.compare(requests(alloc, &mut source)?);
+    outcome.compare(log(alloc, Way::Requests, &mut source)?);
     Ok(outcome)
 }
 
