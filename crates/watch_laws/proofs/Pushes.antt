@@ -1,5 +1,5 @@
 -- What a store pushes of a history shows the records before as they were.
-use Rattle.std.proofs.Common.{◌≡◌, ℕ, ◌-◌, Bool, true, false, cond, ◌||◌, nat_le, nat_lt, List, [], ◌∷◌, ◌++◌, take, drop, filter, Option, None, Some, ap, sym, subst, ◌∙◌, append-nil, append_assoc}
+use Rattle.std.proofs.Common.{◌≡◌, ℕ, ◌-◌, Bool, true, false, cond, ◌||◌, nat_le, nat_lt, List, [], ◌++◌, take, drop, filter, Option, None, Some, ap, sym, subst, ◌∙◌}
 use Rattle.std.proofs.lemmas.List.{take-append-drop}
 use Rattle.std.proofs.lemmas.List.Elements.{All-filter, All-map, All-contains_itself, Contains-append_left, Contains-append_right}
 use Rattle.std.specs.List.{All, Contains, slice_index_or}
@@ -8,16 +8,9 @@ use Rattle.etcd_types.specs.declared.key_range.KeyRange.{KeyRange}
 use Rattle.etcd_types.specs.declared.request.WatchAsk.{WatchAsk}
 use Rattle.etcd_types.specs.declared.watch.Event.{Event}
 use Rattle.store_model.specs.History.{History}
-use Rattle.store_model.specs.Events.{events_of_changes, events_after, events, event_revision, passes, visible_prev, told_event, watch_events}
+use Rattle.store_model.specs.Events.{events_after, events, event_revision, passes, visible_prev, told_event, watch_events}
 use Rattle.watch_laws.specs.Items.{IsShown}
-
--- the events of two histories, one behind the other
-pub events-append : (range : KeyRange) (before xs ys : History) → events_after range before (xs ++ ys) ≡ events_after range before xs ++ events_after range (before ++ xs) ys
-events-append range before [] ys = ap (λ (h : History). events_after range h ys) (sym (append-nil before))
-events-append range before (cs ∷ xs) ys =
-    let now = events_of_changes range before [] cs in
-    ap (λ (l : List Event). now ++ l) (events-append range (before ++ cs ∷ []) xs ys ∙ ap (λ (h : History). events_after range (before ++ cs ∷ []) xs ++ events_after range h ys) (append_assoc before (cs ∷ []) xs))
-    ∙ sym (append_assoc now (events_after range (before ++ cs ∷ []) xs) (events_after range (before ++ cs ∷ xs) ys))
+use Rattle.watch_laws.proofs.Histories.{events-append}
 
 -- those from a revision on are of all of them, in each history that goes on
 among_all : (h more : History) (range : KeyRange) (from : ℕ) → All (Contains (events_after range [] (h ++ more))) (events h range from)
