@@ -21,7 +21,7 @@ use Rattle.watch_laws.proofs.Steps.{two_tests}
 use Rattle.watch_laws.proofs.Keeping.{queued_events-append}
 
 -- whose keeper is found doesn't depend on who asks
-keeper_same : (range : KeyRange) (a b k : ℕ) (ss : List Stream) (s : Stream) → stream_at k ss ≡ Some s → is_of range s ≡ true → keeper range s.stream.next a ss ≡ keeper range s.stream.next b ss
+pub keeper_same : (range : KeyRange) (a b k : ℕ) (ss : List Stream) (s : Stream) → stream_at k ss ≡ Some s → is_of range s ≡ true → keeper range s.stream.next a ss ≡ keeper range s.stream.next b ss
 keeper_same range a b k [] s e f = absurd (cc)
 keeper_same range a b k (t ∷ ss) s e f =
     elim (t.number == k) as (λ c. cond c (Some t) (stream_at k ss) ≡ Some s → cond (is_of range t && t.stream.next == s.stream.next) t.number (keeper range s.stream.next a ss) ≡ cond (is_of range t && t.stream.next == s.stream.next) t.number (keeper range s.stream.next b ss)) [

@@ -1,11 +1,10 @@
 -- Each call as a whole holds nothing back.
-use Rattle.std.proofs.Common.{◌≡◌, ℕ, ◌+◌, ◌≤◌, max, Bool, true, false, not, cond, ◌&&◌, ◌||◌, ◌==◌, nat_lt, List, [], ◌∷◌, ◌++◌, map, Option, None, Some, refl, ap, sym, subst, ◌∙◌, arith}
+use Rattle.std.proofs.Common.{◌≡◌, ℕ, ◌+◌, ◌≤◌, max, Bool, true, false, not, cond, ◌&&◌, ◌||◌, ◌==◌, List, [], ◌∷◌, ◌++◌, map, Option, None, Some, refl, ap, sym, subst, ◌∙◌, arith}
 use Rattle.std.proofs.lemmas.Bool.Decides.{nat_tests}
 use Rattle.std.specs.Option.{option_map}
 use Rattle.etcd_types.specs.declared.record.Header.{Header}
 use Rattle.etcd_types.specs.declared.watch.Event.{Event}
 use Rattle.etcd_types.specs.declared.watch.WatchItem.{WatchItem}
-use Rattle.etcd_types.specs.declared.watch.WatchItem.TheVariants as item
 use Rattle.proxy_model.specs.Upstream.{Upstream, created}
 use Rattle.watch_model.specs.Queues.{item_events}
 use Rattle.watch_model.specs.declared.stream.StreamPhase.{StreamPhase}
@@ -13,23 +12,24 @@ use Rattle.watch_model.specs.declared.stream.StreamPhase.TheVariants as phase
 use Rattle.watch_model.specs.declared.place.WatchPlace.{WatchPlace}
 use Rattle.watch_model.specs.declared.place.WatchPlace.TheVariants as place
 use Rattle.watch_model.specs.State.{Stream, Watch, Broadcasts}
-use Rattle.watch_model.specs.Lookups.{stream_at, watch_at, place_stream, next_of, own_next, changed_stream, with_stream, without_stream, without_watch, watch_changed, has_member, member_changed, is_begun, is_closing, tickets_from, numbered}
-use Rattle.watch_model.specs.Joining.{seated}
+use Rattle.watch_model.specs.Lookups.{stream_at, watch_at, place_stream, own_next, changed_stream, with_stream, without_stream, without_watch, watch_changed, has_member, member_changed, is_begun, is_closing, tickets_from}
 use Rattle.watch_model.specs.Merging.{merged}
 use Rattle.watch_model.specs.Delivery.{delivered_stream, delivered_message, is_told, is_batch, is_awaited, created_stream, created_watch, stands_created}
 use Rattle.watch_model.specs.Cuts.{reopened, cut_stream, left_over, left_as, cancelled_stream}
-use Rattle.watch_model.specs.Splitting.{emptied, left_place, split, split_slow}
+use Rattle.watch_model.specs.Splitting.{left_place, split, split_slow}
 use Rattle.watch_model.specs.Leaving.{removed}
-use Rattle.watch_model.specs.Takes.{is_last, with_watch, joined_again, after_take, taken_from}
+use Rattle.watch_model.specs.Takes.{is_last, after_take, taken_from}
 use Rattle.watch_model.specs.Due.{begun, sent, first_due, next_job}
 use Rattle.watch_model.specs.Story.{Story, Received, received, between, wanted, EachWatch, WatchOk, Holds, Rising}
-use Rattle.watch_laws.specs.Calls.{TellsMessage, received_if, IsLeft}
-use Rattle.watch_model.proofs.Numbers.{emptied-numbered}
+use Rattle.watch_laws.specs.Calls.{TellsMessage, received_if}
+use Rattle.watch_laws.specs.Closings.{ClosingsAreLeft}
 use Rattle.watch_model.proofs.Streams.{at-map, others-without_stream, numbered-map, numbered-without, changed-keeps, each_outside}
 use Rattle.watch_model.proofs.Tickets.{rest_from, unchanged}
 use Rattle.watch_laws.proofs.Steps.{two_tests, emptied_holds, delivered_holds, progress_holds, merged_holds, reopened_holds}
 use Rattle.watch_laws.proofs.Joining.{created_holds}
-use Rattle.watch_laws.proofs.Seating.{each_along, cancelled_holds, taken_holds, rejoined_holds, leaves_ok}
+use Rattle.watch_laws.proofs.Seating.{AllSome, each_found, each_along, each_other, found, cancelled_holds, taken_holds, rejoined_holds, leaves_ok}
+use Rattle.watch_laws.proofs.Standing.{not_closing, first_is}
+use Rattle.watch_laws.proofs.Closings.{closings_have_none}
 
 -- A stream without members is gone.
 
@@ -41,25 +41,26 @@ gone_holds story got b n e h = record {
       (λ w d k. subst (λ (o : Option Stream). WatchOk story (got w.ticket) o w) (sym (others-without_stream n b.streams w.place d)) k) b.watches e h.watches;
 }
 
-pub cuts_hold : (story : Story) (got : Received) (b : Broadcasts) (s : Stream) → stream_at s.number b.streams ≡ Some s → IsLeft b s → Holds story got b → Holds story got (cut_stream b s)
-cuts_hold story got b s e l h =
+-- where it is due to be closed it has no members
+abbrev IsLeft : Broadcasts → Stream → Type 0
+IsLeft b s = is_closing s.phase ≡ true → has_member s.number b.watches ≡ false
+
+cut_holds : (story : Story) (got : Received) (b : Broadcasts) (s : Stream) → stream_at s.number b.streams ≡ Some s → IsLeft b s → Holds story got b → Holds story got (cut_stream b s)
+cut_holds story got b s e l h =
     elim (is_closing s.phase) as (λ c. is_closing s.phase ≡ c → Holds story got (cond c (record b { streams = without_stream s.number b.streams }) (reopened b s))) [
       | true ↦ λ q. gone_holds story got b s.number (l q) h
       | false ↦ λ q. reopened_holds story got b s e h
     ] refl
 
--- its opening was sent
-not_closing : (p : StreamPhase) → is_begun p ≡ true → is_closing p ≡ false
-not_closing (phase.Due since) e = absurd (cc)
-not_closing phase.Begun e = refl
-not_closing (phase.Closing since) e = absurd (cc)
+pub cuts_hold : (story : Story) (got : Received) (b : Broadcasts) (s : Stream) → stream_at s.number b.streams ≡ Some s → ClosingsAreLeft b → Holds story got b → Holds story got (cut_stream b s)
+cuts_hold story got b s e c h = cut_holds story got b s e (closings_have_none b s.number s c e) h
 
 begun_cuts : (story : Story) (got : Received) (b : Broadcasts) (s : Stream) → is_begun s.phase ≡ true → stream_at s.number b.streams ≡ Some s → Holds story got b → Holds story got (cut_stream b s)
-begun_cuts story got b s q e h = cuts_hold story got b s e (λ c. absurd (let n = not_closing s.phase q in cc)) h
+begun_cuts story got b s q e h = cut_holds story got b s e (λ c. absurd (let n = not_closing s.phase q in cc)) h
 
 -- Messages.
 
-known : (n : ℕ) (c : Bool) → (not (n == 0) && c) ≡ true → (n == 0) ≡ false
+pub known : (n : ℕ) (c : Bool) → (not (n == 0) && c) ≡ true → (n == 0) ≡ false
 known n c e = let p = two_tests (not (n == 0)) c e in let q = p.0 in turned (n == 0) q
   where
     turned : (a : Bool) → not a ≡ true → a ≡ false
@@ -146,18 +147,14 @@ sent_holds story got b s (phase.Closing since) e l h = gone_holds story got b s.
 sent_holds story got b s (phase.Due since) e l h = begun_holds story got b s.number h
 sent_holds story got b s phase.Begun e l h = h
 
-pub jobs_hold : (story : Story) (got : Received) (b : Broadcasts) → ((s : Stream) → first_due b.streams ≡ Some s → IsLeft b s) → Holds story got b → Holds story got (next_job b (first_due b.streams)).0
-jobs_hold story got b l h = go (first_due b.streams) l
+pub jobs_hold : (story : Story) (got : Received) (b : Broadcasts) → ClosingsAreLeft b → Holds story got b → Holds story got (next_job b (first_due b.streams)).0
+jobs_hold story got b c h = go (first_due b.streams) (first_is (λ t. stream_at t.number b.streams ≡ Some t) b.streams None (each_found b.given b.streams h.numbers) tt)
   where
-    go : (o : Option Stream) → ((s : Stream) → o ≡ Some s → IsLeft b s) → Holds story got (next_job b o).0
-    go None l = h
-    go (Some s) l = sent_holds story got b s s.phase refl (l s refl) h
+    go : (o : Option Stream) → AllSome (λ t. stream_at t.number b.streams ≡ Some t) o → Holds story got (next_job b o).0
+    go None e = h
+    go (Some s) e = sent_holds story got b s s.phase refl (closings_have_none b s.number s c e) h
 
 -- Leaving.
-
-each_other : (P : Watch → Type 0) (t : ℕ) (ws : List Watch) → EachWatch P ws → EachWatch P (without_watch t ws)
-each_other P t [] h = tt
-each_other P t (w ∷ ws) h = elim (w.ticket == t) as (λ b. EachWatch P (cond (not b) (w ∷ without_watch t ws) (without_watch t ws))) [ true ↦ each_other P t ws h.1 | false ↦ (h.0, each_other P t ws h.1) ]
 
 left_holds : (story : Story) (got : Received) (p : WatchPlace) (b : Broadcasts) → Holds story got b → Holds story got (left_place p b)
 left_holds story got (place.In n) b h = emptied_holds story got n b h
@@ -175,15 +172,7 @@ leaving_holds story got b ticket h = go (watch_at ticket b.watches)
 
 -- A take.
 
-pub found : (P : Watch → Type 0) (t : ℕ) (ws : List Watch) (w : Watch) → watch_at t ws ≡ Some w → EachWatch P ws → P w
-found P t [] w e h = absurd (cc)
-found P t (v ∷ ws) w e h =
-    elim (v.ticket == t) as (λ b. cond b (Some v) (watch_at t ws) ≡ Some w → P w) [
-      | true ↦ λ f. let one : v ≡ w = cc in subst P one h.0
-      | false ↦ λ f. found P t ws w f h.1
-    ] e
-
-others_ok : (P Q : Watch → Type 0) (t : ℕ) → ((w : Watch) → (w.ticket == t) ≡ false → P w → Q w) → (ws : List Watch) → EachWatch P ws → EachWatch Q (without_watch t ws)
+pub others_ok : (P Q : Watch → Type 0) (t : ℕ) → ((w : Watch) → (w.ticket == t) ≡ false → P w → Q w) → (ws : List Watch) → EachWatch P ws → EachWatch Q (without_watch t ws)
 others_ok P Q t k [] h = tt
 others_ok P Q t k (w ∷ ws) h =
     elim (w.ticket == t) as (λ b. (w.ticket == t) ≡ b → EachWatch Q (cond (not b) (w ∷ without_watch t ws) (without_watch t ws))) [
@@ -223,7 +212,7 @@ takes_hold story got b last w e h = go w.queue refl
 
 -- A watch is split off.
 
-changed_ok : (P Q : Watch → Type 0) (t low : ℕ) (f : Watch → Watch) (w : Watch) → (P w → Q (f w)) → ((u : Watch) → P u → Q u) → (ws : List Watch)
+pub changed_ok : (P Q : Watch → Type 0) (t low : ℕ) (f : Watch → Watch) (w : Watch) → (P w → Q (f w)) → ((u : Watch) → P u → Q u) → (ws : List Watch)
     → tickets_from low ws ≡ true → watch_at t ws ≡ Some w → EachWatch P ws → EachWatch Q (map (watch_changed t f) ws)
 changed_ok P Q t low f w j k [] r e h = absurd (cc)
 changed_ok P Q t low f w j k (v ∷ ws) r e h =

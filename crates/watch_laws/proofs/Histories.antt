@@ -68,13 +68,15 @@ story_rises h range = after_rises range [] h 0 (omega arith)
 
 -- A history that goes on tells the same below its newest revision.
 
+pub events-append : (range : KeyRange) (before xs ys : History) → events_after range before (xs ++ ys) ≡ events_after range before xs ++ events_after range (before ++ xs) ys
+events-append range before [] ys = ap (λ (h : History). events_after range h ys) (sym (append-nil before))
+events-append range before (cs ∷ xs) ys =
+    let now = events_of_changes range before [] cs in
+    ap (λ (l : List Event). now ++ l) (events-append range (before ++ cs ∷ []) xs ys ∙ ap (λ (h : History). events_after range (before ++ cs ∷ []) xs ++ events_after range h ys) (append_assoc before (cs ∷ []) xs))
+    ∙ sym (append_assoc now (events_after range (before ++ cs ∷ []) xs) (events_after range (before ++ cs ∷ xs) ys))
+
 after-append : (range : KeyRange) (before xs ys : History) → changes (events_after range before (xs ++ ys)) ≡ changes (events_after range before xs) ++ changes (events_after range (before ++ xs) ys)
-after-append range before [] ys = ap (λ (h : History). changes (events_after range h ys)) (sym (append-nil before))
-after-append range before (cs ∷ xs) ys =
-    map-append (λ (e : Event). e.change) (events_of_changes range before [] cs) (events_after range (before ++ cs ∷ []) (xs ++ ys))
-    ∙ ap (λ (l : List Change). changes (events_of_changes range before [] cs) ++ l) (after-append range (before ++ cs ∷ []) xs ys ∙ ap (λ (h : History). changes (events_after range (before ++ cs ∷ []) xs) ++ changes (events_after range h ys)) (append_assoc before (cs ∷ []) xs))
-    ∙ sym (append_assoc (changes (events_of_changes range before [] cs)) (changes (events_after range (before ++ cs ∷ []) xs)) (changes (events_after range (before ++ cs ∷ xs) ys)))
-    ∙ ap (λ (l : List Change). l ++ changes (events_after range (before ++ cs ∷ xs) ys)) (sym (map-append (λ (e : Event). e.change) (events_of_changes range before [] cs) (events_after range (before ++ cs ∷ []) xs)))
+after-append range before xs ys = ap changes (events-append range before xs ys) ∙ map-append (λ (e : Event). e.change) (events_after range before xs) (events_after range (before ++ xs) ys)
 
 pub goes_on_same : (h more : History) (range : KeyRange) (a b : ℕ) → b ≤ newest h + 1 → between a b (story_of (h ++ more) range) ≡ between a b (story_of h range)
 goes_on_same h more range a b l =

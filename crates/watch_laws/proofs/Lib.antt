@@ -1,11 +1,15 @@
 pub mod Between
 pub mod Bounds
 pub mod Calls
+pub mod Closings
 pub mod Furthest
 pub mod Histories
+pub mod Items
 pub mod Joining
 pub mod Keeping
+pub mod Pushes
 pub mod Seating
 pub mod Standing
+pub mod Steady
 pub mod Steps
 pub mod Telling

@@ -12,7 +12,7 @@ use Rattle.watch_model.specs.Queues.{item_events, queued_events}
 use Rattle.watch_model.specs.declared.place.WatchPlace.{WatchPlace}
 use Rattle.watch_model.specs.declared.place.WatchPlace.TheVariants as place
 use Rattle.watch_model.specs.State.{Stream, Watch, Broadcasts}
-use Rattle.watch_model.specs.Lookups.{same_range, stream_at, place_stream, next_of, is_in, is_closing, with_new_watch, without_stream, watch_changed, numbered}
+use Rattle.watch_model.specs.Lookups.{same_range, stream_at, place_stream, next_of, is_in, is_closing, watch_at, with_new_watch, without_stream, without_watch, watch_changed, numbered}
 use Rattle.watch_model.specs.Joining.{decided, told_if, created_header, is_joinable, better, best_of, opening_from_now, or_else, stream_to_join, new_watch, watched_range, seated_in, new_stream, Seated, seated_at, seated, joined}
 use Rattle.watch_model.specs.Cuts.{Left, ended, leaving, left_one, left_by, left_over, left_as}
 use Rattle.watch_model.specs.Takes.{with_watch, joined_again}
@@ -50,6 +50,7 @@ each_found high (s ∷ ss) h = found_later 0 high s (s ∷ ss) (s ∷ ss) (omega
 pub record MayJoin (all : List Stream) (range : KeyRange) (next : ℕ) (s : Stream) : Type 0 where
   pub found : stream_at s.number all ≡ Some s
   pub range_is : same_range s.stream.range range ≡ true
+  pub open_is : is_closing s.phase ≡ false
   pub behind : (next == 0) ≡ false → ((s.stream.next == 0) ≡ false) × (s.stream.next ≤ next)
 
 abbrev pub AllSome : (Stream → Type 0) → Option Stream → Type 0
@@ -78,15 +79,16 @@ or_is : (Q : Stream → Type 0) (o x : Option Stream) → AllSome Q o → AllSom
 or_is Q None x a b = b
 or_is Q (Some s) x a b = a
 
-four : (a b c d : Bool) → (a && b && c && d) ≡ true → (a ≡ true) × (c ≡ true) × (d ≡ true)
-four true true true true e = (refl, refl, refl)
-four true true true false e = absurd (cc)
-four true true false d e = absurd (cc)
-four true false c d e = absurd (cc)
+four : (a b c d : Bool) → (a && not b && c && d) ≡ true → (a ≡ true) × (b ≡ false) × (c ≡ true) × (d ≡ true)
+four true false true true e = (refl, refl, refl, refl)
+four true false true false e = absurd (cc)
+four true false false d e = absurd (cc)
+four true true c d e = absurd (cc)
 four false b c d e = absurd (cc)
 
-three : (a b c : Bool) → (a && b && c) ≡ true → a ≡ true
-three true b c e = refl
+three : (a b c : Bool) → (a && not b && c) ≡ true → (a ≡ true) × (b ≡ false)
+three true false c e = (refl, refl)
+three true true c e = absurd (cc)
 three false b c e = absurd (cc)
 
 not_zero : (n : ℕ) → not (n == 0) ≡ true → (n == 0) ≡ false
@@ -101,11 +103,11 @@ join_is high ss range next seen h =
     elim (next == 0) as (λ b. (next == 0) ≡ b → AllSome (MayJoin ss range next) (cond b (or_else (best_of range (capped (seen + 1)) None ss) (opening_from_now range ss)) (best_of range next None ss))) [
       | true ↦ λ z.
           or_is (MayJoin ss range next) (best_of range (capped (seen + 1)) None ss) (opening_from_now range ss)
-          (best_is (λ t. stream_at t.number ss ≡ Some t) (MayJoin ss range next) range (capped (seen + 1)) (λ s f e. record { found = f; range_is = (four _ _ _ _ e).0; behind = λ y. absurd (cc) }) ss None each tt)
-          (opening_is (λ t. stream_at t.number ss ≡ Some t) (MayJoin ss range next) range (λ s f e. record { found = f; range_is = three _ _ _ e; behind = λ y. absurd (cc) }) ss each)
+          (best_is (λ t. stream_at t.number ss ≡ Some t) (MayJoin ss range next) range (capped (seen + 1)) (λ s f e. let p = four (same_range s.stream.range range) (is_closing s.phase) (not (s.stream.next == 0)) (nat_le s.stream.next (capped (seen + 1))) e in record { found = f; range_is = p.0; open_is = p.1; behind = λ y. absurd (cc) }) ss None each tt)
+          (opening_is (λ t. stream_at t.number ss ≡ Some t) (MayJoin ss range next) range (λ s f e. let p = three (same_range s.stream.range range) (is_closing s.phase) (s.stream.next == 0) e in record { found = f; range_is = p.0; open_is = p.1; behind = λ y. absurd (cc) }) ss each)
       | false ↦ λ z.
           best_is (λ t. stream_at t.number ss ≡ Some t) (MayJoin ss range next) range next
-          (λ s f e. let p = four _ _ _ _ e in record { found = f; range_is = p.0; behind = λ y. (not_zero s.stream.next p.1, at_most s.stream.next next p.2) }) ss None each tt
+          (λ s f e. let p = four (same_range s.stream.range range) (is_closing s.phase) (not (s.stream.next == 0)) (nat_le s.stream.next next) e in record { found = f; range_is = p.0; open_is = p.1; behind = λ y. (not_zero s.stream.next p.2, at_most s.stream.next next p.3) }) ss None each tt
     ] refl
 
 -- A watch that is a member of no stream joins.
@@ -124,7 +126,7 @@ there_push ss t (place.In k) e = at-push k ss t ∙ there (stream_at k ss) (cond
 there_push ss t place.Split e = refl
 there_push ss t place.Ended e = refl
 
-seated_place : (last : Header) (s : Stream) (w : Watch) → (seated_in last s w).place ≡ place.In s.number
+pub seated_place : (last : Header) (s : Stream) (w : Watch) → (seated_in last s w).place ≡ place.In s.number
 seated_place last s w = kept s.stream.created (record (decided s.stream.next w) { place = place.In s.number })
   where
     kept : (b : Bool) (v : Watch) → (told_if b last v).place ≡ v.place
@@ -159,13 +161,25 @@ moved_along : (story : Story) (got : Received) (ss us : List Stream) → ((p : W
     → (w : Watch) → WatchOk story (got w.ticket) (place_stream ss w.place) w → WatchOk story (got w.ticket) (place_stream us w.place) w
 moved_along story got ss us e w h = subst (λ (o : Option Stream). WatchOk story (got w.ticket) o w) (sym (e w.place h.member)) h
 
-each_inserted : (P : Watch → Type 0) (w : Watch) (ws : List Watch) → P w → EachWatch P ws → EachWatch P (with_new_watch w ws)
+pub each_inserted : (P : Watch → Type 0) (w : Watch) (ws : List Watch) → P w → EachWatch P ws → EachWatch P (with_new_watch w ws)
 each_inserted P w [] p h = (p, tt)
 each_inserted P w (v ∷ ws) p h = elim (nat_lt v.ticket w.ticket) as (λ b. EachWatch P (cond b (v ∷ with_new_watch w ws) (w ∷ v ∷ ws))) [ true ↦ (h.0, each_inserted P w ws p h.1) | false ↦ (p, h) ]
 
 pub each_along : (P Q : Watch → Type 0) → ((w : Watch) → P w → Q w) → (ws : List Watch) → EachWatch P ws → EachWatch Q ws
 each_along P Q k [] h = tt
 each_along P Q k (w ∷ ws) h = (k w h.0, each_along P Q k ws h.1)
+
+pub each_other : (P : Watch → Type 0) (t : ℕ) (ws : List Watch) → EachWatch P ws → EachWatch P (without_watch t ws)
+each_other P t [] h = tt
+each_other P t (w ∷ ws) h = elim (w.ticket == t) as (λ b. EachWatch P (cond (not b) (w ∷ without_watch t ws) (without_watch t ws))) [ true ↦ each_other P t ws h.1 | false ↦ (h.0, each_other P t ws h.1) ]
+
+pub found : (P : Watch → Type 0) (t : ℕ) (ws : List Watch) (w : Watch) → watch_at t ws ≡ Some w → EachWatch P ws → P w
+found P t [] w e h = absurd (cc)
+found P t (v ∷ ws) w e h =
+    elim (v.ticket == t) as (λ b. cond b (Some v) (watch_at t ws) ≡ Some w → P w) [
+      | true ↦ λ f. let one : v ≡ w = cc in subst P one h.0
+      | false ↦ λ f. found P t ws w f h.1
+    ] e
 
 new_ok : (story : Story) (ticket : ℕ) (ask : WatchAsk) → WatchOk story [] None (new_watch ticket ask)
 new_ok story ticket ask = record {
@@ -286,7 +300,7 @@ takes_ok story got o w i is e h = record {
   kept = taken_first got i is ∙ ap (λ (q : List WatchItem). changes (got ++ queued_events q)) (sym e) ∙ h.kept;
 }
 
-same_ticket : (a b : ℕ) → (a == b) ≡ true → a ≡ b
+pub same_ticket : (a b : ℕ) → (a == b) ≡ true → a ≡ b
 same_ticket a b e = grind (arith, nat_tests)
 
 -- the watch under a ticket is replaced by v, whose taker has an item more

@@ -1,7 +1,6 @@
 -- Each call leaves the streams that stand created alone at their next, of each range.
-use Rattle.std.proofs.Common.{◌≡◌, ℕ, ◌+◌, Bool, true, false, not, cond, ◌&&◌, ◌||◌, ◌==◌, nat_le, nat_lt, List, [], ◌∷◌, ◌++◌, map, Option, None, Some, refl, ap, sym, subst, ◌∙◌, ◌⊎◌, inl, inr, arith}
+use Rattle.std.proofs.Common.{◌≡◌, ℕ, ◌+◌, true, false, not, cond, ◌||◌, ◌==◌, nat_le, nat_lt, List, [], ◌∷◌, ◌++◌, map, Option, None, Some, refl, ap, sym, subst, ◌∙◌, ◌⊎◌, inl, inr, arith}
 use Rattle.std.proofs.lemmas.Bool.Decides.{nat_tests}
-use Rattle.std.specs.Option.{option_map}
 use Rattle.etcd_types.specs.declared.key_range.KeyRange.{KeyRange}
 use Rattle.etcd_types.specs.declared.record.Header.{Header}
 use Rattle.etcd_types.specs.declared.request.WatchAsk.{WatchAsk}
@@ -24,7 +23,7 @@ use Rattle.watch_model.specs.Takes.{is_last, after_take, taken_from}
 use Rattle.watch_model.specs.Due.{begun, is_before, earlier_of, earlier, first_from, first_due, sent, next_job}
 use Rattle.watch_model.specs.Story.{NoTwins}
 use Rattle.watch_laws.specs.Alone.{StandAlone}
-use Rattle.watch_model.proofs.Streams.{KeepsNumber, at-map, at_number, number_itself, at-without, changed-keeps, or_stream, at-push}
+use Rattle.watch_model.proofs.Streams.{KeepsNumber, at-map, at_number, at-without, changed-keeps, or_stream, at-push}
 use Rattle.watch_model.proofs.Numbers.{merged-keeps}
 use Rattle.watch_laws.proofs.Steps.{two_tests, same_ranges}
 use Rattle.watch_laws.proofs.Seating.{EachStream, AllSome, each_found}
@@ -70,7 +69,7 @@ alone_from ss us f a = record { alone = λ range. twins_from range ss us f (a.al
 closing_harmless : (s : Stream) (step : ℕ) → IsHarmless (record s { phase = phase.Closing step })
 closing_harmless s step = record { standing = refl; due = λ e. absurd (cc) }
 
-none_without : (n k : ℕ) (ss : List Stream) → (k == n) ≡ true → stream_at k (without_stream n ss) ≡ None
+pub none_without : (n k : ℕ) (ss : List Stream) → (k == n) ≡ true → stream_at k (without_stream n ss) ≡ None
 none_without n k [] e = refl
 none_without n k (s ∷ ss) e =
     elim (s.number == n) as (λ b. (s.number == n) ≡ b → stream_at k (cond (not b) (s ∷ without_stream n ss) (without_stream n ss)) ≡ None) [
@@ -244,7 +243,7 @@ chosen_first P s o (phase.Closing since) j h = first_of o h
     first_of None h = j
     first_of (Some t) h = elim (is_before s.phase t.phase) as (λ b. AllSome P (cond b (Some s) (Some t))) [ true ↦ j | false ↦ h ]
 
-first_is : (P : Stream → Type 0) (ss : List Stream) (o : Option Stream) → EachStream P ss → AllSome P o → AllSome P (first_from o ss)
+pub first_is : (P : Stream → Type 0) (ss : List Stream) (o : Option Stream) → EachStream P ss → AllSome P o → AllSome P (first_from o ss)
 first_is P [] o p h = h
 first_is P (s ∷ ss) o p h = first_is P ss (earlier o s s.phase) p.1 (chosen_first P s o s.phase p.0 h)
 
@@ -311,6 +310,12 @@ still_of ss s f m range r k u e o =
 
 moved_twins : (ss : List Stream) (s : Stream) (f : Stream → Stream) → Moves ss s f → (range : KeyRange) → same_range s.stream.range range ≡ false → NoTwins range ss → NoTwins range (with_stream s.number f ss)
 moved_twins ss s f m range r a j k t u p q d e n = a j k t u (still_of ss s f m range r j t p d) (still_of ss s f m range r k u q e) d e n
+
+-- its opening was sent
+pub not_closing : (p : StreamPhase) → is_begun p ≡ true → is_closing p ≡ false
+not_closing (phase.Due since) e = absurd (cc)
+not_closing phase.Begun e = refl
+not_closing (phase.Closing since) e = absurd (cc)
 
 not_due : (p : StreamPhase) → is_begun p ≡ true → is_due p ≡ false
 not_due (phase.Due since) e = absurd (cc)

@@ -28,7 +28,7 @@ use Rattle.watch_model.proofs.Streams.{at-map, at_number, number_itself, at-with
 
 -- A stream without members.
 
-emptied-other : (n step : ℕ) (ss : List Stream) (o : Option Stream) (p : WatchPlace) → is_in n p ≡ false → place_stream (emptied_as n step ss o) p ≡ place_stream ss p
+pub emptied-other : (n step : ℕ) (ss : List Stream) (o : Option Stream) (p : WatchPlace) → is_in n p ≡ false → place_stream (emptied_as n step ss o) p ≡ place_stream ss p
 emptied-other n step ss None p e = refl
 emptied-other n step ss (Some s) p e =
     elim (is_due s.phase) as (λ b. place_stream (cond b (without_stream n ss) (with_stream n (closed step) ss)) p ≡ place_stream ss p) [
@@ -93,7 +93,7 @@ delivered_holds story got b s header es r z e t h =
 
 -- A message without events.
 
-empty_item : (i : WatchItem) → is_progress i ≡ true → item_events i ≡ []
+pub empty_item : (i : WatchItem) → is_progress i ≡ true → item_events i ≡ []
 empty_item (item.Created header) e = refl
 empty_item (item.Events header []) e = refl
 empty_item (item.Events header (x ∷ xs)) e = absurd (cc)
@@ -210,6 +210,7 @@ pub record Keeper (range : KeyRange) (next k : ℕ) (ss : List Stream) : Type 0 
   pub at : stream_at k ss ≡ Some stream
   pub next_is : stream.stream.next ≡ next
   pub range_is : same_range stream.stream.range range ≡ true
+  pub of_is : is_of range stream ≡ true
 
 below_found : (low high k : ℕ) (ss : List Stream) (t : Stream) → numbered low high ss ≡ true → stream_at k ss ≡ Some t → low < k
 below_found low high k [] t h e = absurd (cc)
@@ -245,6 +246,7 @@ keeper_is range next number low high (s ∷ ss) h =
             at = ap (λ b. cond b (Some s) (stream_at s.number ss)) (number_itself s.number);
             next_is = equal_numbers s.stream.next next p.1;
             range_is = (two_tests (same_range s.stream.range range) (is_standing s) p.0).0;
+            of_is = p.0;
           })
       | false ↦ λ q. elim later [
         | inl e ↦ inl e
@@ -253,6 +255,7 @@ keeper_is range next number low high (s ∷ ss) h =
           at = ap (λ b. cond b (Some s) (stream_at (keeper range next number ss) ss)) (other_numbers s.number (keeper range next number ss) (below_found s.number high (keeper range next number ss) ss k.stream rest k.at)) ∙ k.at;
           next_is = k.next_is;
           range_is = k.range_is;
+          of_is = k.of_is;
         })
       ]
     ] refl

@@ -1,5 +1,5 @@
 -- A message without events is true.
-use Rattle.std.proofs.Common.{◌≡◌, ℕ, ◌+◌, ◌≤◌, max, true, nat_le, List, [], ◌∷◌, ◌++◌, Option, Some, refl, ap, sym, subst, ◌∙◌, append-nil, arith}
+use Rattle.std.proofs.Common.{◌≡◌, ℕ, ◌+◌, ◌≤◌, max, true, nat_le, List, [], ◌++◌, Option, Some, refl, ap, sym, subst, ◌∙◌, append-nil, arith}
 use Rattle.std.proofs.lemmas.Bool.Decides.{nat_tests}
 use Rattle.etcd_types.specs.declared.key_range.KeyRange.{KeyRange}
 use Rattle.etcd_types.specs.declared.record.Header.{Header}
@@ -12,7 +12,7 @@ use Rattle.watch_model.specs.Story.{Story, Received, between, changes, wanted, W
 use Rattle.watch_laws.proofs.Between.{told_between}
 use Rattle.watch_laws.proofs.Keeping.{goes_on}
 use Rattle.watch_laws.proofs.Steps.{in_place}
-use Rattle.watch_laws.proofs.Calls.{found}
+use Rattle.watch_laws.proofs.Seating.{found}
 
 up_to : (own r m : ℕ) → nat_le own (r + 1) ≡ true → r + 1 ≤ 0xffff_ffff_ffff_ffff → m ≡ capped (r + 1) → max own m ≡ r + 1
 up_to own r m e l k =
@@ -24,7 +24,7 @@ up_to own r m e l k =
 at_least : (a n : ℕ) → n ≤ max a n
 at_least a n = omega arith
 
-member_told : (story : Story) (got : List Event) (s : Stream) (header : Header) (w : Watch) → Rising story → header.revision + 1 ≤ 0xffff_ffff_ffff_ffff → TellsNone story s header.revision → WatchOk story got (Some s) w
+pub member_told : (story : Story) (got : List Event) (s : Stream) (header : Header) (w : Watch) → Rising story → header.revision + 1 ≤ 0xffff_ffff_ffff_ffff → TellsNone story s header.revision → WatchOk story got (Some s) w
     → nat_le (max w.next s.stream.next) (header.revision + 1) ≡ true → changes (got ++ queued_events w.queue) ≡ wanted w.ask (between w.start (header.revision + 1) (story w.ask.range))
 member_told story got s header w r l t h e =
     let own = max w.next s.stream.next in

@@ -1,5 +1,5 @@
 -- Between calls no two streams of one range that stand created have equal next: where two come to it, they are merged at once.
-use Rattle.std.specs.Prelude.{ℕ, ◌≡◌, true, false, List, Option, None, Some}
+use Rattle.std.specs.Prelude.{ℕ, ◌≡◌, true, false, List, Some}
 use Rattle.etcd_types.specs.declared.key_range.KeyRange.{KeyRange}
 use Rattle.etcd_types.specs.declared.record.Header.{Header}
 use Rattle.etcd_types.specs.declared.request.WatchAsk.{WatchAsk}

@@ -1,10 +1,10 @@
 -- Each call as a whole holds nothing back.
-use Rattle.std.specs.Prelude.{ℕ, ◌≡◌, Bool, true, false, List, [], ◌∷◌, Option, None, Some}
+use Rattle.std.specs.Prelude.{ℕ, ◌≡◌, true, List, [], ◌∷◌, Option, None, Some}
 use Rattle.etcd_types.specs.declared.record.Header.{Header}
 use Rattle.etcd_types.specs.declared.watch.Event.{Event}
 use Rattle.etcd_types.specs.declared.watch.WatchItem.{WatchItem}
 use Rattle.watch_model.specs.State.{Stream, Watch, Broadcasts}
-use Rattle.watch_model.specs.Lookups.{stream_at, watch_at, own_next, has_member, is_closing, tickets_from}
+use Rattle.watch_model.specs.Lookups.{stream_at, watch_at, own_next, tickets_from}
 use Rattle.watch_model.specs.Delivery.{delivered_stream, stands_created}
 use Rattle.watch_model.specs.Cuts.{cut_stream, cancelled_stream}
 use Rattle.watch_model.specs.Splitting.{split_slow}
@@ -12,6 +12,7 @@ use Rattle.watch_model.specs.Leaving.{removed}
 use Rattle.watch_model.specs.Takes.{taken_from}
 use Rattle.watch_model.specs.Due.{first_due, next_job}
 use Rattle.watch_model.specs.Story.{Story, Received, received, Rising, Tells, TellsNone, Holds}
+use Rattle.watch_laws.specs.Closings.{ClosingsAreLeft}
 
 -- what a message of a stream tells: a batch, or that there was nothing
 abbrev pub TellsMessage : Story → Stream → Header → List Event → Type 0
@@ -32,12 +33,8 @@ abbrev pub CreationHoldsNothingBack : Type 0
 CreationHoldsNothingBack =
     (story : Story) (got : Received) (b : Broadcasts) (s : Stream) (header last : Header) → stream_at s.number b.streams ≡ Some s → Holds story got b → Holds story got (stands_created b s header last)
 
--- a stream that is due to be closed has no members
-abbrev pub IsLeft : Broadcasts → Stream → Type 0
-IsLeft b s = is_closing s.phase ≡ true → has_member s.number b.watches ≡ false
-
 abbrev pub CutsHoldNothingBack : Type 0
-CutsHoldNothingBack = (story : Story) (got : Received) (b : Broadcasts) (s : Stream) → stream_at s.number b.streams ≡ Some s → IsLeft b s → Holds story got b → Holds story got (cut_stream b s)
+CutsHoldNothingBack = (story : Story) (got : Received) (b : Broadcasts) (s : Stream) → stream_at s.number b.streams ≡ Some s → ClosingsAreLeft b → Holds story got b → Holds story got (cut_stream b s)
 
 abbrev pub CancellationsHoldNothingBack : Type 0
 CancellationsHoldNothingBack =
@@ -45,8 +42,7 @@ CancellationsHoldNothingBack =
     → Holds story got (cancelled_stream b s header compact last)
 
 abbrev pub JobsHoldNothingBack : Type 0
-JobsHoldNothingBack =
-    (story : Story) (got : Received) (b : Broadcasts) → ((s : Stream) → first_due b.streams ≡ Some s → IsLeft b s) → Holds story got b → Holds story got (next_job b (first_due b.streams)).0
+JobsHoldNothingBack = (story : Story) (got : Received) (b : Broadcasts) → ClosingsAreLeft b → Holds story got b → Holds story got (next_job b (first_due b.streams)).0
 
 -- a take, by which a watch that was split off may join again, and one that is given its cancellation isn't known any more
 abbrev pub TakesHoldNothingBack : Type 0

@@ -1,6 +1,6 @@
 -- Which stream a watch joins: of those of its range that it can join one that is furthest ahead, and a new one only where there
 -- is none.
-use Rattle.std.specs.Prelude.{ℕ, ◌+◌, ◌≤◌, ◌≡◌, Bool, true, false, ◌||◌, ◌==◌, if◌then◌else◌, List, Option, None, Some}
+use Rattle.std.specs.Prelude.{ℕ, ◌+◌, ◌≤◌, ◌≡◌, Bool, true, false, ◌||◌, ◌==◌, if◌then◌else◌, List, None, Some}
 use Rattle.etcd_types.specs.declared.key_range.KeyRange.{KeyRange}
 use Rattle.proxy_model.specs.Limits.{capped}
 use Rattle.watch_model.specs.State.{Stream}

@@ -1,5 +1,7 @@
 pub mod Alone
 pub mod Calls
+pub mod Closings
+pub mod Items
 pub mod Joins
 pub mod Laws
 pub mod Truths

@@ -1,6 +1,8 @@
 ghost use Rattle.watch_laws.specs.Laws.{JoinHoldsNothingBack, BatchHoldsNothingBack, ProgressHoldsNothingBack, MergeHoldsNothingBack, CutHoldsNothingBack, CancellationHoldsNothingBack, TakeHoldsNothingBack, MergedStandAlone, HistoriesRise, CreatedHoldsNothingBack, QueuesAreBounded};
 ghost use Rattle.watch_laws.specs.Calls.{DeliveryHoldsNothingBack, CreationHoldsNothingBack, CutsHoldNothingBack, CancellationsHoldNothingBack, JobsHoldNothingBack, TakesHoldNothingBack, LeavingHoldsNothingBack, SplitHoldsNothingBack};
 ghost use Rattle.watch_laws.specs.Alone.{JoinsLeaveAlone, CreationsLeaveAlone, DeliveriesLeaveAlone, MergesLeaveAlone, CutsLeaveAlone, CancellationsLeaveAlone, TakesLeaveAlone, LeavingLeavesAlone, SplitsLeaveAlone, JobsLeaveAlone};
+ghost use Rattle.watch_laws.specs.Closings.{ClosingsHaveNone, JoinsLeaveClosings, CreationsLeaveClosings, DeliveriesLeaveClosings, MergesLeaveClosings, CutsLeaveClosings, CancellationsLeaveClosings, TakesLeaveClosings, LeavingLeavesClosings, SplitsLeaveClosings, JobsLeaveClosings};
+ghost use Rattle.watch_laws.specs.Items.{JoinsKeepItems, CreationsKeepItems, DeliveriesKeepItems, MergesKeepItems, CutsKeepItems, CancellationsKeepItems, TakesKeepItems, LeavingKeepsItems, SplitsKeepItems, JobsKeepItems, PushesAreShown};
 ghost use Rattle.watch_laws.specs.Joins.{NewWhereNoneIsJoined, JoinedIsFurthest, JoinedCanBe};
 ghost use Rattle.watch_laws.specs.Truths.{ProgressIsTrue};
 
@@ -31,6 +33,21 @@ pub fn no_call_holds_back()
     ensures split { SplitHoldsNothingBack }
 {}
 
+/// A stream that is due to be closed has no members, and each call keeps it so.
+pub fn closings_are_left()
+    ensures none { ClosingsHaveNone }
+    ensures join { JoinsLeaveClosings }
+    ensures creation { CreationsLeaveClosings }
+    ensures delivery { DeliveriesLeaveClosings }
+    ensures merge { MergesLeaveClosings }
+    ensures cut { CutsLeaveClosings }
+    ensures cancellation { CancellationsLeaveClosings }
+    ensures take { TakesLeaveClosings }
+    ensures leaving { LeavingLeavesClosings }
+    ensures split { SplitsLeaveClosings }
+    ensures job { JobsLeaveClosings }
+{}
+
 /// Between calls no two streams of one range that stand created have equal next.
 pub fn streams_stand_alone()
     ensures join { JoinsLeaveAlone }
@@ -55,4 +72,21 @@ pub fn joined_is_furthest()
 /// Where a watch is told of a revision by a message without events, all events up to it were queued before.
 pub fn progress_is_true()
     ensures { ProgressIsTrue }
+{}
+
+/// What stands in a queue keeps its meaning until it is taken: a message without events is true where it stands, a record
+/// before a change comes only where it was asked for and is the one just before, and no queue is longer than 1,024 events
+/// or one message.
+pub fn queued_items_hold()
+    ensures join { JoinsKeepItems }
+    ensures creation { CreationsKeepItems }
+    ensures delivery { DeliveriesKeepItems }
+    ensures merge { MergesKeepItems }
+    ensures cut { CutsKeepItems }
+    ensures cancellation { CancellationsKeepItems }
+    ensures take { TakesKeepItems }
+    ensures leaving { LeavingKeepsItems }
+    ensures split { SplitsKeepItems }
+    ensures job { JobsKeepItems }
+    ensures pushed { PushesAreShown }
 {}

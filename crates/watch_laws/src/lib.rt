@@ -6,7 +6,7 @@ mod laws;
 mod worked;
 
 pub use laws::{
-    joined_is_furthest, no_call_holds_back, nothing_is_held_back, progress_is_true,
-    streams_stand_alone,
+    closings_are_left, joined_is_furthest, no_call_holds_back, nothing_is_held_back,
+    progress_is_true, queued_items_hold, streams_stand_alone,
 };
 pub use worked::worked_scripts;

@@ -5,3 +5,4 @@ pub mod Joinings
 pub mod Remaining
 pub mod Takings
 pub mod Ticketed
+pub mod Twins

@@ -1,12 +1,13 @@
 -- The watches that a cancelled stream leaves over, one after another: those that went already, and those behind them.
 use Rattle.std.proofs.Common.{◌≡◌, ℕ, zero, suc, ◌+◌, ◌≤◌, ◌<◌, List, [], ◌∷◌, ◌++◌, map, take, drop, set, get_or, length, refl, ap, sym, subst, ◌∙◌, arith}
+use Rattle.std.proofs.lemmas.List.Sums.{sum_by-cons}
 use Rattle.watch_model.specs.State.{Stream, Watch}
 use Rattle.watch_model.specs.Cuts.{Left, goes_on}
 use Rattle.watch_queue.specs.declared.leaving.Cancellation.{Cancellation}
 use Rattle.watch_queue.specs.declared.watching.Watching.{Watching}
 use Rattle.watch_queue.specs.Watching.{shown}
 use Rattle.watch_queue.specs.Leaving.{IsReady, AllReady}
-use Rattle.watch_merge.specs.Leavings.{watch_left, watches_left}
+use Rattle.watch_merge.specs.Leavings.{watch_left, watches_left, seats_for, seats}
 
 abbrev pub with_front : List Watch → Left → Left
 with_front ws l = record l { watches = ws ++ l.watches }
@@ -60,3 +61,19 @@ leaves_more c step given first all ss us g m at n ws x y k l e h b i =
       size = same_length at ws x ∙ i.size;
       numbers = let a = i.numbers in omega (arith, a, b);
     })
+
+-- The room for those that join again.
+
+seats_behind : (c : Cancellation) (at : ℕ) (ws : List Watching) (x y : Watching) → at < length ws → y ≡ get_or ws at y → seats c (drop at ws) ≡ seats_for c y + seats c (drop (suc at) (set ws at x))
+seats_behind c at [] x y l e = absurd (omega arith)
+seats_behind c zero (w ∷ ws) x y l e = sum_by-cons (seats_for c) w ws ∙ ap (λ (v : Watching). seats_for c v + seats c ws) (sym e)
+seats_behind c (suc at) (w ∷ ws) x y l e = seats_behind c at ws x y (omega arith) e
+
+pub room_here : (c : Cancellation) (n room at : ℕ) (ws : List Watching) (y : Watching) → at < length ws → y ≡ get_or ws at y → n + seats c (drop at ws) ≤ room → n + seats_for c y ≤ room
+room_here c n room at ws y l e r = let s = seats_behind c at ws y y l e in omega (arith, s, r)
+
+pub room_behind : (c : Cancellation) (n m room more at next : ℕ) (ws : List Watching) (x y : Watching) → next ≡ suc at → at < length ws → y ≡ get_or ws at y
+    → m ≤ n + seats_for c y → room ≤ more → n + seats c (drop at ws) ≤ room → m + seats c (drop next (set ws at x)) ≤ more
+room_behind c n m room more at next ws x y k l e f g r =
+    let s = seats_behind c at ws x y l e in
+    subst (λ (j : ℕ). m + seats c (drop j (set ws at x)) ≤ more) (sym k) (omega (arith, s, f, g, r))

@@ -4,7 +4,7 @@ ghost use Rattle.watch_model.specs.Lookups.{stream_at, watch_at};
 ghost use Rattle.watch_model.specs.Merging.{merged};
 ghost use Rattle.watch_model.specs.Cuts.{cut_at, cut_answer};
 
-use crate::merging::{close_others, move_members};
+use crate::merging::{close_others, has_twins, move_members};
 use crate::watches::place_of_watch;
 use etcd_types::KeyRange;
 use std::alloc::Global;
@@ -115,6 +115,9 @@ impl Broadcasts {
     pub fn merge_equal(&mut self, range: &KeyRange)
         ensures { self.new ≡ merged range.now self.old }
     {
+        if !has_twins(range, &self.streams) {
+            return;
+        }
         move_members(range, &self.streams, &mut self.watches);
         close_others(range, self.step, &mut self.streams);
     }

@@ -3,15 +3,34 @@ ghost use Rattle.std.specs.Vec.{vec_capacity};
 ghost use Rattle.watch_model.specs.Joining.{seated, seated_at};
 ghost use Rattle.watch_queue.specs.Watching.{shown};
 ghost use Rattle.watch_queue.specs.Leaving.{IsReadyToJoin, IsReady, AllReady};
-ghost use Rattle.watch_merge.specs.Leavings.{watch_left, watches_left};
+ghost use Rattle.watch_merge.specs.Leavings.{watch_left, watches_left, joins, seats_for, seats};
 
 use etcd_types::Header;
 use watch_model::{Stream, WatchPlace};
 use watch_queue::{Cancellation, Watching, end, enter_again, is_behind, is_in};
 use watch_streams::{next_of, open, stream_to_join};
 
+/// How many members of a cancelled stream join again.
+pub fn seats(cancellation: Cancellation, watches: &[Watching]) -> usize
+    ensures { result ≡ seats cancellation watches.now }
+{
+    let mut count = 0;
+    for watch in watches {
+        if joins(cancellation, watch) {
+            count += 1;
+        }
+    }
+    count
+}
+
+fn joins(cancellation: Cancellation, watch: &Watching) -> bool
+    ensures { result ≡ joins cancellation watch.now }
+{
+    is_in(cancellation.stream, watch.place) && !is_behind(cancellation, watch)
+}
+
 /// The members of a cancelled stream, which is gone, leave it in rising order of their tickets: what was made ready for
-/// them is queued, or they join again. There is room for a stream for each watch. How many stream numbers are given then.
+/// them is queued, or they join again. There is room for a stream for each that does. How many stream numbers are given then.
 pub fn leave_all(
     cancellation: Cancellation,
     step: u64,
@@ -21,7 +40,7 @@ pub fn leave_all(
 ) -> u64
     requires known { (cancellation.next == 0) ≡ false }
     requires ready { AllReady cancellation watches.old.items }
-    requires room { vec_len streams.old + vec_len watches.old ≤ vec_capacity streams.old }
+    requires room { vec_len streams.old + seats cancellation watches.old.items ≤ vec_capacity streams.old }
     requires numbers { given < 2 ^ 63 }
     ensures { watches_left cancellation step streams.old.items given (map shown watches.old.items) ≡ record { streams = streams.new.items; given = result; watches = map shown watches.new.items } }
 {
@@ -41,10 +60,10 @@ fn leave(
 ) -> u64
     requires known { (cancellation.next == 0) ≡ false }
     requires ready { IsReady cancellation watch.old }
-    requires room { vec_len streams.old < vec_capacity streams.old }
+    requires room { vec_len streams.old + seats_for cancellation watch.old ≤ vec_capacity streams.old }
     requires numbers { given < 2 ^ 64 - 1 }
     ensures left { watch_left cancellation step streams.old.items given (shown watch.old) ≡ record { streams = streams.new.items; given = result; watch = shown watch.new } }
-    ensures one { vec_len streams.new ≤ vec_len streams.old + 1 }
+    ensures one { vec_len streams.new ≤ vec_len streams.old + seats_for cancellation watch.old }
     ensures room { vec_capacity streams.old ≤ vec_capacity streams.new }
     ensures given { result ≤ given + 1 }
 {

@@ -2,11 +2,24 @@ ghost use Rattle.std.specs.Prelude.{◌≡◌, ◌<◌, ◌+◌, length, map, ta
 ghost use Rattle.watch_model.specs.Lookups.{stream_at};
 ghost use Rattle.watch_model.specs.Merging.{is_of, keeper, kept_by, merged_number, merged_place, merged_stream, merged_watch};
 ghost use Rattle.watch_queue.specs.Watching.{shown, moved_as};
+ghost use Rattle.watch_merge.specs.Twins.{has_twins};
 
 use etcd_types::KeyRange;
 use watch_model::{Stream, StreamPhase, WatchPlace};
 use watch_queue::Watching;
 use watch_streams::{next_of, place_of};
+
+/// Whether a stream of the range has its members kept by an earlier one.
+pub fn has_twins(range: &KeyRange, streams: &[Stream]) -> bool
+    ensures { result ≡ has_twins range.now streams.now }
+{
+    for stream in streams {
+        if kept_by(range, streams, stream) != stream.number {
+            return true;
+        }
+    }
+    false
+}
 
 /// Members of streams of the range that become one are those of the one that keeps them.
 pub fn move_members(range: &KeyRange, streams: &[Stream], watches: &mut Vec<Watching>)

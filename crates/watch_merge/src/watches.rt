@@ -1,6 +1,6 @@
-ghost use Rattle.std.specs.Prelude.{◌≡◌, ◌<◌, ◌≤◌, None, IfSome, IfNone, IfOk, OnOk, OnErr, drop, length, map, vec_len};
+ghost use Rattle.std.specs.Prelude.{true, nat_lt, ◌≡◌, ◌<◌, ◌≤◌, None, IfSome, IfNone, IfOk, OnOk, OnErr, drop, length, map, vec_len};
 ghost use Rattle.std.specs.Vec.{vec_capacity};
-ghost use Rattle.watch_model.specs.Lookups.{watch_at, with_new_watch, without_watch, watch_changed};
+ghost use Rattle.watch_model.specs.Lookups.{watch_at, with_new_watch, without_watch, watch_changed, tickets_from};
 ghost use Rattle.watch_model.specs.Queues.{first_item};
 ghost use Rattle.watch_model.specs.Takes.{is_last};
 ghost use Rattle.watch_model.specs.Splitting.{split};
@@ -14,14 +14,11 @@ use watch_queue::{Watching, take_item};
 
 /// Where the watch of this ticket stands.
 pub fn place_of_watch(ticket: u64, watches: &[Watching]) -> Option<WatchPlace>
+    requires { tickets_from 0 (map shown watches.now) ≡ true }
     ensures { result ≡ place_at (watch_at ticket (map shown watches.now)) }
 {
-    for watch in watches {
-        if watch.ticket == ticket {
-            return Some(watch.place);
-        }
-    }
-    None
+    let at = index_of(ticket, watches)?;
+    Some(watches[at].place)
 }
 
 /// The watch of this ticket is gone.
@@ -67,15 +64,15 @@ fn split_one(ticket: u64, next: u64, watch: &mut Watching)
 
 /// The place of the watch of this ticket.
 pub fn index_of(ticket: u64, watches: &[Watching]) -> Option<usize>
+    requires { tickets_from 0 (map shown watches.now) ≡ true }
     ensures found { IfSome result (IsWatchAt ticket (map shown watches.now)) }
     ensures none { IfNone result (watch_at ticket (map shown watches.now) ≡ None) }
 {
-    for at in 0..watches.len() {
-        if watches[at].ticket == ticket {
-            return Some(at);
-        }
+    let at = gap(ticket, watches);
+    if at == watches.len() || watches[at].ticket != ticket {
+        return None;
     }
-    None
+    Some(at)
 }
 
 /// Whether the watch was split off, and joins again once its last item is taken.
@@ -112,7 +109,8 @@ fn is_last(item: &WatchItem) -> bool
 
 /// The watch stands in its place among rising tickets. There is room for it.
 pub fn insert_watch(watch: Watching, watches: &mut Vec<Watching>)
-    requires { vec_len watches.old < vec_capacity watches.old }
+    requires room { vec_len watches.old < vec_capacity watches.old }
+    requires rising { tickets_from 0 (map shown watches.old.items) ≡ true }
     ensures { map shown watches.new.items ≡ with_new_watch (shown watch) (map shown watches.old.items) }
 {
     let at = gap(watch.ticket, watches);
@@ -121,15 +119,15 @@ pub fn insert_watch(watch: Watching, watches: &mut Vec<Watching>)
 
 /// How many watches stand before one of this ticket.
 fn gap(ticket: u64, watches: &[Watching]) -> usize
+    requires { tickets_from 0 (map shown watches.now) ≡ true }
     ensures bound { result ≤ length watches.now }
     ensures gap { result ≡ gap ticket watches.now }
 {
-    for at in 0..watches.len() {
-        if watches[at].ticket >= ticket {
-            return at;
-        }
-    }
-    watches.len()
+    watches.partition_point(
+        |watch: &Watching| -> bool
+            ensures { result ≡ nat_lt watch.now.ticket ticket }
+        { watch.ticket < ticket },
+    )
 }
 
 /// The first item is taken, and the watch stands there then. Where memory was wanting it is as before.

@@ -7,7 +7,7 @@ ghost use Rattle.watch_merge.specs.Leavings.{watches_left};
 
 use super::Broadcasts;
 use crate::fault::WatchFault;
-use crate::leavers::leave_all;
+use crate::leavers::{leave_all, seats};
 use etcd_types::{Header, NoMemory};
 use watch_queue::{Cancellation, ready_to_leave};
 use watch_streams::{drop_stream, is_begun, next_of, place_of};
@@ -59,8 +59,8 @@ impl Broadcasts {
         ensures ok { OnOk result (self.new ≡ left_as self.old (watches_left cancellation self.old.step (without_stream cancellation.stream self.old.streams) self.old.given self.old.watches)) }
         ensures err { OnErr result (self.new ≡ self.old) }
     {
-        self.streams.reserve(self.watches.len())?;
         ready_to_leave(self.alloc, cancellation, &mut self.watches)?;
+        self.streams.reserve(seats(cancellation, &self.watches))?;
         drop_stream(cancellation.stream, &mut self.streams);
         self.given = leave_all(
             cancellation,
