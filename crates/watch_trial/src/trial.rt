@@ -1,7 +1,9 @@
 ghost use Rattle.std.specs.Prelude.{◌≡◌, ◌<◌, ◌^◌, OnOk, None};
 ghost use Rattle.watch_model.specs.Lookups.{watch_at};
 
-use etcd_types::{Header, NoMemory, WatchAsk, WatchItem};
+use crate::random::Random;
+use crate::store::{Key, header_at};
+use etcd_types::{Header, List, NoMemory, WatchAsk, WatchItem};
 use message_text::Text;
 use std::alloc::Global;
 use table_rows::Wrong;
@@ -87,8 +89,62 @@ impl Trial {
             let done = self.watches.split_slow(ticket, next);
             self.tell_done(done)
         } else {
+            self.take_many_steps(name, words)
+        }
+    }
+
+    fn take_many_steps(&mut self, name: &[u8], words: &mut Words) -> Result<(), Wrong> {
+        if is_word(name, "puts") {
+            let stream = read_number(words)?;
+            let from = read_number(words)?;
+            let count = read_number(words)?;
+            for more in 0..count {
+                self.told = String::new(self.alloc);
+                self.put(stream, from.saturating_add(more))?;
+            }
+            Ok(())
+        } else if is_word(name, "takes") {
+            let ticket = read_number(words)?;
+            let count = read_number(words)?;
+            for _ in 0..count {
+                self.told = String::new(self.alloc);
+                self.take_item(ticket)?;
+            }
+            Ok(())
+        } else if is_word(name, "random") {
+            let seed = read_number(words)?;
+            let steps = read_number(words)?;
+            self.run_random(seed, steps)
+        } else {
             Err(Wrong::Word)
         }
+    }
+
+    fn run_random(&mut self, seed: u64, steps: u64) -> Result<(), Wrong> {
+        let mut random = Random::new(self.alloc, seed);
+        for _ in 0..steps {
+            random.step()?;
+        }
+        random.settle()?;
+        let behind = random.behind();
+        let many = random.items >= steps / 10;
+        write!(
+            self.told,
+            "{} wrong, {behind} behind, many: {many}",
+            random.wrong
+        )?;
+        Ok(())
+    }
+
+    /// A put of `a` at this revision comes on the stream.
+    fn put(&mut self, stream: u64, revision: u64) -> Result<(), Wrong> {
+        let mut events = List::new(self.alloc);
+        events.push(Key::A.event(self.alloc, revision)?)?;
+        let header = header_at(revision);
+        self.see(header);
+        self.check_numbers()?;
+        let done = self.watches.deliver(stream, header, &events);
+        self.tell_done(done)
     }
 
     fn ask(&mut self, words: &mut Words) -> Result<(), Wrong> {
@@ -138,13 +194,21 @@ impl Trial {
                 self.check_numbers()?;
                 self.watches.deliver(stream, header, &events)
             }
-            WatchItem::Canceled { .. } => return Err(Wrong::Word),
+            WatchItem::Canceled { header, compact } => {
+                self.see(header);
+                self.check_numbers()?;
+                self.watches.cancelled(stream, header, compact, self.last)
+            }
         };
         self.tell_done(done)
     }
 
     fn take(&mut self, words: &mut Words) -> Result<(), Wrong> {
         let ticket = read_number(words)?;
+        self.take_item(ticket)
+    }
+
+    fn take_item(&mut self, ticket: u64) -> Result<(), Wrong> {
         self.check_numbers()?;
         match self.watches.take(ticket, self.last) {
             Ok(Some(item)) => item.push(&mut self.told)?,
