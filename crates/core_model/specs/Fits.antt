@@ -114,9 +114,9 @@ is_stage_out out (stage.Calling s) = is_out_to is_ask_job out s
 is_stage_out out _ = true
 
 -- of the session, the acquires and the requests by themselves
-pub record OutOk (seat : Option Seat) (acquires : Keyed Acquire) (asked : List Asked) (out : List OutCall) : Type 0 where
-  pub seat : is_seat_out out seat ≡ true
-  pub acquires : (k : List ℕ) → is_acquire_out out k (at acquires k) ≡ true
+pub record OutOk (session : Option Seat) (due : Keyed Acquire) (asked : List Asked) (out : List OutCall) : Type 0 where
+  pub seat : is_seat_out out session ≡ true
+  pub acquires : (k : List ℕ) → is_acquire_out out k (at due k) ≡ true
   pub asks : list_all (λ a. is_stage_out out a.stage) asked ≡ true
 
 -- The calls that are out: each number stands once, and was given.
