@@ -1,3 +1,11 @@
+pub mod Lists
+pub mod Comes
+pub mod WaitEnds
+pub mod WaitSends
+pub mod Calls
+pub mod Requests
+pub mod Groups
+pub mod Agreeing
 pub mod Idle
 pub mod AskedReads
 pub mod Outcomes

@@ -261,6 +261,11 @@ pub record WatchesOk (c : Core) : Type 0 where
   pub numbered : is_numbered c.leasing c.watches.given c.watches.streams ≡ true
   pub apart : are_apart c.asks c.watches.watches ≡ true
 
+-- what is kept by key is in the order of the keys
+pub record SortedOk (c : Core) : Type 0 where
+  pub entries : is_in_order c.own.entries ≡ true
+  pub acquires : is_in_order c.acquires ≡ true
+
 pub record CoreOk (c : Core) : Type 0 where
   -- what is kept by key, and the reads, fit one another; without a session nothing is owned
   pub reads : ReadsOk (is_standing c.seat) (reads_of c)
@@ -268,9 +273,5 @@ pub record CoreOk (c : Core) : Type 0 where
   pub settled : IsSettled c.own
   pub unfinished : list_all goes_on c.own.waits.writes ≡ true
   pub agrees : Agrees c
-  pub watches : WatchesOk c
-  -- what is kept by key is in the order of the keys
-  pub entries_sorted : is_in_order c.own.entries ≡ true
-  pub acquires_sorted : is_in_order c.acquires ≡ true
   -- no more calls than steps
   pub given_steps : nat_le c.calls c.steps ≡ true
