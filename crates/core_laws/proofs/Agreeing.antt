@@ -128,10 +128,9 @@ awaited_without p xs acquires h i = ap (is_awaited xs i) (at-without p acquires 
 
 -- The end of the session.
 
-pub over_agrees : (now : ℕ) (c : Core) → Agrees (record c { seat = None }) → Agrees (without_session now c)
-over_agrees now c h =
-    let d = record c { seat = None } in
-    released_agrees (moment d now) (with_reads d (on (over (ground_of (reads_of d))) c.asks)) (after_over (λ k. is_due_acquire (at c.acquires k)))
+-- what stands without one
+pub over_agrees : (m : Moment) (c : Core) → Agrees (record c { seat = None }) → Agrees (with_reads (record c { seat = None }) (session_over m (reads_of c)))
+over_agrees m c h = released_agrees m (with_reads (record c { seat = None }) (on (over (ground_of (reads_of c))) c.asks)) (after_over (λ k. is_due_acquire (at c.acquires k)))
   where
     ended : AllCome c.own.waits.writes (session_ended c.own).waits.writes
     ended = all_staged (λ w. stage_ended (is_single w.request) w.stage) (λ w. owner_ended (is_single w.request) w.stage) (λ w. stage_ended_calms (is_single w.request) w.stage) c.own.waits.writes
@@ -164,8 +163,8 @@ changed_writes p f h n x = by_test (λ (y : Asked). is_writes y.stage ≡ is_wri
 acquiring_reads : (k : List ℕ) (x : Asked) → acquires_at k x ≡ true → is_writes x.stage ≡ false
 acquiring_reads k x t = ap is_writes (acquires_is k x t).0
 
-pub told_agrees : (n : ℕ) (k : List ℕ) (f : Asked → Asked) (c : Core) (out : List OutCall) → c.out ≡ out → Frees f → AsksOk c.asks c.own.waits.writes → AreAwaited c.asks c.acquires → AsksOk (map (changed (acquires_at k) f) c.asks) c.own.waits.writes × AreAwaited (map (changed (acquires_at k) f) c.asks) (with_at c.acquires k None)
-told_agrees n k f c out o h a w = (
+pub told_agrees : (k : List ℕ) (f : Asked → Asked) (c : Core) → Frees f → AsksOk c.asks c.own.waits.writes → AreAwaited c.asks c.acquires → AsksOk (map (changed (acquires_at k) f) c.asks) c.own.waits.writes × AreAwaited (map (changed (acquires_at k) f) c.asks) (with_at c.acquires k None)
+told_agrees k f c h a w = (
   asks_moved (changed (acquires_at k) f) (changed_moves (acquires_at k) f h) (changed_writes (acquires_at k) f h (acquiring_reads k)) c.asks c.own.waits.writes c.own.waits.writes refl a,
   awaited_changed (changed (acquires_at k) f) c.asks (with_at c.acquires k None) (λ i x a e r t. kept i x a e (and_second (has_ticket x.ticket a) (acquires_at i a) t)) (awaited_gone k c.asks c.acquires w),
 )

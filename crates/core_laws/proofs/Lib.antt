@@ -6,6 +6,8 @@ pub mod Calls
 pub mod Requests
 pub mod Groups
 pub mod Agreeing
+pub mod Ends
+pub mod TakenOff
 pub mod Idle
 pub mod AskedReads
 pub mod Outcomes

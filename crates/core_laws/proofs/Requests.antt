@@ -96,7 +96,7 @@ pub moved_ticket : (x y : Asked) → Moves x y → y.ticket ≡ x.ticket
 moved_ticket x y (stays e) = ap (λ (a : Asked). a.ticket) e
 moved_ticket x y (frees t f) = t
 
-moved_out : (out : List OutCall) (x y : Asked) → Moves x y → is_stage_out out x.stage ≡ true → is_stage_out out y.stage ≡ true
+pub moved_out : (out : List OutCall) (x y : Asked) → Moves x y → is_stage_out out x.stage ≡ true → is_stage_out out y.stage ≡ true
 moved_out out x y (stays e) h = ap (λ (a : Asked). is_stage_out out a.stage) e ∙ h
 moved_out out x y (frees t f) h = free_out out y.stage f
 
@@ -104,7 +104,7 @@ moved_group : (out : List OutCall) (x y : Asked) → Moves x y → group_stands 
 moved_group out x y (stays e) h = ap (λ (a : Asked). group_stands out a.request a.stage) e ∙ h
 moved_group out x y (frees t f) h = free_group out y.request y.stage f
 
-moved_calls : (n : ℕ) (x y : Asked) → Moves x y → calls_as n y ≡ true → calls_as n x ≡ true
+pub moved_calls : (n : ℕ) (x y : Asked) → Moves x y → calls_as n y ≡ true → calls_as n x ≡ true
 moved_calls n x y (stays e) h = sym (ap (calls_as n) e) ∙ h
 moved_calls n x y (frees t f) h = absurd (let u = free_calls n y.stage f in cc)
 
@@ -204,7 +204,7 @@ placed_writes again h g x =
 
 -- A read whose acquire is due stands, and so it stays.
 
-acquires_is : (k : List ℕ) (x : Asked) → acquires_at k x ≡ true → (x.stage ≡ stage.Acquiring) × (same (ask_key x) k ≡ true)
+pub acquires_is : (k : List ℕ) (x : Asked) → acquires_at k x ≡ true → (x.stage ≡ stage.Acquiring) × (same (ask_key x) k ≡ true)
 acquires_is k x h = by_stage x.stage refl h
   where
     by_stage : (s : Stage) → x.stage ≡ s → is_acquiring s && same (ask_key x) k ≡ true → (x.stage ≡ stage.Acquiring) × (same (ask_key x) k ≡ true)
@@ -274,7 +274,7 @@ settled_asks (settled.Failed ticket) ws vs xs e h =
 
 -- the read that a due acquire is for is no write
 
-is_writing : (ticket : ℕ) (xs : List Asked) → has_number (writing_tickets xs) ticket ≡ true → list_any (λ a. has_ticket ticket a && is_writes a.stage) xs ≡ true
+pub is_writing : (ticket : ℕ) (xs : List Asked) → has_number (writing_tickets xs) ticket ≡ true → list_any (λ a. has_ticket ticket a && is_writes a.stage) xs ≡ true
 is_writing ticket xs h = sym (ap (λ (p : Bool). p) (any_turned xs)) ∙ h
   where
     swapped : (a b : Bool) → a && b ≡ b && a
