@@ -8,6 +8,8 @@ pub mod Groups
 pub mod Agreeing
 pub mod Ends
 pub mod TakenOff
+pub mod Whole
+pub mod Asks
 pub mod Idle
 pub mod AskedReads
 pub mod Outcomes

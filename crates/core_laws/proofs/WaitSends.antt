@@ -33,6 +33,8 @@ use Rattle.wait_model.specs.State.{Ownership}
 use Rattle.wait_model.specs.Writes.{first_by, with_first, is_asked_as, stage_sends, stage_asks, sends, asks, has_ticket, job_of}
 use Rattle.wait_laws.proofs.FoundWrite.{head_found, rest_found}
 use Rattle.wait_laws.specs.Written.{SentWritten}
+use Rattle.proxy_model.specs.LeaseTable.{is_held_phase, is_writing_phase}
+use Rattle.read_laws.proofs.Owned.{StaysAt, Stays, stays_itself}
 use Rattle.core_model.specs.Fits.{passes, is_write_job, is_revoke_of, is_asking_out, is_found_out, is_write_out, HaveRanges, WritesOk, goes_on, write_tickets, calls_of}
 use Rattle.core_laws.proofs.Lists.{same_number, number_itself, number_turned, all_kept, all_mapped, any_kept, any_mapped, map_pushed, one, one_is, none_is_one}
 use Rattle.core_laws.proofs.Comes.{by_test, proper_staged}
@@ -162,6 +164,7 @@ pub record Sent (call : ℕ) (own : Ownership) (x : JobSent) : Type 0 where
   pub out : calls_of x.own.waits.out ≡ calls_of own.waits.out ++ call ∷ []
   pub unfinished : list_all goes_on own.waits.writes ≡ true → list_all goes_on x.own.waits.writes ≡ true
   pub settled : IsSettled own → IsSettled x.own
+  pub stays : Stays own.entries own.waits.spoiled x.own.entries x.own.waits.spoiled
 
 abbrev pub SentIf : ℕ → Ownership → Option JobSent → Type 0
 SentIf call own None = Unit {0}
@@ -176,6 +179,20 @@ leaving_sent (Some e) = by_phase e.phase
     by_phase (Writing revoked) = refl
     by_phase (Leaving sent) = refl
 
+sent_stays : (o : Option Entry) (s : Option Bool) → StaysAt o (option_map (rescind_sent true) o) s s
+sent_stays None s = record { writing = λ u. u; owned = λ u. u; mark = refl }
+sent_stays (Some e) s = record { writing = λ u. writes_as e.phase ∙ u; owned = λ u. sym (owns_as e.phase) ∙ u; mark = refl }
+  where
+    writes_as : (p : Phase) → is_writing_phase (phase_sent true p) ≡ is_writing_phase p
+    writes_as Held = refl
+    writes_as (Writing revoked) = refl
+    writes_as (Leaving sent) = refl
+
+    owns_as : (p : Phase) → is_held_phase (phase_sent true p) || is_writing_phase (phase_sent true p) ≡ is_held_phase p || is_writing_phase p
+    owns_as Held = refl
+    owns_as (Writing revoked) = refl
+    owns_as (Leaving sent) = refl
+
 rescind_sends : (call : ℕ) (e : List ℕ × Entry) (own : Ownership) → WritesOk own.waits.writes own.waits.out → Sent call own (rescind_job call e own)
 rescind_sends call e own h = record {
   writes = record {
@@ -189,6 +206,7 @@ rescind_sends call e own h = record {
   out = map_pushed (λ (o : WaitCall). o.call) new own.waits.out;
   unfinished = λ t. t;
   settled = λ t. held_causes own.entries (changed_at own.entries e.0 (rescind_sent true)) own.waits.spoiled held [] own.waits.writes t;
+  stays = λ k. subst (λ (o : Option Entry). StaysAt (at own.entries k) o (at own.waits.spoiled k) (at own.waits.spoiled k)) (sym (at-with_at own.entries e.0 k (option_map (rescind_sent true) (at own.entries e.0)))) (stays_at k (same e.0 k) refl);
 }
   where
     new : WaitCall
@@ -197,6 +215,10 @@ rescind_sends call e own h = record {
     at_same : (k : List ℕ) (b : Bool) → same e.0 k ≡ b → is_leaving (cond b (option_map (rescind_sent true) (at own.entries e.0)) (at own.entries k)) ≡ is_leaving (at own.entries k)
     at_same k true t = leaving_sent (at own.entries e.0) ∙ ap (λ (j : List ℕ). is_leaving (at own.entries j)) (same-equal e.0 k t)
     at_same k false t = refl
+
+    stays_at : (k : List ℕ) (b : Bool) → same e.0 k ≡ b → StaysAt (at own.entries k) (cond b (option_map (rescind_sent true) (at own.entries e.0)) (at own.entries k)) (at own.waits.spoiled k) (at own.waits.spoiled k)
+    stays_at k true t = subst (λ (j : List ℕ). StaysAt (at own.entries k) (option_map (rescind_sent true) (at own.entries j)) (at own.waits.spoiled k) (at own.waits.spoiled k)) (sym (same-equal e.0 k t)) (sent_stays (at own.entries k) (at own.waits.spoiled k))
+    stays_at k false t = record { writing = λ u. u; owned = λ u. u; mark = refl }
 
     held : (k : List ℕ) → is_held_back (at own.entries k) (at own.waits.spoiled k) ≡ true → is_held_back (at (changed_at own.entries e.0 (rescind_sent true)) k) (at own.waits.spoiled k) ≡ true
     held k t = ap (λ b. is_some (at own.waits.spoiled k) || b) (ap is_leaving (at-with_at own.entries e.0 k (option_map (rescind_sent true) (at own.entries e.0))) ∙ at_same k (same e.0 k) refl) ∙ t
@@ -240,6 +262,7 @@ steps_send call j p w s own due f n r c h = record {
   out = map_pushed (λ (o : WaitCall). o.call) (record { call = call; job = j }) own.waits.out;
   unfinished = λ t. all_first goes_on goes_on p w s (λ v u. u) c.goes own.waits.writes f t;
   settled = λ t. causes_first own.entries own.waits.spoiled p w s c.waits [] own.waits.writes f t;
+  stays = stays_itself own.entries own.waits.spoiled;
 }
 
 -- A write's own call.
