@@ -134,10 +134,11 @@ call_waits (request.TimeToLive lease keys) c = due_waits c.out (request.TimeToLi
 call_waits request.Leases c = due_waits c.out request.Leases c.own.waits.step
 call_waits (request.Watch ask) c = due_waits c.out (request.Watch ask) c.own.waits.step
 
-pub call_mid : (c : Core) (a : Asked) → has_number (ask_tickets c.asks) a.ticket ≡ false → Mid c → Mid (with_ask (call_stage a.request c) a c)
-call_mid c a n h =
+pub call_mid : (most : ℕ) (c : Core) (a : Asked) → has_number (ask_tickets c.asks) a.ticket ≡ false → Mid most c → Mid most (with_ask (call_stage a.request c) a c)
+call_mid most c a n h =
     let w = call_waits a.request c in
     record {
+      given = h.given;
       reads = record { ground = h.reads.ground; asks = all_pushed (ask_stands (ground_of (reads_of c))) (in_stage (call_stage a.request c) a) c.asks h.reads.asks (w.stands a.ticket (at c.own.entries (ask_key a)) (at c.acquires (ask_key a))) };
       agrees = called_agrees c (in_stage (call_stage a.request c) a) n w.writes w.out w.group w.calls h.agrees;
     }
@@ -168,11 +169,12 @@ writes_pushed ticket q ws waiting w r h =
       asks_once = λ n. one_of_push (asks n) x ws (h.asks_once n) refl;
     }
 
-pub write_mid : (c : Core) (a : Asked) → has_number (ask_tickets c.asks) a.ticket ≡ false → writes_keys a.request ≡ true → Mid c → Mid (with_ask stage.Writes a (record c { own = submitted a.ticket a.request c.own }))
-write_mid c a n w h =
+pub write_mid : (most : ℕ) (c : Core) (a : Asked) → has_number (ask_tickets c.asks) a.ticket ≡ false → writes_keys a.request ≡ true → Mid most c → Mid most (with_ask stage.Writes a (record c { own = submitted a.ticket a.request c.own }))
+write_mid most c a n w h =
     let x = in_stage stage.Writes a in
     let next = submitted a.ticket a.request c.own in
     record {
+      given = h.given;
       reads = record {
         ground = record { keys = steps.asks_keep c.own a.ticket a.request h.reads.ground.keys; marks = h.reads.ground.marks; owned = h.reads.ground.owned };
         asks = all_pushed (ask_stands (ground_of (reads_of c))) x c.asks h.reads.asks refl;
@@ -254,5 +256,5 @@ read_agrees m c a n h = by_under d.under refl
               (and_both (a.ticket == a.ticket) (acquires_at i x) (number_itself a.ticket) (ap (λ (z : Stage). is_acquiring z && same (ask_key a) i) acquiring ∙ t))
         awaited_at i false t = awaits_pushed x c.asks i (at c.acquires i) (h.awaited i)
 
-pub read_mid : (m : Moment) (c : Core) (a : Asked) → has_number (ask_tickets c.asks) a.ticket ≡ false → Mid c → Mid (with_reads c (read_asked m a (reads_of c)))
-read_mid m c a n h = record { reads = kept.asks_keep (is_standing c.seat) m a (reads_of c) h.reads; agrees = read_agrees m c a n h.agrees }
+pub read_mid : (most : ℕ) (m : Moment) (c : Core) (a : Asked) → has_number (ask_tickets c.asks) a.ticket ≡ false → Mid most c → Mid most (with_reads c (read_asked m a (reads_of c)))
+read_mid most m c a n h = record { given = h.given; reads = kept.asks_keep (is_standing c.seat) m a (reads_of c) h.reads; agrees = read_agrees m c a n h.agrees }

@@ -100,10 +100,14 @@ asks_due c (a ∷ xs) f g =
 
 all_due : (c : Core) → Agrees c → AllDue c (due_jobs c)
 all_due c h =
-    all_appended c (due_writes (first_place c.own.waits.writes)) (flat_map due_acquire c.acquires ++ flat_map due_ask c.asks ++ due_opening c.leasing ++ flat_map due_stream c.watches.streams) (writes_due c (first_place c.own.waits.writes))
-    (all_appended c (flat_map due_acquire c.acquires) (flat_map due_ask c.asks ++ due_opening c.leasing ++ flat_map due_stream c.watches.streams) (acquires_due c c.acquires)
-    (all_appended c (flat_map due_ask c.asks) (due_opening c.leasing ++ flat_map due_stream c.watches.streams) (asks_due c c.asks (λ q t. t) h.groups.stand)
-    (all_appended c (due_opening c.leasing) (flat_map due_stream c.watches.streams) (opening_due c c.leasing) (streams_due c c.watches.streams))))
+    let writes = due_writes (first_place c.own.waits.writes) in
+    let acquires = flat_map due_acquire c.acquires in
+    let asks = flat_map due_ask c.asks in
+    all_appended c (writes ++ acquires ++ asks ++ due_opening c.leasing) (flat_map due_stream c.watches.streams)
+    (all_appended c (writes ++ acquires ++ asks) (due_opening c.leasing)
+    (all_appended c (writes ++ acquires) asks (all_appended c writes acquires (writes_due c (first_place c.own.waits.writes)) (acquires_due c c.acquires)) (asks_due c c.asks (λ q t. t) h.groups.stand))
+    (opening_due c c.leasing))
+    (streams_due c c.watches.streams)
 
 abbrev PlacedOk : Core → Option Placed → Type 0
 PlacedOk c None = Unit {0}

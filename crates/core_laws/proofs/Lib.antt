@@ -10,6 +10,10 @@ pub mod Ends
 pub mod TakenOff
 pub mod Whole
 pub mod Asks
+pub mod Due
+pub mod Sends
+pub mod Middle
+pub mod Stepping
 pub mod Idle
 pub mod AskedReads
 pub mod Outcomes

@@ -259,7 +259,7 @@ found_replied ticket a (x ∷ xs) e r = by_head (λ t. found_replied ticket a xs
     by_head i true e = or_left (is_replied x.stage) (list_any (λ b. has_ticket ticket b && is_replied b.stage) xs) (ap (λ (y : Asked). is_replied y.stage) (ap (or_head x) e) ∙ r)
     by_head i false e = i e
 
-never_both : (p q : Asked → Bool) → ((a : Asked) → p a && q a ≡ false) → (ticket : ℕ) (xs : List Asked) → once (ask_tickets xs) ≡ true → list_any (λ b. has_ticket ticket b && p b) xs ≡ true → list_any (λ b. has_ticket ticket b && q b) xs ≡ true → ⊥
+pub never_both : (p q : Asked → Bool) → ((a : Asked) → p a && q a ≡ false) → (ticket : ℕ) (xs : List Asked) → once (ask_tickets xs) ≡ true → list_any (λ b. has_ticket ticket b && p b) xs ≡ true → list_any (λ b. has_ticket ticket b && q b) xs ≡ true → ⊥
 never_both p q n ticket xs u e f =
     let b = both_of_one (has_ticket ticket) p q xs (once_is_one (λ (a : Asked). a.ticket) ticket xs u) e f in
     let z = none xs in
