@@ -1,6 +1,5 @@
 -- No request waits for nothing: a read by what stands at its key, a write by its stage, a keepalive by its group.
-use Rattle.std.proofs.Common.{◌≡◌, ◌⊎◌, inl, inr, ℕ, ◌==◌, Bool, true, false, not, cond, ◌||◌, List, [], ◌∷◌, ◌++◌, map, filter, Option, None, Some, refl, sym, ◌∙◌, ap, subst, arith, append_assoc}
-use Rattle.std.proofs.lemmas.Bool.Decides.{nat_tests}
+use Rattle.std.proofs.Common.{◌≡◌, ◌⊎◌, inl, inr, ℕ, ◌==◌, Bool, true, false, not, cond, ◌||◌, List, [], ◌∷◌, ◌++◌, map, filter, Option, None, Some, refl, sym, ◌∙◌, ap, subst, append_assoc}
 use Rattle.std.specs.List.{list_any, list_all}
 use Rattle.etcd_types.proofs.Bools.{and_first, and_second, or_left, or_right, not_true}
 use Rattle.wait_model.specs.declared.sending.Sending.{Sending}
@@ -20,17 +19,13 @@ use Rattle.read_model.specs.TakingOff.{is_writes}
 use Rattle.read_laws.specs.Laws as reads
 use Rattle.read_laws.proofs.Waiting.{no_read_is_idle}
 use Rattle.core_model.specs.DueJobs.{lease_of}
-use Rattle.core_model.specs.Fits.{CoreOk, has_number, group_stands, is_standing, goes_on, write_tickets}
+use Rattle.core_model.specs.Fits.{CoreOk, has_number, group_stands, is_keepalive, is_standing, goes_on, write_tickets}
+use Rattle.core_model.specs.Groups.{is_out_for}
 use Rattle.core_model.specs.Lookups.{reads_of}
 use Rattle.core_model.specs.State.{Core}
 use Rattle.core_model.specs.WaitsFor.{HeldBack, WriteWaits, WriteOf, StageWaits, WaitsFor, AllWaitFor}
 use Rattle.core_laws.specs.Laws.{NoRequestIsIdle}
-
-same_number : (a b : ℕ) → (a == b) ≡ true → a ≡ b
-same_number a b e = grind (arith, nat_tests)
-
-itself : (a : ℕ) → (a == a) ≡ true
-itself a = grind (arith, nat_tests)
+use Rattle.core_laws.proofs.Lists.{same_number, number_itself}
 
 -- The write of a ticket, and what it waits for.
 
@@ -65,10 +60,10 @@ grown before earlier w f p e =
 write_of : (own : Ownership) (ticket : ℕ) (before earlier ws : List Write) → own.waits.writes ≡ earlier ++ ws → Among before earlier → AllHaveCause before own.entries own.waits.spoiled ws → list_all goes_on ws ≡ true → has_number (map (λ w. w.ticket) ws) ticket ≡ true → WriteOf own ticket
 unfolding Among
 write_of own ticket before earlier [] e f h u t = absurd (cc)
-write_of own ticket before earlier (w ∷ ws) e f h u t = by_ticket (w.ticket == ticket) refl t
+write_of own ticket before earlier (w ∷ ws) e f h u t = by_ticket (λ t. write_of own ticket (w ∷ before) (earlier ++ w ∷ []) ws (e ∙ sym (append_assoc earlier (w ∷ []) ws)) (grown before earlier w f) h.1 (and_second (goes_on w) (list_all goes_on ws) u) t) (w.ticket == ticket) refl t
   where
-    by_ticket : (b : Bool) → (w.ticket == ticket) ≡ b → b || has_number (map (λ w. w.ticket) ws) ticket ≡ true → WriteOf own ticket
-    by_ticket true q t =
+    by_ticket : (has_number (map (λ w. w.ticket) ws) ticket ≡ true → WriteOf own ticket) → (b : Bool) → (w.ticket == ticket) ≡ b → b || has_number (map (λ w. w.ticket) ws) ticket ≡ true → WriteOf own ticket
+    by_ticket i true q t =
         record {
           earlier = earlier;
           write = w;
@@ -77,8 +72,7 @@ write_of own ticket before earlier (w ∷ ws) e f h u t = by_ticket (w.ticket ==
           named = same_number w.ticket ticket q;
           waits = stage_waits before earlier own w w.stage refl (f (shares w)) h.0 (and_first (goes_on w) (list_all goes_on ws) u);
         }
-    by_ticket false q t =
-        write_of own ticket (w ∷ before) (earlier ++ w ∷ []) ws (e ∙ sym (append_assoc earlier (w ∷ []) ws)) (grown before earlier w f) h.1 (and_second (goes_on w) (list_all goes_on ws) u) t
+    by_ticket i false q t = i t
 
 -- Each request.
 
@@ -90,7 +84,7 @@ unfolding writing
 head_writes a asks e = by_test (is_writes a.stage) e
   where
     by_test : (b : Bool) → b ≡ true → has_number (map (λ (x : Asked). x.ticket) (cond b (a ∷ filter (λ (x : Asked). is_writes x.stage) asks) (filter (λ (x : Asked). is_writes x.stage) asks))) a.ticket ≡ true
-    by_test true t = or_left (a.ticket == a.ticket) (has_number (writing asks) a.ticket) (itself a.ticket)
+    by_test true t = or_left (a.ticket == a.ticket) (has_number (writing asks) a.ticket) (number_itself a.ticket)
     by_test false t = absurd (cc)
 
 tail_writes : (a : Asked) (asks : List Asked) (n : ℕ) → has_number (writing asks) n ≡ true → has_number (writing (a ∷ asks)) n ≡ true
@@ -101,26 +95,26 @@ tail_writes a asks n e = by_test (is_writes a.stage)
     by_test true = or_right (a.ticket == n) (has_number (writing asks) n) e
     by_test false = e
 
-ask_waits : (c : Core) (a : Asked) (s : Stage) → reads.HasCause (ground_of (reads_of c)) a s → (is_writes s ≡ true → WriteOf c.own a.ticket) → group_stands c.out (lease_of a.request) s ≡ true → StageWaits c a s
+ask_waits : (c : Core) (a : Asked) (s : Stage) → reads.HasCause (ground_of (reads_of c)) a s → (is_writes s ≡ true → WriteOf c.own a.ticket) → group_stands c.out a.request s ≡ true → StageWaits c a s
 ask_waits c a (stage.Calling s) h w g = tt
 ask_waits c a stage.Acquiring h w g = record { acquire = h.0; stands = h.1; named = same_number h.0.ticket a.ticket h.2 }
 ask_waits c a stage.Joined h w g = record { acquire = h.0; stands = h.1 }
 ask_waits c a stage.Behind h w g = record { write = h.0; first = h.1; owner = h.2 }
 ask_waits c a stage.Writes h w g = w refl
-ask_waits c a (stage.Grouped None) h w g = g
+ask_waits c a (stage.Grouped None) h w g = and_second (is_keepalive a.request) (is_out_for (lease_of a.request) c.out) g
 ask_waits c a (stage.Grouped (Some s)) h w g = tt
 ask_waits c a (stage.Replied v) h w g = tt
 
 -- the requests from one on: their writes are the proxy's
-all_wait : (c : Core) → CoreOk c → (asks : List Asked) → ((n : ℕ) → has_number (writing asks) n ≡ true → has_number (write_tickets c) n ≡ true) → reads.AllHaveCause (ground_of (reads_of c)) asks → list_all (λ a. group_stands c.out (lease_of a.request) a.stage) asks ≡ true → AllWaitFor c asks
+all_wait : (c : Core) → CoreOk c → (asks : List Asked) → ((n : ℕ) → has_number (writing asks) n ≡ true → has_number (write_tickets c.own.waits.writes) n ≡ true) → reads.AllHaveCause (ground_of (reads_of c)) asks → list_all (λ a. group_stands c.out a.request a.stage) asks ≡ true → AllWaitFor c asks
 unfolding Among
 all_wait c ok [] f h g = tt
 all_wait c ok (a ∷ asks) f h g =
-    let one = group_stands c.out (lease_of a.request) a.stage in
-    let rest = list_all (λ x. group_stands c.out (lease_of x.request) x.stage) asks in
+    let one = group_stands c.out a.request a.stage in
+    let rest = list_all (λ x. group_stands c.out x.request x.stage) asks in
     (ask_waits c a a.stage h.0 (λ t. write_of c.own a.ticket [] [] c.own.waits.writes refl (λ p e. e) ok.settled ok.unfinished (f a.ticket (head_writes a asks t))) (and_first one rest g), all_wait c ok asks (λ n t. f n (tail_writes a asks n t)) h.1 (and_second one rest g))
 
 pub none_is_idle : NoRequestIsIdle
 unfolding writing
 none_is_idle c ok =
-    all_wait c ok c.asks (λ n t. ap (λ (ns : List ℕ). has_number ns n) ok.writes ∙ t) (no_read_is_idle (is_standing c.seat) (reads_of c) ok.reads) ok.groups
+    all_wait c ok c.asks (λ n t. ap (λ (ns : List ℕ). has_number ns n) ok.agrees.asks.writes ∙ t) (no_read_is_idle (is_standing c.seat) (reads_of c) ok.reads) ok.agrees.groups.stand

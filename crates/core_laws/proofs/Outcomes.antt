@@ -76,7 +76,7 @@ request_gives : (q : Request) (m : Moment) (a : Asked) (c : Core) → Gives is_r
 request_gives (request.Range ask) m a c = taken_gives m a c
 request_gives (request.Put ask) m a c = taken_gives m a c
 request_gives (request.Delete ask) m a c = taken_gives m a c
-request_gives (request.Txn' compare n first k second) m a c = taken_gives m a c
+request_gives (request.Txn t) m a c = taken_gives m a c
 request_gives (request.Compact revision physical) m a c = taken_gives m a c
 request_gives (request.Grant ttl lease) m a c = taken_gives m a c
 request_gives (request.Revoke lease) m a c = taken_gives m a c

@@ -15,22 +15,14 @@ start_fits settings =
       };
       settled = tt;
       unfinished = refl;
-      proper = refl;
-      ranges = tt;
-      seated = refl;
-      tickets_once = refl;
-      writes = refl;
-      awaited = refl;
-      calls_out = refl;
-      calls_once = refl;
-      out_once = refl;
-      out_given = refl;
-      waits_out = refl;
-      one_group = λ lease. refl;
-      groups = refl;
-      entries_sorted = refl;
-      acquires_sorted = refl;
+      agrees = record {
+        writes = record { proper = refl; ranges = tt; out = refl; sends_once = λ call. refl; asks_once = λ call. refl };
+        asks = record { once = refl; writes = refl; calls_once = λ call. refl };
+        awaited = λ k. refl;
+        out = record { seat = refl; acquires = λ k. refl; asks = refl };
+        numbers = record { once = refl; given = refl; waits = refl };
+        groups = record { one = λ lease. refl; stand = refl };
+        seated = refl;
+      };
       given_steps = refl;
-      watches = record { numbers = refl; tickets = refl };
-      numbered = refl;
     }

@@ -1,6 +1,7 @@
 //! Laws of the whole machine of one proxy, over its definitions.
 #![tactic(auto)]
 
+ghost use Rattle.core_laws.specs.Kept.{StepsKeep, RunsKeep, RunsLeaveNoneIdle, RunsShareKeepalives};
 ghost use Rattle.core_laws.specs.Laws.{NoRequestIsIdle, StartFits, HeldReadIsReplied, AcquirableReadAcquires};
 ghost use Rattle.core_laws.specs.Outcomes.{WornDoesNothing, StepsGive};
 
@@ -20,4 +21,13 @@ pub fn plain_reads()
 pub fn steps_give()
     ensures worn_does_nothing { WornDoesNothing }
     ensures gives { StepsGive }
+{}
+
+/// Every step keeps all that is to hold of a proxy; so it holds after each step of a run, no request waits for nothing then, and of
+/// each lease one keepalive is out at most, and none is due beside it.
+pub fn steps_keep()
+    ensures steps { StepsKeep }
+    ensures runs { RunsKeep }
+    ensures none_is_idle { RunsLeaveNoneIdle }
+    ensures keepalives_share { RunsShareKeepalives }
 {}
