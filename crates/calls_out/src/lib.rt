@@ -1,0 +1,10 @@
+//! The calls of a proxy that are out, by number, found in logarithmic time.
+#![tactic(auto)]
+
+mod calls;
+
+pub use calls::Calls;
+pub use core_model::{CallKind, OutCall, OutJob};
+
+#[cfg(test)]
+mod tests;

@@ -1,0 +1,34 @@
+-- The ticket's row and its place in the index are taken out, and where there is none all stays.
+use Rattle.std.proofs.Common.{◌≡◌, sym, ap, subst, ◌∙◌, List}
+use Rattle.read_model.specs.declared.asked.Asked.{Asked}
+use Rattle.core_model.specs.Lookups.{ask_at, without_ask}
+use Rattle.known_asks.proofs.Tickets.{fits-taken, taken, none_taken, found_row, found_none}
+use Rattle.known_asks.proofs.Since.{since-remove}
+use Rattle.known_asks.proofs.asks.Asks.remove.Goals as goal
+
+pub invariant_of-self : goal.invariant_of-self
+invariant_of-self c =
+    let at = rw (c.deref.ensures.value, c.deref-2.ensures.value) at c.in-Some.ensures.found in
+    rw (c.remove.ensures.items, c.remove-in-Some.ensures.items) (record {
+      fits = fits-taken _ _ _ c.args.ticket _ _ c.self.invariant.fits at;
+      since = since-remove c.self.inside.oldest c.self.inside.rows.items c.in-Some.row c.self.invariant.since;
+    })
+
+pub returns-in-Some-clause-rest : goal.returns-in-Some-clause-rest
+returns-in-Some-clause-rest c =
+    let at = rw (c.deref.ensures.value, c.deref-2.ensures.value) at c.in-Some.ensures.found in
+    rw c.remove-in-Some.ensures.items
+    (taken _ _ c.args.ticket _ _ c.self.invariant.fits.indexed at ∙ ap (λ (s : List Asked). without_ask c.args.ticket s) c.self.view_is)
+
+pub returns-in-Some-clause-found : goal.returns-in-Some-clause-found
+returns-in-Some-clause-found c =
+    let at = rw (c.deref.ensures.value, c.deref-2.ensures.value) at c.in-Some.ensures.found in
+    sym (found_row _ _ c.args.ticket _ _ _ c.self.invariant.fits.indexed at c.remove-in-Some.ensures.value) ∙ ap (λ (s : List Asked). ask_at c.args.ticket s) c.self.view_is
+
+pub returns-in-None : goal.returns-in-None
+returns-in-None c =
+    let absent = rw c.deref-2.ensures.value at c.in-None.ensures.absent in
+    record {
+      found = sym (found_none _ _ c.args.ticket c.self.invariant.fits.indexed absent) ∙ ap (λ (s : List Asked). ask_at c.args.ticket s) c.self.view_is;
+      rest = subst (λ (s : List Asked). s ≡ without_ask c.args.ticket s) c.self.view_is (none_taken _ _ c.args.ticket c.self.invariant.fits.indexed absent);
+    }

@@ -1,0 +1,170 @@
+ghost use Rattle.std.specs.Prelude.{◌≡◌, ◌++◌, ◌∷◌, [], map, true, false, None, OnOk, OnErr};
+ghost use Rattle.std.specs.Option.{option_copied};
+ghost use Rattle.core_model.specs.ClockWork.{timed_out_ask};
+ghost use Rattle.core_model.specs.Fits.{once};
+ghost use Rattle.core_model.specs.Lookups.{ask_at, without_ask};
+ghost use Rattle.core_model.specs.Takes.{least_ready};
+ghost use Rattle.read_model.specs.PlainRead.{in_stage};
+ghost use Rattle.known_asks.specs.Asks.{one_changed, none_times_out};
+
+use crate::places::{bound, change_one, change_rows, oldest_of, places, set_row};
+use crate::rule::Rule;
+use crate::stages::least_of;
+use crate::times::{REQUEST_TIME, TimeOut};
+use etcd_types::NoMemory;
+use numbered_rows::place;
+use read_model::{Asked, Stage};
+use std::alloc::Global;
+use std::marker::Model;
+
+/// The requests that a proxy knows, in order of asking.
+#[derive(Debug, Drop)]
+pub struct Asks {
+    /// By numbers that rise in the order of asking.
+    rows: Vec<(u64, Asked)>,
+    /// The number of each ticket's row, by ticket.
+    index: Vec<(u64, u64)>,
+    /// The number of the next row.
+    next: u64,
+    /// Those without a reply were all asked then or later, in milliseconds of the proxy's clock.
+    oldest: u64,
+}
+
+impl Model for Asks {
+    ghost use Rattle.std.specs.Prelude.{map, List};
+    ghost use Rattle.std.specs.Coded.{codes};
+    ghost use Rattle.etcd_types.specs.contracts.operation.Op as operation;
+    ghost use Rattle.etcd_types.specs.contracts.answer.Body as body;
+    ghost use Rattle.read_model.specs.declared.asked.Asked.{Asked as Ask};
+    ghost use Rattle.known_asks.specs.Indexed.{IsKept};
+
+    ghost Value = { List Ask };
+
+    ghost coded = { Prim.hlevel (codes, operation.the_row.coded, body.the_row.coded) };
+
+    ghost view = { λ a. map (λ r. r.1) a.rows.items };
+
+    ghost invariant = { λ a. IsKept a.rows.items a.index.items a.next a.oldest };
+}
+
+impl Asks {
+    /// None. It takes no memory.
+    pub fn new(alloc: Global) -> Asks
+        ensures { result ≡ [] }
+    {
+        Asks {
+            rows: Vec::new(alloc),
+            index: Vec::new(alloc),
+            next: 0,
+            oldest: u64::MAX,
+        }
+    }
+
+    /// All of them, each under a number that rises in the order of asking. No ticket stands twice.
+    pub fn rows(&self) -> &[(u64, Asked)]
+        ensures all { map (λ r. r.1) result.now ≡ self.now }
+        ensures once { once (map (λ a. a.ticket) self.now) ≡ true }
+    {
+        &self.rows
+    }
+
+    /// The one of this ticket.
+    pub fn find(&self, ticket: u64) -> Option<&Asked>
+        ensures { option_copied result ≡ ask_at ticket self.now }
+    {
+        match places(&self.rows, &self.index, ticket) {
+            Some((_, row)) => Some(&self.rows[row].1),
+            None => None,
+        }
+    }
+
+    /// One more, behind all. Its ticket is new. Where memory is wanting all is as before.
+    pub fn push(&mut self, ask: Asked) -> Result<(), NoMemory>
+        requires { ask_at ask.ticket self.old ≡ None }
+        ensures ok { OnOk result (self.new ≡ self.old ++ ask ∷ []) }
+        ensures err { OnErr result (self.new ≡ self.old) }
+    {
+        // The numbers outlast any machine.
+        if self.next == u64::MAX {
+            return Err(NoMemory);
+        }
+        self.rows.reserve(1)?;
+        self.index.reserve(1)?;
+        let ticket = ask.ticket;
+        match place(&self.index, ticket) {
+            Ok(_) => unreachable!(),
+            Err(gap) => {
+                self.oldest = bound(self.oldest, &ask);
+                self.rows.push((self.next, ask)).unwrap();
+                self.index.insert(gap, (ticket, self.next)).unwrap();
+                self.next += 1;
+            }
+        }
+        Ok(())
+    }
+
+    /// The one of this ticket is taken out. It takes no memory.
+    pub fn remove(&mut self, ticket: u64) -> Option<Asked>
+        ensures found { result ≡ ask_at ticket self.old }
+        ensures rest { self.new ≡ without_ask ticket self.old }
+    {
+        match places(&self.rows, &self.index, ticket) {
+            Some((at, row)) => {
+                self.index.remove(at);
+                Some(self.rows.remove(row).1)
+            }
+            None => None,
+        }
+    }
+
+    /// The one of this ticket is in this stage now. It takes no memory.
+    pub fn set_stage(&mut self, ticket: u64, stage: Stage)
+        ensures { self.new ≡ one_changed ticket (in_stage stage) self.old }
+    {
+        if let Some((_, row)) = places(&self.rows, &self.index, ticket) {
+            self.oldest = set_row(&mut self.rows[row], stage, self.oldest);
+        }
+    }
+
+    /// The one of this ticket is changed by the rule.
+    pub fn change<R: Rule>(&mut self, ticket: u64, rule: &R)
+        ensures { self.new ≡ one_changed ticket (R.changed rule.now) self.old }
+    {
+        if let Some((_, row)) = places(&self.rows, &self.index, ticket) {
+            self.oldest = change_one(&mut self.rows[row], rule, self.oldest);
+        }
+    }
+
+    /// Each is changed by the rule.
+    pub fn change_each<R: Rule>(&mut self, rule: &R)
+        ensures { self.new ≡ map (R.changed rule.now) self.old }
+    {
+        change_rows(&mut self.rows, rule);
+        self.oldest = oldest_of(&self.rows);
+    }
+
+    /// Whether one may time out at this reading. It takes constant time.
+    pub fn may_time_out(&self, now: u64) -> bool
+        ensures { result ≡ false → none_times_out now self.now ≡ true }
+    {
+        now.saturating_sub(self.oldest) >= REQUEST_TIME
+    }
+
+    /// Each without a reply whose time has passed at this reading has one. It takes no memory.
+    pub fn time_out(&mut self, now: u64)
+        ensures { self.new ≡ map (timed_out_ask now) self.old }
+    {
+        self.change_each(&TimeOut { now });
+    }
+
+    /// The least ticket whose reply stands.
+    pub fn ready(&self) -> Option<u64>
+        ensures { result ≡ least_ready None self.now }
+    {
+        let mut least = None;
+        for row in &self.rows {
+            least = least_of(least, &row.1);
+        }
+        least
+    }
+}

@@ -1,0 +1,19 @@
+//! The requests that a proxy knows: those without a reply and those whose reply wasn't taken, in order of asking, found by ticket
+//! in logarithmic time. Clock work that finds nothing to do looks at none of them.
+#![tactic(auto)]
+
+mod asks;
+mod places;
+mod restage;
+mod rule;
+mod stages;
+mod times;
+
+pub use asks::Asks;
+pub use read_model::{Asked, Stage, Verdict};
+pub use restage::{Restage, restage_each};
+pub use rule::Rule;
+pub use stages::is_replied;
+
+#[cfg(test)]
+mod tests;

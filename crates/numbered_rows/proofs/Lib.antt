@@ -1,0 +1,3 @@
+pub mod NumberedLaws
+pub mod Places
+pub mod Rows

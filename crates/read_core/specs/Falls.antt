@@ -1,0 +1,43 @@
+-- Reads whose acquire or owner write is no more, and the one for which a key was acquired, by what stands in the lease table and
+-- among the acquires.
+use Rattle.std.specs.Prelude.{◌≡◌, ℕ, Bool, true, false, cond, if◌then◌else◌, List, [], Option, None, Some, refl}
+use Rattle.etcd_types.specs.declared.record.Header.{Header}
+use Rattle.proxy_model.specs.declared.lease.Entry.{Entry}
+use Rattle.proxy_model.specs.Keyed.{Keyed, at}
+use Rattle.wait_model.specs.State.{owned, first_waits}
+use Rattle.read_model.specs.declared.acquire.Acquire.{Acquire}
+use Rattle.read_model.specs.declared.asked.Asked.{Asked}
+use Rattle.read_model.specs.declared.asked.Stage.{Stage}
+use Rattle.read_model.specs.Acquires.{acquires_at}
+use Rattle.read_model.specs.PlainRead.{ask_key, called, in_stage, read_turn}
+use Rattle.read_model.specs.Release.{stands, in_place}
+use Rattle.read_model.specs.State.{Ground}
+
+-- what reads wait on, with nothing else of the writes but the count of steps
+abbrev pub ground_at : ℕ → Keyed Entry → Keyed Acquire → Ground
+ground_at step es acquires = record { own = owned es (record (first_waits []) { step = step }); acquires = acquires }
+
+-- what the request waits for stands
+abbrev pub stands_on : Keyed Entry → Keyed Acquire → Asked → Bool
+stands_on es acquires a = stands a.ticket (at es (ask_key a)) (at acquires (ask_key a)) a.stage
+
+-- it becomes a call where that doesn't stand
+abbrev pub fallen : ℕ → Keyed Entry → Keyed Acquire → Asked → Asked
+fallen step es acquires a = if stands_on es acquires a then a else in_stage (called step) a
+
+-- which is a release in place by which no read is decided again
+pub fallen-in_place : (h : Header) (g : Ground) (a : Asked) → in_place false h g a ≡ fallen g.own.waits.step g.own.entries g.acquires a
+fallen-in_place h g a = refl
+
+pub fallen-ticket : (step : ℕ) (es : Keyed Entry) (acquires : Keyed Acquire) (a : Asked) → (fallen step es acquires a).ticket ≡ a.ticket
+fallen-ticket step es acquires a =
+    elim (stands_on es acquires a) as (λ b. (cond b a (in_stage (called step) a)).ticket ≡ a.ticket) [ true ↦ refl | false ↦ refl ]
+
+-- the stage that it comes into where that doesn't stand and it is decided by the entry of its key
+abbrev pub again_stage : Header → ℕ → Keyed Entry → Keyed Acquire → Asked → Option Stage
+again_stage h step es acquires a =
+    if stands_on es acquires a then None else Some (read_turn h step (at es (ask_key a)) false None).stage
+
+-- the stage of the read for which the key was acquired
+abbrev pub reader_stage : List ℕ → Stage → Asked → Option Stage
+reader_stage k s a = if acquires_at k a then Some s else None

@@ -1,0 +1,16 @@
+//! Plain reads of a proxy: how one is decided, and what becomes of those that wait where an acquire or an owner write is no more.
+#![tactic(auto)]
+
+mod decisions;
+mod readers;
+mod records;
+mod releases;
+mod standing;
+
+pub use decisions::{Decision, decide, under};
+pub use readers::tell_reader;
+pub use records::shown;
+pub use releases::{release, release_again};
+
+#[cfg(test)]
+mod tests;

@@ -1,0 +1,113 @@
+ghost use Rattle.std.specs.Prelude.{◌≡◌, map, true, OnOk, OnErr};
+ghost use Rattle.read_model.specs.Release.{in_place};
+ghost use Rattle.read_core.specs.Falls.{ground_at, stands_on, fallen, again_stage, fallen-ticket};
+
+use crate::decisions::{called, decide};
+use crate::standing::{key_of, stands_at};
+use core_model::Acquire;
+use etcd_types::{Bytes, Header, NoMemory};
+use keyed_rows::Rows;
+use known_asks::{Asked, Asks, Restage, Rule, Stage, restage_each};
+use lease_table::LeaseTable;
+use std::alloc::Global;
+
+/// A read whose acquire or owner write is no more becomes a call of its own.
+#[derive(Drop)]
+struct Fallen<'a> {
+    alloc: Global,
+    table: &'a LeaseTable,
+    acquires: &'a Rows<Acquire>,
+    step: u64,
+}
+
+impl<'a> Rule for Fallen<'a> {
+    ghost changed = { λ s. fallen s.step s.table.now.entries s.acquires.now };
+
+    fn change(&self, ask: &mut Asked) {
+        if !self.stands(ask) {
+            ask.stage = called(self.step);
+        }
+    }
+
+    ghost keeps = { λ s a. fallen-ticket s.step s.table.now.entries s.acquires.now a };
+}
+
+impl<'a> Fallen<'a> {
+    fn stands(&self, ask: &Asked) -> bool
+        ensures { result ≡ stands_on self.now.table.now.entries self.now.acquires.now ask.now }
+    {
+        let empty = Bytes::new(self.alloc);
+        stands_at(ask, key_of(&ask.request, &empty), self.table, self.acquires)
+    }
+}
+
+/// A read whose acquire or owner write is no more is decided by the entry of its key, where there is one, or becomes a call.
+#[derive(Drop)]
+struct Again<'a> {
+    header: Header,
+    table: &'a LeaseTable,
+    acquires: &'a Rows<Acquire>,
+    step: u64,
+}
+
+impl<'a> Restage for Again<'a> {
+    ghost stage_of = { λ s. again_stage s.header s.step s.table.now.entries s.acquires.now };
+
+    fn stage(&self, alloc: Global, ask: &Asked) -> Result<Option<Stage>, NoMemory> {
+        let empty = Bytes::new(alloc);
+        let key = key_of(&ask.request, &empty);
+        if stands_at(ask, key, self.table, self.acquires) {
+            return Ok(None);
+        }
+        let decision = decide(
+            alloc,
+            self.header,
+            self.step,
+            self.table.find(key),
+            false,
+            None,
+        )?;
+        Ok(Some(decision.stage))
+    }
+}
+
+/// Each read whose acquire or owner write is no more becomes a call of its own. It takes no memory.
+pub fn release(
+    alloc: Global,
+    asks: &mut Asks,
+    table: &LeaseTable,
+    acquires: &Rows<Acquire>,
+    step: u64,
+)
+    ensures { asks.new ≡ map (fallen step table.now.entries acquires.now) asks.old }
+{
+    asks.change_each(&Fallen {
+        alloc,
+        table,
+        acquires,
+        step,
+    });
+}
+
+/// Each read whose acquire or owner write is no more is answered from the entry of its key, waits for its owner write, or becomes a
+/// call of its own. Where memory is wanting all is as before.
+pub fn release_again(
+    alloc: Global,
+    asks: &mut Asks,
+    header: Header,
+    table: &LeaseTable,
+    acquires: &Rows<Acquire>,
+    step: u64,
+) -> Result<(), NoMemory>
+    ensures ok { OnOk result (asks.new ≡ map (in_place true header (ground_at step table.now.entries acquires.now)) asks.old) }
+    ensures err { OnErr result (asks.new ≡ asks.old) }
+{
+    let rule = Again {
+        header,
+        table,
+        acquires,
+        step,
+    };
+    restage_each(alloc, asks, &rule)?;
+    Ok(())
+}
