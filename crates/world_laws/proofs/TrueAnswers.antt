@@ -39,7 +39,7 @@ use Rattle.world_model.specs.PostRefusals.{post_refusal}
 use Rattle.world_model.specs.Calls.{executed_as, executed_if, executed_of, executed, was_answered, answered_as, answered_at, answered_of, answered, was_lost, lost_at, lost_of, lost}
 use Rattle.world_model.specs.Gains.{Replies, Fetched, gained_by, gained, all_fetched, reply_items, taken_items}
 use Rattle.world_model.specs.Places.{nth, with_nth, with_kept, kept_at, place_at, call_place, stream_place, is_among, with_ticket, with_posted, with_core}
-use Rattle.world_model.specs.Sends.{call_sent, stream_begun, stream_opened, closed_in, stream_closed, job_done, worked, sent_at, sent}
+use Rattle.world_model.specs.Sends.{next_call, next_stream, call_sent, stream_begun, stream_opened, closed_in, stream_closed, job_done, worked, sent_at, sent}
 use Rattle.world_model.specs.Starts.{started_over, started, clock_set_at, clock_set, looked, ticked_at, ticked}
 use Rattle.world_model.specs.State.{Place, OpenedStream, World}
 use Rattle.world_model.specs.Steps.{Step, at_place_of, at_place, by_outcome, after_core, steps}
@@ -162,7 +162,7 @@ refused_goes s w p ticket path body a x h =
 
 posted_by : (s : Seen) (w : World) (p ticket : ℕ) (path body : List ℕ) (x : Place) (r : Result Request ApiFault) → Tells s w
     → StepGoes s (posted_as w p ticket (item.Posted p ticket path body ∷ []) x r)
-posted_by s w p ticket path body x (Ok q) h = asks_goes s w p ticket q _ (with_posted ticket) x (post_asks p ticket path body q) h
+posted_by s w p ticket path body x (Ok q) h = asks_goes s w p ticket q (item.Posted p ticket path body ∷ []) (with_posted ticket) x (post_asks p ticket path body q) h
 posted_by s w p ticket path body x (Err why) h = refused_goes s w p ticket path body (Refused (post_refusal why)) (with_posted ticket x) h
 
 posted_goes : (s : Seen) (w : World) (p ticket : ℕ) (path body : List ℕ) → Tells s w → StepGoes s (posted w p ticket path body)
@@ -174,7 +174,7 @@ posted_goes s w p ticket path body h =
 
 call_goes : (s : Seen) (w : World) (p : ℕ) (x : Place) (own member ticket : ℕ) (q : Request) → Tells s w → StepGoes s (call_sent w p x own member ticket q)
 call_goes s w p x own member ticket q h =
-    gained_goes s _ p _ _ [] (tt, tt)
+    gained_goes s _ p (record x { calls = x.calls ++ next_call w ∷ [] }) (item.Sent p (next_call w) member ticket q ∷ []) [] (tt, tt)
     (record {
       stored = h.stored;
       called = ap (λ (calls : List (ℕ × Request)). calls ++ (member, q) ∷ []) h.called ∙ sym (map-append member_and_request w.calls _);
@@ -183,7 +183,7 @@ call_goes s w p x own member ticket q h =
 begun_stream_goes : (s : Seen) (w : World) (p : ℕ) (x : Place) (own member : ℕ) (ask : WatchAsk) → Tells s w
     → StepGoes s (stream_begun w p x own member ask (opened w.store member ask))
 begun_stream_goes s w p x own member ask h =
-    gained_goes s _ p _ _ [] (tt, tt)
+    gained_goes s _ p (record x { streams = with_kept x.streams own (next_stream w) }) (item.Opened p (next_stream w) member (request.Watch ask) ∷ []) [] (tt, tt)
     (record { stored = ap (λ (store : State). (opened store member ask).0) h.stored; called = h.called })
 
 opened_goes : (s : Seen) (w : World) (p : ℕ) (x : Place) (own member : ℕ) (q : Request) → Tells s w → StepGoes s (stream_opened w p x own member q)
