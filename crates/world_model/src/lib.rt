@@ -1,0 +1,12 @@
+//! The world of a replay, as definitions: a store of several members and the proxies before it, what each line of a script
+//! does to them and what it gains, and what a transcript tells. `specs/` has the definitions, a file a subject; here stand
+//! the few types that they speak of.
+#![tactic(auto)]
+
+mod fault;
+mod floor;
+mod sent_call;
+
+pub use fault::{LineRefusal, WorldFault};
+pub use floor::Floor;
+pub use sent_call::SentCall;
