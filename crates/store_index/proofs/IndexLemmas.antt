@@ -1,5 +1,5 @@
 -- What an index holds, through its steps.
-use Rattle.std.proofs.Common.{◌≡◌, ℕ, ◌+◌, ◌-◌, ◌≤◌, List, [], ◌∷◌, ◌++◌, None, Some, length, drop, refl, sym, ◌∙◌, ap, subst, arith}
+use Rattle.std.proofs.Common.{◌≡◌, ℕ, ◌+◌, ◌-◌, ◌≤◌, ◌<◌, List, [], ◌∷◌, ◌++◌, None, Some, length, drop, refl, sym, ◌∙◌, ap, subst, arith}
 use Rattle.std.proofs.lemmas.List.{length-append}
 use Rattle.etcd_types.specs.declared.key_range.KeyRange.{KeyRange}
 use Rattle.store_model.specs.declared.history.KeyChange.{KeyChange}
@@ -39,7 +39,7 @@ earlier_held i h range r holds ordered le =
     listings_are_ranges i.versions (left_by (Some r)) (up_to_revision h r) ordered refl
     (λ k. ap (λ (vs : List Version). last_left (up_to r vs) None) (holds.versions k) ∙ kept_give_earlier h i.compacted r k le) range
 
-pub grown : (old new : Index) (h : History) (d : KeyChange) (ds : List KeyChange) → HoldsKept old h
+grown : (old new : Index) (h : History) (d : KeyChange) (ds : List KeyChange) → HoldsKept old h
     → new.newest ≡ old.newest + 1 → new.compacted ≡ old.compacted → new.versions ≡ added_all (old.newest + 1) (d ∷ ds) old.versions
     → new.places ≡ old.places ++ changed_keys (d ∷ ds) ∷ [] → HoldsKept new (with_revision h (d ∷ ds))
 grown old new h d ds holds n c v p =
@@ -57,6 +57,12 @@ grown old new h d ds holds n c v p =
         p ∙ ap (λ ps. ps ++ changed_keys (d ∷ ds) ∷ []) holds.places ∙ sym (places_grow h old.compacted d ds past)
         ∙ ap (kept_places (with_revision h (d ∷ ds))) (sym c);
     }
+
+pub grown_by : (old new : Index) (h : History) (made : List KeyChange) → HoldsKept old h → 0 < length made
+    → new.newest ≡ old.newest + 1 → new.compacted ≡ old.compacted → new.versions ≡ added_all (old.newest + 1) made old.versions
+    → new.places ≡ old.places ++ changed_keys made ∷ [] → HoldsKept new (with_revision h made)
+grown_by old new h [] holds some n c v p = absurd (omega arith)
+grown_by old new h (d ∷ ds) holds some n c v p = grown old new h d ds holds n c v p
 
 pub compacted_holds : (old new : Index) (h : History) (d : ℕ) → HoldsKept old h → old.compacted ≤ d → d ≤ old.newest
     → new.newest ≡ old.newest → new.compacted ≡ d → ((k : List ℕ) → versions_of new.versions k ≡ kept d (versions_of old.versions k))
