@@ -1,5 +1,5 @@
 -- The keys between two bounds are those of a range.
-use Rattle.std.proofs.Common.{◌≡◌, ℕ, Bool, true, false, cond, not, ◌&&◌, ◌||◌, List, [], refl, sym, ◌∙◌, ap}
+use Rattle.std.proofs.Common.{◌≡◌, ℕ, Bool, true, false, cond, not, ◌&&◌, ◌||◌, List, refl, sym, ◌∙◌, ap}
 use Rattle.std.specs.Ordering.{nat_cmp, is_le, is_lt, is_gt, is_eq, ordering_reverse}
 use Rattle.std.specs.declared.cmp.Ordering.{Ordering}
 use Rattle.std.specs.declared.cmp.Ordering.TheVariants.{Less, Equal, Greater}
@@ -28,8 +28,8 @@ pub one_key : (range : KeyRange) → is_one range ≡ true → BoundsOf range (I
 one_key range e = record {
   forward = not_above_itself range.key;
   same = λ k.
-    by_order (slice_cmp nat_cmp range.key k) ∙ ap is_eq (sym (nat_list_cmp_total.antisymm k range.key))
-    ∙ ap (λ (b : Bool). cond b (same k range.key) (cond (is_zero range.end) (is_zero range.key || up_to range.key k) (up_to range.key k && before k range.end))) (sym e);
+      by_order (slice_cmp nat_cmp range.key k) ∙ ap is_eq (sym (nat_list_cmp_total.antisymm k range.key))
+      ∙ ap (λ (b : Bool). cond b (same k range.key) (cond (is_zero range.end) (is_zero range.key || up_to range.key k) (up_to range.key k && before k range.end))) (sym e);
 }
   where
     by_order : (o : Ordering) → is_le o && not (is_lt o) ≡ is_eq (ordering_reverse o)
@@ -84,6 +84,7 @@ no_key range e z f = record {
     itself : (b : Bool) → b && not b ≡ false
     itself true = refl
     itself false = refl
+
     none : (k : List ℕ) → up_to range.key k ≡ true → before k range.end ≡ true → ⊥
     none k u l = let v : up_to range.end k ≡ true = up_to-along range.end range.key k (not_up_to range.key range.end f) u in let w : up_to range.end k ≡ false = not_true (up_to range.end k) l in cc
 

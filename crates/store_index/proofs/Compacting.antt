@@ -1,5 +1,5 @@
 -- The entries of an ordered map after each list of versions was cut to what a compaction keeps, and the empty ones went.
-use Rattle.std.proofs.Common.{◌≡◌, ℕ, ◌+◌, ◌==◌, not, arith, Bool, true, false, cond, List, [], ◌∷◌, Option, None, Some, length, map, filter, refl, sym, ◌∙◌, ap, subst}
+use Rattle.std.proofs.Common.{◌≡◌, ℕ, ◌==◌, not, Bool, true, false, cond, List, [], ◌∷◌, Option, None, Some, length, map, filter, refl, sym, ◌∙◌, ap, subst}
 use Rattle.std.specs.Option.{unwrap_or, option_map}
 use Rattle.std.specs.Ordering.{nat_cmp, eq_by_cmp}
 use Rattle.std.specs.Cmp.{eq_by_cmp_equiv}
@@ -10,7 +10,6 @@ use Rattle.std.specs.Map.{keys_of, lookup}
 use Rattle.std.specs.Map.Calls.{RetainsPairs}
 use Rattle.std.specs.BTreeMap.{is_at}
 use Rattle.std.proofs.lemmas.Cmp.{nat_list_cmp_total}
-use Rattle.std.proofs.lemmas.Bool.Decides.{nat_tests}
 use Rattle.std.proofs.lemmas.Map.Entries.{option_filter, lookup-filter-values}
 use Rattle.std.proofs.lemmas.Map.Keys.{IsDistinct-from_sorted}
 use Rattle.kept_model.specs.declared.version.Version.{Version}

@@ -12,7 +12,7 @@ use Rattle.std.specs.declared.cmp.Ordering.{Ordering}
 use Rattle.std.specs.declared.cmp.Ordering.TheVariants.{Less, Equal, Greater}
 use Rattle.std.specs.Cmp.{eq_by_cmp_equiv}
 use Rattle.std.specs.Cmp.Lexicographic.{slice_cmp}
-use Rattle.std.specs.Map.{lookup, set_value, remove_entry}
+use Rattle.std.specs.Map.{set_value, remove_entry}
 use Rattle.std.specs.BTreeMap.{is_at, insert_entry}
 use Rattle.etcd_types.specs.Keys.{same}
 use Rattle.etcd_types.proofs.KeyOrder.{same-equal, same-itself}

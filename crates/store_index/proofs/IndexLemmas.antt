@@ -1,5 +1,5 @@
 -- What an index holds, through its steps.
-use Rattle.std.proofs.Common.{◌≡◌, ℕ, ◌+◌, ◌-◌, ◌≤◌, ◌<◌, List, [], ◌∷◌, ◌++◌, None, Some, length, drop, refl, sym, ◌∙◌, ap, subst, arith}
+use Rattle.std.proofs.Common.{◌≡◌, ℕ, ◌+◌, ◌-◌, ◌≤◌, ◌<◌, List, [], ◌∷◌, ◌++◌, None, Some, length, drop, refl, sym, ◌∙◌, ap, arith}
 use Rattle.std.proofs.lemmas.List.{length-append}
 use Rattle.etcd_types.specs.declared.key_range.KeyRange.{KeyRange}
 use Rattle.store_model.specs.declared.history.KeyChange.{KeyChange}
@@ -49,13 +49,13 @@ grown old new h d ds holds n c v p =
       same_newest = n ∙ ap (λ m. m + 1) holds.same_newest ∙ sym next;
       past = omega (arith, past, next, c);
       versions = λ k.
-        ap (λ (es : Entries). versions_of es k) v ∙ changes-added (old.newest + 1) (d ∷ ds) old.versions k
-        ∙ ap (λ (vs : List Version). with_changes (old.newest + 1) (d ∷ ds) vs k) (holds.versions k)
-        ∙ ap (λ m. with_changes (m + 1) (d ∷ ds) (kept_versions h old.compacted k) k) holds.same_newest
-        ∙ sym (kept_grow h old.compacted k (d ∷ ds) past) ∙ ap (λ m. kept_versions (with_revision h (d ∷ ds)) m k) (sym c);
+          ap (λ (es : Entries). versions_of es k) v ∙ changes-added (old.newest + 1) (d ∷ ds) old.versions k
+          ∙ ap (λ (vs : List Version). with_changes (old.newest + 1) (d ∷ ds) vs k) (holds.versions k)
+          ∙ ap (λ m. with_changes (m + 1) (d ∷ ds) (kept_versions h old.compacted k) k) holds.same_newest
+          ∙ sym (kept_grow h old.compacted k (d ∷ ds) past) ∙ ap (λ m. kept_versions (with_revision h (d ∷ ds)) m k) (sym c);
       places =
-        p ∙ ap (λ ps. ps ++ changed_keys (d ∷ ds) ∷ []) holds.places ∙ sym (places_grow h old.compacted d ds past)
-        ∙ ap (kept_places (with_revision h (d ∷ ds))) (sym c);
+          p ∙ ap (λ ps. ps ++ changed_keys (d ∷ ds) ∷ []) holds.places ∙ sym (places_grow h old.compacted d ds past)
+          ∙ ap (kept_places (with_revision h (d ∷ ds))) (sym c);
     }
 
 pub grown_by : (old new : Index) (h : History) (made : List KeyChange) → HoldsKept old h → 0 < length made

@@ -155,8 +155,8 @@ there es ordered e c =
 pub listings_are_ranges : ListingsAreRanges
 listings_are_ranges es read h ordered n reads range =
     let all : All (IsRead read h) es =
-          All-weaker (Contains es) (IsRead read h) (λ e f. ap (λ (o : Option (List Version)). read (unwrap_or o [])) (sym (there es ordered e f)) ∙ reads e.0) es
-          (All-contains_itself es) in
+    All-weaker (Contains es) (IsRead read h) (λ e f. ap (λ (o : Option (List Version)). read (unwrap_or o [])) (sym (there es ordered e f)) ∙ reads e.0) es
+    (All-contains_itself es) in
     rising_same (shown_by read range es) (records_now h range) (shown_rise read h range es ordered all) (ranges_rise h range)
     (λ kv c. (ranges_are_exact h range kv).1 (shown_are read h range es kv all c))
     (λ kv c. let is = (ranges_are_exact h range kv).0 c in found_shown read range kv.key kv es is.1 n (reads kv.key ∙ is.0))

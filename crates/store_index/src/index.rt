@@ -19,8 +19,10 @@ pub struct Index {
     pub(crate) alloc: Global,
     pub(crate) versions: Versions,
     pub(crate) places: Places,
-    pub(crate) compacted: u64,
-    pub(crate) newest: u64,
+    /// The revision of the last compaction, 0 where there was none.
+    pub compacted: u64,
+    /// The newest revision, from 1.
+    pub newest: u64,
     ghost have_versions: { HaveVersions versions },
 }
 
@@ -38,13 +40,6 @@ impl Index {
             compacted: 0,
             newest: 1,
         }
-    }
-
-    /// The newest revision, from 1.
-    pub fn newest(&self) -> u64
-        ensures { (h : History) → HoldsKept self.now h → result ≡ newest h }
-    {
-        self.newest
     }
 
     /// The record of the key, where it has one.

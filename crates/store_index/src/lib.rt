@@ -11,3 +11,6 @@ mod versions;
 
 pub use index::Index;
 pub use laws::listings_are_ranges;
+
+#[cfg(test)]
+mod tests;

@@ -1,4 +1,4 @@
-use Rattle.std.proofs.Common.{◌≡◌, List, ◌++◌, ◌∷◌, [], take, sym, ◌∙◌, ap}
+use Rattle.std.proofs.Common.{List, ◌++◌, ◌∷◌, [], take, sym, ◌∙◌, ap}
 use Rattle.std.proofs.lemmas.List.{take_more}
 use Rattle.store_model.specs.declared.history.KeyChange.{KeyChange}
 use Rattle.store_index.specs.Maps.{Entries, found}
@@ -15,9 +15,9 @@ pub returns-in-Err-clause-there : goal.returns-in-Err-clause-there
 returns-in-Err-clause-there c =
     let passed : List KeyChange = take c.loop-index.index c.args.changes.now in
     λ k e.
-      c.requires k
-      (ap (λ (es : Entries). found k es)
-      (sym (c.take_all_back.ensures ∙ ap (taken_all passed) (c.in-Err.ensures.err ∙ c.loop-index.invariant) ∙ taken-added_all c.args.revision passed c.args.self.now c.requires)) ∙ e)
+    c.requires k
+    (ap (λ (es : Entries). found k es)
+    (sym (c.take_all_back.ensures ∙ ap (taken_all passed) (c.in-Err.ensures.err ∙ c.loop-index.invariant) ∙ taken-added_all c.args.revision passed c.args.self.now c.requires)) ∙ e)
 
 pub loop-index-preserved : goal.loop-index-preserved
 loop-index-preserved c =
@@ -30,5 +30,5 @@ loop-index-preserved c =
 pub returns-clause-there : goal.returns-clause-there
 returns-clause-there c =
     λ k e.
-      added_all-HaveVersions c.args.revision (take c.loop-index.index c.args.changes.now) c.args.self.now c.requires k
-      (ap (λ (es : Entries). found k es) (sym c.loop-index.invariant) ∙ e)
+    added_all-HaveVersions c.args.revision (take c.loop-index.index c.args.changes.now) c.args.self.now c.requires k
+    (ap (λ (es : Entries). found k es) (sym c.loop-index.invariant) ∙ e)

@@ -1,4 +1,4 @@
-use Rattle.std.proofs.Common.{◌≡◌, List, ℕ, ◌∙◌, ap, rules}
+use Rattle.std.proofs.Common.{◌∙◌, ap, rules}
 use Rattle.kept_model.specs.Versions.{kept}
 use Rattle.store_index.specs.Maps.{Entries, versions_of}
 use Rattle.store_index.proofs.Compacting.{is_there, retained, compacted, compacted-HaveVersions}

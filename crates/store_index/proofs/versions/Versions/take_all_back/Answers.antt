@@ -15,9 +15,9 @@ loop-count-preserved c =
     record {
       within = omega arith;
       left =
-        ap (taken_all left) (c.take_back.ensures ∙ ap (λ (j : List ℕ). taken j c.loop-count.self) c.changed_key.ensures)
-        ∙ sym (taken_all-push left c.index-changes-count.result c.loop-count.self)
-        ∙ ap (λ (cs : List KeyChange). taken_all cs c.loop-count.self)
-        (sym (take_more c.args.changes.now n c.index-changes-count.result here ∙ ap (λ (d : KeyChange). left ++ d ∷ []) (sym c.index-changes-count.is)) ∙ ap (λ m. take m c.args.changes.now) back)
-        ∙ c.loop-count.invariant.left;
+          ap (taken_all left) (c.take_back.ensures ∙ ap (λ (j : List ℕ). taken j c.loop-count.self) c.changed_key.ensures)
+          ∙ sym (taken_all-push left c.index-changes-count.result c.loop-count.self)
+          ∙ ap (λ (cs : List KeyChange). taken_all cs c.loop-count.self)
+          (sym (take_more c.args.changes.now n c.index-changes-count.result here ∙ ap (λ (d : KeyChange). left ++ d ∷ []) (sym c.index-changes-count.is)) ∙ ap (λ m. take m c.args.changes.now) back)
+          ∙ c.loop-count.invariant.left;
     }
