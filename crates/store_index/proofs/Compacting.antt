@@ -1,5 +1,5 @@
 -- The entries of an ordered map after each list of versions was cut to what a compaction keeps, and the empty ones went.
-use Rattle.std.proofs.Common.{◌≡◌, ℕ, ◌+◌, ◌==◌, not, arith, Bool, true, false, cond, List, [], ◌∷◌, Option, None, Some, length, map, filter, refl, sym, ◌∙◌, ap, subst}
+use Rattle.std.proofs.Common.{◌≡◌, ℕ, ◌==◌, not, Bool, true, false, cond, List, [], ◌∷◌, Option, None, Some, length, map, filter, refl, sym, ◌∙◌, ap, subst}
 use Rattle.std.specs.Option.{unwrap_or, option_map}
 use Rattle.std.specs.Ordering.{nat_cmp, eq_by_cmp}
 use Rattle.std.specs.Cmp.{eq_by_cmp_equiv}
@@ -10,12 +10,12 @@ use Rattle.std.specs.Map.{keys_of, lookup}
 use Rattle.std.specs.Map.Calls.{RetainsPairs}
 use Rattle.std.specs.BTreeMap.{is_at}
 use Rattle.std.proofs.lemmas.Cmp.{nat_list_cmp_total}
-use Rattle.std.proofs.lemmas.Bool.Decides.{nat_tests}
 use Rattle.std.proofs.lemmas.Map.Entries.{option_filter, lookup-filter-values}
 use Rattle.std.proofs.lemmas.Map.Keys.{IsDistinct-from_sorted}
 use Rattle.kept_model.specs.declared.version.Version.{Version}
 use Rattle.kept_model.specs.Versions.{kept}
-use Rattle.store_index.specs.Maps.{Entries, versions_of}
+use Rattle.store_index.specs.Maps.{Entries, versions_of, found, HaveVersions}
+use Rattle.store_index.proofs.EntryLemmas.{not_none}
 
 -- the closure changes each value by g, and keeps what then passes p
 pub retained : {F K X : Type 0} (T : F → K → X → Bool → X → F → Type 0) (p : X → Bool) (g : X → X) (f : F)
@@ -43,23 +43,34 @@ keys-map g (e ∷ es) = ap (λ ks. e.0 ∷ ks) (keys-map g es)
 abbrev pub is_there : List Version → Bool
 is_there vs = not (length vs == 0)
 
-found : (c : ℕ) (o : Option (List Version)) → unwrap_or (option_filter is_there (option_map (kept c) o)) [] ≡ kept c (unwrap_or o [])
-found c None = refl
-found c (Some vs) = by_list (kept c vs)
+read_through : (c : ℕ) (o : Option (List Version)) → unwrap_or (option_filter is_there (option_map (kept c) o)) [] ≡ kept c (unwrap_or o [])
+read_through c None = refl
+read_through c (Some vs) = by_list (kept c vs)
   where
     by_list : (ws : List Version) → unwrap_or (cond (is_there ws) (Some ws) None) [] ≡ ws
     by_list [] = refl
-    by_list (w ∷ ws) = ap (λ (b : Bool). unwrap_or (cond b (Some (w ∷ ws)) None) []) (more (length ws))
-      where
-        more : (n : ℕ) → not (n + 1 == 0) ≡ true
-        more n = grind (arith, nat_tests)
+    by_list (w ∷ ws) = ap (λ (b : Bool). unwrap_or (cond (not b) (Some (w ∷ ws)) None) []) (not_none (length ws))
+
+found_after : (c : ℕ) (es new : Entries) → IsStrictlySortedBy (slice_cmp nat_cmp) (keys_of es) → new ≡ filter (λ e. is_there e.1) (map (λ e. (e.0, kept c e.1)) es)
+    → (k : List ℕ) → found k new ≡ option_filter is_there (option_map (kept c) (found k es))
+found_after c es new sorted is k =
+    ap (λ (fs : Entries). found k fs) is
+    ∙ lookup-filter-values {eq = eq_by_cmp (slice_cmp nat_cmp)} (eq_by_cmp_equiv nat_list_cmp_total) is_there k (map (λ e. (e.0, kept c e.1)) es)
+    (subst (IsDistinct (eq_by_cmp (slice_cmp nat_cmp))) (sym (keys-map (kept c) es)) (IsDistinct-from_sorted (slice_cmp nat_cmp) (keys_of es) sorted))
+    ∙ ap (option_filter is_there) (lookup-map (is_at (slice_cmp nat_cmp k)) (kept c) es)
 
 pub compacted : (c : ℕ) (es new : Entries) → IsStrictlySortedBy (slice_cmp nat_cmp) (keys_of es) → new ≡ filter (λ e. is_there e.1) (map (λ e. (e.0, kept c e.1)) es)
     → (k : List ℕ) → versions_of new k ≡ kept c (versions_of es k)
-compacted c es new sorted is k =
-    ap (λ (fs : Entries). versions_of fs k) is
-    ∙ ap (λ o. unwrap_or o [])
-    (lookup-filter-values {eq = eq_by_cmp (slice_cmp nat_cmp)} (eq_by_cmp_equiv nat_list_cmp_total) is_there k (map (λ e. (e.0, kept c e.1)) es)
-    (subst (IsDistinct (eq_by_cmp (slice_cmp nat_cmp))) (sym (keys-map (kept c) es)) (IsDistinct-from_sorted (slice_cmp nat_cmp) (keys_of es) sorted))
-    ∙ ap (option_filter is_there) (lookup-map (is_at (slice_cmp nat_cmp k)) (kept c) es))
-    ∙ found c (lookup (is_at (slice_cmp nat_cmp k)) es)
+compacted c es new sorted is k = ap (λ o. unwrap_or o []) (found_after c es new sorted is k) ∙ read_through c (found k es)
+
+pub compacted-HaveVersions : (c : ℕ) (es new : Entries) → IsStrictlySortedBy (slice_cmp nat_cmp) (keys_of es) → new ≡ filter (λ e. is_there e.1) (map (λ e. (e.0, kept c e.1)) es)
+    → HaveVersions new
+compacted-HaveVersions c es new sorted is k e = never (option_map (kept c) (found k es)) (sym (found_after c es new sorted is k) ∙ e)
+  where
+    none_left : (vs : List Version) → cond (is_there vs) (Some vs) None ≡ Some [] → ⊥
+    none_left [] f = cc
+    none_left (w ∷ ws) f = let there : Some (w ∷ ws) ≡ Some [] = ap (λ (b : Bool). cond (not b) (Some (w ∷ ws)) None) (sym (not_none (length ws))) ∙ f in cc
+
+    never : (o : Option (List Version)) → option_filter is_there o ≡ Some [] → ⊥
+    never None f = cc
+    never (Some vs) f = none_left vs f

@@ -1,4 +1,9 @@
 pub mod KeptPlaces
 pub mod Compacting
 pub mod EntryLemmas
-pub mod Listing
+pub mod ListedRecords
+pub mod BoundLemmas
+pub mod ReadLemmas
+pub mod ListingLemmas
+pub mod AddingLemmas
+pub mod IndexLemmas

@@ -1,3 +1,6 @@
 pub mod Held
 pub mod Maps
 pub mod Listings
+pub mod Bounds
+pub mod Adding
+pub mod Index

@@ -1,9 +1,16 @@
 //! What a store keeps of its history, found by key: the versions of each key in an ordered map.
 #![tactic(auto)]
 
+mod index;
 mod key_versions;
 mod laws;
+mod listing;
+mod places;
+mod reading;
 mod versions;
 
+pub use index::Index;
 pub use laws::listings_are_ranges;
-pub use versions::Versions;
+
+#[cfg(test)]
+mod tests;

@@ -1,13 +1,18 @@
-ghost use Rattle.std.specs.Prelude.{◌≡◌, ℕ, List as Values, [], OnOk, OnErr};
+ghost use Rattle.std.specs.Prelude.{◌≡◌, ℕ, List as Values, [], IfOk, OnOk, OnErr};
 ghost use Rattle.kept_model.specs.Versions.{kept};
-ghost use Rattle.store_index.specs.Maps.{versions_of, with_version, without_newest};
+ghost use Rattle.store_index.specs.Maps.{versions_of, added, taken, HaveVersions, AreOrdered, left_by, shown_by};
+ghost use Rattle.store_index.specs.Adding.{version_of, with_change, added_all, taken_all};
 
 use crate::key_versions::KeyVersions;
-use etcd_types::{Bytes, NoMemory};
+use crate::listing::records_in;
+use crate::places::changed_key;
+use crate::reading::left_now;
+use etcd_types::{Bytes, KeyRange, Kv, List, NoMemory};
 use kept_model::Version;
 use std::alloc::Global;
 use std::collections::BTreeMap;
 use std::marker::Model;
+use store_model::KeyChange;
 
 /// The versions of all keys. Contracts see it as the list of keys, each with its versions by rising revisions.
 #[derive(Debug, Drop)]
@@ -46,9 +51,18 @@ impl Versions {
         }
     }
 
+    /// The records of the range that the versions up to a revision left, or all versions where none is named, in the order of
+    /// the keys.
+    pub fn records(&self, range: &KeyRange, up_to: Option<u64>) -> Result<List<Kv>, NoMemory>
+        ensures shown { IfOk result (λ kvs. kvs ≡ shown_by (left_by up_to) range.now self.now) }
+        ensures ordered { AreOrdered self.now }
+    {
+        records_in(self.alloc, &self.map, range, up_to)
+    }
+
     /// Puts a version behind those of its key. Where memory was wanting all is as before.
     pub fn add(&mut self, key: &Bytes, version: Version) -> Result<(), NoMemory>
-        ensures ok { OnOk result ((k : Values ℕ) → versions_of self.new k ≡ with_version key.now version self.old k) }
+        ensures ok { OnOk result (self.new ≡ added key.now version self.old) }
         ensures err { OnErr result (self.new ≡ self.old) }
     {
         if let Some(versions) = self.map.get_mut(key) {
@@ -61,9 +75,9 @@ impl Versions {
         Ok(())
     }
 
-    /// Takes the newest version of a key away. It takes no memory.
+    /// Takes the newest version of a key away, and the key where it was the only one. It takes no memory.
     pub fn take_back(&mut self, key: &Bytes)
-        ensures { (k : Values ℕ) → versions_of self.new k ≡ without_newest key.now self.old k }
+        ensures { self.new ≡ taken key.now self.old }
     {
         let empty = match self.map.get_mut(key) {
             Some(versions) => {
@@ -77,9 +91,68 @@ impl Versions {
         }
     }
 
+    /// Adds the versions that the changes of a revision make. Where memory was wanting all is as before.
+    pub fn add_changes(&mut self, revision: u64, changes: &[KeyChange]) -> Result<(), NoMemory>
+        requires { HaveVersions self.old }
+        ensures ok { OnOk result (self.new ≡ added_all revision changes.now self.old) }
+        ensures there { HaveVersions self.new }
+        ensures err { OnErr result (self.new ≡ self.old) }
+    {
+        for (index, change) in changes.iter().enumerate() {
+            match self.add_change(revision, change) {
+                Ok(()) => {}
+                Err(error) => {
+                    self.take_all_back(&changes[..index]);
+                    return Err(error);
+                }
+            }
+        }
+        Ok(())
+    }
+
+    fn add_change(&mut self, revision: u64, change: &KeyChange) -> Result<(), NoMemory>
+        ensures ok { OnOk result (self.new ≡ with_change revision change.now self.old) }
+        ensures err { OnErr result (self.new ≡ self.old) }
+    {
+        let version = self.version(revision, change)?;
+        self.add(changed_key(change), version)
+    }
+
+    /// The version that a change makes.
+    fn version(&self, revision: u64, change: &KeyChange) -> Result<Version, NoMemory>
+        ensures { IfOk result (λ version. version ≡ version_of revision change.now self.now) }
+    {
+        match change {
+            KeyChange::Put { key, value, lease } => {
+                let old = left_now(self.of(key));
+                let left = Kv::after_put(self.alloc, old, key, value, *lease, revision)?;
+                Ok(Version {
+                    revision,
+                    left: Some(left),
+                })
+            }
+            KeyChange::Delete { .. } => Ok(Version {
+                revision,
+                left: None,
+            }),
+        }
+    }
+
+    /// Takes back what these changes added, the last one first. It takes no memory.
+    fn take_all_back(&mut self, changes: &[KeyChange])
+        ensures { self.new ≡ taken_all changes.now self.old }
+    {
+        let mut count = changes.len();
+        while count > 0 {
+            count -= 1;
+            self.take_back(changed_key(&changes[count]));
+        }
+    }
+
     /// Drops what a compaction at this revision doesn't keep, and gives its memory back.
     pub fn compact(&mut self, revision: u64)
-        ensures { (k : Values ℕ) → versions_of self.new k ≡ kept revision (versions_of self.old k) }
+        ensures versions { (k : Values ℕ) → versions_of self.new k ≡ kept revision (versions_of self.old k) }
+        ensures there { HaveVersions self.new }
     {
         self.map.retain(|_, versions| {
             versions.compact(revision);

@@ -1,4 +1,4 @@
-use Rattle.store_index.proofs.Listing.{listings_are_ranges}
+use Rattle.store_index.proofs.ListedRecords.{listings_are_ranges}
 use Rattle.store_index.proofs.laws.listings_are_ranges.Goals as goal
 
 pub returns : goal.returns

@@ -3,15 +3,17 @@ use Rattle.std.proofs.Common.{◌≡◌, ℕ, Bool, true, false, cond, not, List
 use Rattle.std.specs.List.{All, AllByRecursion, list_all, cons_option}
 use Rattle.std.specs.List.Sorted.{IsStrictlySortedBy}
 use Rattle.std.specs.Option.{unwrap_or}
-use Rattle.std.specs.Ordering.{nat_cmp, is_le, ordering_reverse}
+use Rattle.std.specs.Ordering.{nat_cmp, is_le, eq_by_cmp, ordering_reverse}
 use Rattle.std.specs.declared.cmp.Ordering.{Ordering}
 use Rattle.std.specs.declared.cmp.Ordering.TheVariants.{Less}
 use Rattle.std.specs.Cmp.Lexicographic.{slice_cmp}
 use Rattle.std.specs.Map.{keys_of, lookup}
-use Rattle.std.specs.BTreeMap.{BTreeMap, is_at, get}
+use Rattle.std.specs.BTreeMap.{is_at}
+use Rattle.std.specs.Cmp.{eq_by_cmp_equiv}
 use Rattle.std.proofs.lemmas.Cmp.{nat_list_cmp_total}
-use Rattle.std.proofs.lemmas.List.Elements.{All-head, All-tail, All-weaker, Contains-append_left, Contains-append_right, Contains-append_cases, Contains-push, Contains-push_cases}
-use Rattle.std.proofs.lemmas.Map.Views.{All-found}
+use Rattle.std.proofs.lemmas.List.Elements.{All-head, All-tail, All-contains_itself, All-weaker, Contains-append_left, Contains-append_right, Contains-append_cases, Contains-push, Contains-push_cases}
+use Rattle.std.proofs.lemmas.Map.Views.{lookup-from_Contains}
+use Rattle.std.proofs.lemmas.Map.Keys.{IsDistinct-from_sorted}
 use Rattle.etcd_types.specs.declared.record.Kv.{Kv}
 use Rattle.etcd_types.specs.declared.key_range.KeyRange.{KeyRange}
 use Rattle.etcd_types.specs.Keys.{same, before}
@@ -26,7 +28,7 @@ use Rattle.store_laws.specs.Ranges.{AreRising}
 use Rattle.store_laws.proofs.RangeProofs.{keyed-now, ranges_rise, ranges_are_exact}
 use Rattle.kept_laws.proofs.SameRecords.{rising_same}
 use Rattle.kept_model.specs.declared.version.Version.{Version}
-use Rattle.store_index.specs.Maps.{Entries, versions_of, shown_by}
+use Rattle.store_index.specs.Maps.{Entries, AreOrdered, versions_of, shown_by}
 use Rattle.store_index.specs.Listings.{ListingsAreRanges}
 
 abbrev Entry : Type 0
@@ -145,11 +147,16 @@ found_shown read range k kv (f ∷ es) i n e =
         (first_shown (read f.1) (shown_by read range es) kv g)
     by_key false t g later = later_shown (contains range f.0) (read f.1) (shown_by read range es) kv (later g)
 
+there : (es : Entries) → AreOrdered es → (e : Entry) → Contains es e → lookup (is_at (slice_cmp nat_cmp e.0)) es ≡ Some e.1
+there es ordered e c =
+    lookup-from_Contains {eq = eq_by_cmp (slice_cmp nat_cmp)} (eq_by_cmp_equiv nat_list_cmp_total) e.0 e.1 es
+    (IsDistinct-from_sorted (slice_cmp nat_cmp) (keys_of es) ordered) c
+
 pub listings_are_ranges : ListingsAreRanges
-listings_are_ranges m read h ordered n reads range =
-    let all : All (IsRead read h) m.entries =
-          All-weaker (λ (e : Entry). get (slice_cmp nat_cmp) m e.0 ≡ Some e.1) (IsRead read h)
-          (λ e f. ap (λ (o : Option (List Version)). read (unwrap_or o [])) (sym f) ∙ reads e.0) m.entries (All-found nat_list_cmp_total m ordered) in
-    rising_same (shown_by read range m.entries) (records_now h range) (shown_rise read h range m.entries ordered all) (ranges_rise h range)
-    (λ kv c. (ranges_are_exact h range kv).1 (shown_are read h range m.entries kv all c))
-    (λ kv c. let is = (ranges_are_exact h range kv).0 c in found_shown read range kv.key kv m.entries is.1 n (reads kv.key ∙ is.0))
+listings_are_ranges es read h ordered n reads range =
+    let all : All (IsRead read h) es =
+    All-weaker (Contains es) (IsRead read h) (λ e f. ap (λ (o : Option (List Version)). read (unwrap_or o [])) (sym (there es ordered e f)) ∙ reads e.0) es
+    (All-contains_itself es) in
+    rising_same (shown_by read range es) (records_now h range) (shown_rise read h range es ordered all) (ranges_rise h range)
+    (λ kv c. (ranges_are_exact h range kv).1 (shown_are read h range es kv all c))
+    (λ kv c. let is = (ranges_are_exact h range kv).0 c in found_shown read range kv.key kv es is.1 n (reads kv.key ∙ is.0))

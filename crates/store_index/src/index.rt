@@ -1,0 +1,102 @@
+ghost use Rattle.std.specs.Prelude.{◌≡◌, ◌≤◌, ◌<◌, ◌^◌, [], IfOk, OnOk, OnErr};
+ghost use Rattle.std.specs.Option.{option_copied};
+ghost use Rattle.store_model.specs.History.{History, newest, with_revision};
+ghost use Rattle.store_model.specs.Records.{record_now};
+ghost use Rattle.store_model.specs.Ranges.{records_now, records_in};
+ghost use Rattle.store_index.specs.Maps.{HaveVersions};
+
+use crate::places::{Places, changed_keys};
+use crate::reading::left_now;
+use crate::versions::Versions;
+use etcd_types::{Bytes, KeyRange, Kv, List, NoMemory};
+use std::alloc::Global;
+use store_model::KeyChange;
+
+/// What a store keeps of its history: the versions of each key that its compaction keeps, and which keys each revision from
+/// there on changed.
+#[derive(Debug, Drop)]
+pub struct Index {
+    pub(crate) alloc: Global,
+    pub(crate) versions: Versions,
+    pub(crate) places: Places,
+    /// The revision of the last compaction, 0 where there was none.
+    pub compacted: u64,
+    /// The newest revision, from 1.
+    pub newest: u64,
+    ghost have_versions: { HaveVersions versions },
+}
+
+impl Index {
+    ghost use Rattle.store_index.specs.Index.{HoldsKept};
+
+    /// The index of a history without a revision. It takes no memory.
+    pub fn new(alloc: Global) -> Index
+        ensures { HoldsKept result [] }
+    {
+        Index {
+            alloc,
+            versions: Versions::new(alloc),
+            places: Places::new(alloc),
+            compacted: 0,
+            newest: 1,
+        }
+    }
+
+    /// The record of the key, where it has one.
+    pub fn record(&self, key: &Bytes) -> Option<&Kv>
+        ensures { (h : History) → HoldsKept self.now h → option_copied result ≡ record_now h key.now }
+    {
+        left_now(self.versions.of(key))
+    }
+
+    /// The records of the range, in the order of the keys.
+    pub fn records(&self, range: &KeyRange) -> Result<List<Kv>, NoMemory>
+        ensures { IfOk result (λ kvs. (h : History) → HoldsKept self.now h → kvs ≡ records_now h range.now) }
+    {
+        Ok(self.versions.records(range, None)?)
+    }
+
+    /// The records of the range at a revision from the compaction on, in the order of the keys.
+    pub fn records_at(&self, range: &KeyRange, revision: u64) -> Result<List<Kv>, NoMemory>
+        requires { self.now.compacted ≤ revision }
+        ensures { IfOk result (λ kvs. (h : History) → HoldsKept self.now h → kvs ≡ records_in h revision range.now) }
+    {
+        Ok(self.versions.records(range, Some(revision))?)
+    }
+
+    /// Adds the changes as one revision, where there are any. Where memory was wanting all is as before.
+    pub fn add(&mut self, changes: &[KeyChange]) -> Result<(), NoMemory>
+        requires { self.old.newest < 2 ^ 63 }
+        ensures ok { OnOk result ((h : History) → HoldsKept self.old h → HoldsKept self.new (with_revision h changes.now)) }
+        ensures err { OnErr result (self.new ≡ self.old) }
+    {
+        if changes.is_empty() {
+            return Ok(());
+        }
+        let keys = changed_keys(self.alloc, changes)?;
+        self.places.push(keys)?;
+        match self.versions.add_changes(self.newest + 1, changes) {
+            Ok(()) => {
+                self.newest += 1;
+                Ok(())
+            }
+            Err(error) => {
+                self.places.take_back();
+                Err(error)
+            }
+        }
+    }
+
+    /// Drops what a compaction at this revision doesn't keep, and gives its memory back.
+    pub fn compact(&mut self, revision: u64)
+        requires past { self.old.compacted ≤ revision }
+        requires within { revision ≤ self.old.newest }
+        ensures kept { (h : History) → HoldsKept self.old h → HoldsKept self.new h }
+        ensures compacted { self.new.compacted ≡ revision }
+    {
+        self.versions.compact(revision);
+        let first = self.compacted.max(2);
+        self.places.drop_first((revision.max(2) - first) as usize);
+        self.compacted = revision;
+    }
+}

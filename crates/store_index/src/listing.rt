@@ -1,0 +1,80 @@
+ghost use Rattle.std.specs.Prelude.{◌≡◌, ◌++◌, OnOk, IfOk};
+ghost use Rattle.std.specs.Option.{option_to_list};
+ghost use Rattle.std.specs.Range.Bound.{bound_map};
+ghost use Rattle.etcd_types.specs.Keys.{is_zero};
+ghost use Rattle.store_index.specs.Bounds.{BoundsOf};
+ghost use Rattle.store_index.specs.Maps.{AreOrdered, left_by, shown_by};
+
+use crate::key_versions::KeyVersions;
+use crate::reading::left_by;
+use etcd_types::{Bytes, KeyRange, Kv, List, NoMemory};
+use kept_model::Version;
+use std::alloc::Global;
+use std::collections::BTreeMap;
+use std::ops::Bound;
+
+/// The records of the range that the versions up to a revision left, or all versions where none is named, in the order of the
+/// keys.
+pub(crate) fn records_in(
+    alloc: Global,
+    map: &BTreeMap<Bytes, KeyVersions>,
+    range: &KeyRange,
+    up_to: Option<u64>,
+) -> Result<List<Kv>, NoMemory>
+    ensures shown { IfOk result (λ kvs. kvs ≡ shown_by (left_by up_to) range.now map.now.entries) }
+    ensures ordered { AreOrdered map.now.entries }
+{
+    let mut kvs = List::new(alloc);
+    for (_, versions) in map.range(bounds(range)) {
+        add_left(alloc, &mut kvs, versions.as_slice(), up_to)?;
+    }
+    Ok(kvs)
+}
+
+/// Adds the record that the versions left, where there is one.
+fn add_left(
+    alloc: Global,
+    kvs: &mut List<Kv>,
+    versions: &[Version],
+    up_to: Option<u64>,
+) -> Result<(), NoMemory>
+    ensures { OnOk result (kvs.new ≡ kvs.old ++ option_to_list (left_by up_to versions.now)) }
+{
+    if let Some(record) = left_by(versions, up_to) {
+        kvs.push(record.copy(alloc)?)?;
+    }
+    Ok(())
+}
+
+/// The bounds in the order of keys between which the keys of the range lie.
+#[tactic(auto, using(crate::proofs::BoundLemmas::bounds_of_ranges))]
+fn bounds(range: &KeyRange) -> (Bound<&Bytes>, Bound<&Bytes>)
+    ensures { BoundsOf range.now (bound_map (λ x. x.now) result.0) (bound_map (λ x. x.now) result.1) }
+{
+    let key = &range.key;
+    if range.is_one() {
+        return (Bound::Included(key), Bound::Included(key));
+    }
+    if is_zero(&range.end) {
+        return if is_zero(key) {
+            (Bound::Unbounded, Bound::Unbounded)
+        } else {
+            (Bound::Included(key), Bound::Unbounded)
+        };
+    }
+    if key.cmp(&range.end).is_le() {
+        (Bound::Included(key), Bound::Excluded(&range.end))
+    } else {
+        (Bound::Included(key), Bound::Excluded(key))
+    }
+}
+
+/// Whether the key is one zero byte.
+fn is_zero(key: &Bytes) -> bool
+    ensures { result ≡ is_zero key.now }
+{
+    match key.as_slice() {
+        [only] => *only == 0,
+        _ => false,
+    }
+}
