@@ -28,9 +28,10 @@ fn take_left(left: Left, table: &mut LeaseTable)
 {
     let Left { key, kv } = left;
     let _rows = table.entries();
-    if is_writing(table.find(&key)) {
-        table.wrote(&key, kv);
+    if !is_writing(table.find(&key)) {
+        return;
     }
+    table.wrote(&key, kv);
 }
 
 /// The entries that the write compared are gone. It takes no memory.
