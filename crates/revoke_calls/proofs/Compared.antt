@@ -1,5 +1,5 @@
 -- The list of the entries that a write compares says of each key what the write compares there.
-use Rattle.std.proofs.Common.{◌≡◌, ℕ, Bool, true, false, cond, ◌&&◌, ◌||◌, List, [], ◌∷◌, ◌++◌, Option, None, Some, refl, sym, ◌∙◌, ap, subst}
+use Rattle.std.proofs.Common.{◌≡◌, ℕ, Bool, true, false, cond, ◌&&◌, ◌||◌, List, [], ◌∷◌, ◌++◌, Option, None, Some, refl, sym, ◌∙◌, ap}
 use Rattle.std.specs.List.{list_all}
 use Rattle.etcd_types.specs.declared.key_range.KeyRange.{KeyRange}
 use Rattle.etcd_types.specs.Keys.{same}
@@ -18,7 +18,7 @@ use Rattle.wait_model.specs.Covers.{covered, covers}
 use Rattle.wait_model.specs.Sent.{create_or_zero, compared}
 use Rattle.wait_model.specs.Stages.{is_owner}
 use Rattle.wait_model.proofs.Covering.{one_key}
-use Rattle.revoke_calls.specs.Jobs.{owned_if, owned_at, owned_over}
+use Rattle.revoke_calls.specs.Jobs.{owned_if, owned_over}
 
 -- what is compared at an entry, where the key is one of these
 abbrev at_entry : Bool → Option Entry → ℕ

@@ -1,5 +1,5 @@
 -- The entries of a write that is over: key after key is one change at each key.
-use Rattle.std.proofs.Common.{◌≡◌, ℕ, Bool, true, false, cond, ◌&&◌, ◌||◌, List, Option, None, Some, refl, sym, ◌∙◌, ap}
+use Rattle.std.proofs.Common.{◌≡◌, ℕ, Bool, true, false, cond, ◌&&◌, List, Option, None, Some, refl, sym, ap}
 use Rattle.proxy_model.specs.declared.lease.Entry.{Entry}
 use Rattle.proxy_model.specs.declared.lease.Phase.{Phase}
 use Rattle.proxy_model.specs.declared.lease.Phase.TheVariants.{Held, Writing, Leaving}
@@ -10,7 +10,7 @@ use Rattle.wait_model.specs.declared.write.Write.{Write}
 use Rattle.wait_model.specs.Covers.{covered, covers}
 use Rattle.wait_model.specs.Edits.{each}
 use Rattle.wait_model.specs.Endings.{given_back}
-use Rattle.wait_model.specs.GuardedAnswers.{owns, change_owned}
+use Rattle.wait_model.specs.GuardedAnswers.{change_owned}
 use Rattle.wait_model.specs.Phases.{if_written}
 use Rattle.wait_model.specs.Stages.{is_owner, is_due}
 use Rattle.revoke_calls.specs.declared.entries.Fate.{Fate}

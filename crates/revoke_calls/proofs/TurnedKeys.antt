@@ -1,7 +1,7 @@
 -- A turn of what stands at each of some keys, one after another: what stands at a key then. And what becomes of the entries of a
 -- write that was answered is such a turn.
-use Rattle.std.proofs.Common.{◌≡◌, ℕ, ◌+◌, ◌<◌, ◌≤◌, Bool, true, false, not, cond, ◌&&◌, ◌||◌, IsTrue, List, [], ◌∷◌, ◌++◌, length, drop, get_or, map, filter, Option, None, Some, is_some, refl, sym, ◌∙◌, ap, arith}
-use Rattle.std.specs.List.{list_all, list_any, flat_map}
+use Rattle.std.proofs.Common.{◌≡◌, ℕ, ◌+◌, ◌<◌, ◌≤◌, Bool, true, false, not, cond, ◌&&◌, ◌||◌, IsTrue, List, [], ◌∷◌, ◌++◌, length, drop, get_or, map, Option, None, Some, is_some, refl, sym, ◌∙◌, ap, arith}
+use Rattle.std.specs.List.{list_all}
 use Rattle.std.specs.Option.{option_map}
 use Rattle.std.specs.Ordering.{nat_cmp}
 use Rattle.std.specs.Cmp.Lexicographic.{slice_cmp}
@@ -16,7 +16,6 @@ use Rattle.etcd_types.specs.Ranges.{contains, is_one}
 use Rattle.etcd_types.proofs.Bools.{and_first, and_second}
 use Rattle.etcd_types.proofs.KeyOrder.{same-equal}
 use Rattle.proxy_model.specs.declared.lease.Entry.{Entry}
-use Rattle.proxy_model.specs.declared.lease.Phase.{Phase}
 use Rattle.proxy_model.specs.declared.ownership.Owner.{Owner}
 use Rattle.proxy_model.specs.Keyed.{Keyed, at, with_at, is_in_order}
 use Rattle.proxy_model.specs.LeaseTable.{is_writing, is_writing_phase, written, unwritten, phase_after_write}
@@ -24,15 +23,15 @@ use Rattle.proxy_model.proofs.KeyedLaws.{to_T, from_T, at-with_at, in_order-with
 use Rattle.wait_model.specs.declared.found.Found.{Found}
 use Rattle.wait_model.specs.declared.write.Write.{Write}
 use Rattle.wait_model.specs.Covers.{covered, covers}
-use Rattle.wait_model.specs.Edits.{each, without}
+use Rattle.wait_model.specs.Edits.{without}
 use Rattle.wait_model.specs.ForeignOwnership.{found_of, is_own, others, owned_left}
-use Rattle.wait_model.specs.GuardedAnswers.{owns, owns_at, is_shown, is_gone, wrote_entries, unwrote_entries, kept_entries}
+use Rattle.wait_model.specs.GuardedAnswers.{owns, owns_at, is_shown, is_gone, wrote_entries, kept_entries}
 use Rattle.wait_model.specs.Phases.{if_written, own_entry}
 use Rattle.wait_model.specs.Stages.{is_owner}
 use Rattle.wait_model.proofs.Covering.{one_key}
 use Rattle.wait_model.proofs.Tables.{at-each, at-without, in_order-each}
 use Rattle.revoke_calls.specs.declared.left.Left.{Left}
-use Rattle.revoke_calls.specs.Ends.{turned, owned_ranges, dropped_turn, is_shown_by, kept_turn, wrote_turn, left_kv, left_in, lefts_of, all_wrote, found_if, found_in}
+use Rattle.revoke_calls.specs.Ends.{turned, owned_ranges, dropped_turn, is_shown_by, kept_turn, wrote_turn, left_kv, left_in, lefts_of, all_wrote, found_in}
 use Rattle.revoke_calls.proofs.ProperWrite.{owner-by_keys}
 use Rattle.revoke_calls.proofs.SettledEntries.{calm_back}
 use Rattle.wait_model.specs.Fits.{is_proper}

@@ -1,5 +1,5 @@
 -- What becomes of the entries of a write that was answered, key after key.
-use Rattle.std.specs.Prelude.{ℕ, Bool, true, false, not, ◌&&◌, if◌then◌else◌, List, [], ◌∷◌, map, Option, None, Some}
+use Rattle.std.specs.Prelude.{ℕ, Bool, true, ◌&&◌, if◌then◌else◌, List, [], ◌∷◌, map, Option, None, Some}
 use Rattle.std.specs.List.{list_any, flat_map}
 use Rattle.std.specs.Option.{option_map}
 use Rattle.etcd_types.specs.declared.answer.Reply.{Reply}
@@ -15,7 +15,7 @@ use Rattle.wait_model.specs.declared.found.Found.{Found}
 use Rattle.wait_model.specs.declared.write.Write.{Write}
 use Rattle.wait_model.specs.ForeignOwnership.{found_of, is_own}
 use Rattle.wait_model.specs.Operations.{operations}
-use Rattle.wait_model.specs.Phases.{if_written, is_of, is_session}
+use Rattle.wait_model.specs.Phases.{if_written, is_of}
 use Rattle.wait_model.specs.Stages.{is_owner}
 use Rattle.revoke_calls.specs.declared.left.Left.{Left}
 

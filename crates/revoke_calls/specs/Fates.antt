@@ -1,5 +1,5 @@
 -- What becomes of the entries of a write that is over without having been done.
-use Rattle.std.specs.Prelude.{Bool, true, if◌then◌else◌, List, ℕ}
+use Rattle.std.specs.Prelude.{true, if◌then◌else◌, List, ℕ}
 use Rattle.etcd_types.specs.Keys.{same}
 use Rattle.proxy_model.specs.declared.lease.Entry.{Entry}
 use Rattle.proxy_model.specs.Keyed.{Keyed}
@@ -26,4 +26,3 @@ settled_entries f w es = change_owned w (λ k e. after f e) es
 -- the change of one key, where it is being written
 abbrev pub settled_at : Fate → List ℕ → List ℕ → Entry → Entry
 settled_at f key k e = if same k key then if_written true (after f) e else e
-

@@ -79,12 +79,7 @@ fn own_call(alloc: Global, ticket: u64, since: u64) -> DueCall
     }
 }
 
-fn revoke_call(
-    alloc: Global,
-    ticket: u64,
-    since: u64,
-    found: &Found,
-) -> Result<DueCall, NoMemory>
+fn revoke_call(alloc: Global, ticket: u64, since: u64, found: &Found) -> Result<DueCall, NoMemory>
     ensures { IfOk result (λ call. call ≡ revoke_at ticket since found.now) }
 {
     Ok(DueCall {

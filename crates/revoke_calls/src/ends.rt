@@ -26,10 +26,12 @@ pub fn take_lefts(lefts: Vec<Left>, table: &mut LeaseTable)
 fn take_left(left: Left, table: &mut LeaseTable)
     ensures { table.new.entries ≡ with_at table.old.entries left.key (wrote_turn left.kv (at table.old.entries left.key)) }
 {
+    let Left { key, kv } = left;
     let _rows = table.entries();
-    if is_writing(table.find(&left.key)) {
-        table.wrote(&left.key, left.kv);
+    if !is_writing(table.find(&key)) {
+        return;
     }
+    table.wrote(&key, kv);
 }
 
 /// The entries that the write compared are gone. It takes no memory.

@@ -14,12 +14,7 @@ use std::alloc::Global;
 use wait_model::{Due, DueCall, DueKind, Write};
 
 /// A call that gives the key up whose ownership key has this create revision.
-pub fn rescind_due(
-    alloc: Global,
-    prefix: &Bytes,
-    key: &Bytes,
-    create: u64,
-) -> Result<Due, NoMemory>
+pub fn rescind_due(alloc: Global, prefix: &Bytes, key: &Bytes, create: u64) -> Result<Due, NoMemory>
     ensures { IfOk result (λ due. due ≡ rescind_due prefix.now key.now create) }
 {
     Ok(Due {

@@ -113,10 +113,12 @@ fn left_txn(
 {
     match body {
         Body::Txn {
-            succeeded: true, ..
+            succeeded: true,
+            ..
         } => Ok(left_by(alloc, revision, key, &txn.success, old)?),
         Body::Txn {
-            succeeded: false, ..
+            succeeded: false,
+            ..
         } => Ok(left_by(alloc, revision, key, &txn.failure, old)?),
         _ => Ok(old),
     }
@@ -193,9 +195,5 @@ fn lease_of(old: Option<&Kv>) -> u64
 fn left_delete(key: &Bytes, ask: &DeleteAsk, old: Option<Kv>) -> Option<Kv>
     ensures { result ≡ left_op 0 key.now (Delete ask.now) old }
 {
-    if ask.range.contains(key) {
-        None
-    } else {
-        old
-    }
+    if ask.range.contains(key) { None } else { old }
 }

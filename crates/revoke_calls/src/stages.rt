@@ -1,4 +1,4 @@
-ghost use Rattle.std.specs.Prelude.{◌≡◌};
+ghost use Rattle.std.specs.Prelude.{◌≡◌, false};
 ghost use Rattle.std.specs.Option.{option_copied};
 ghost use Rattle.proxy_model.specs.LeaseTable.{is_held, is_writing};
 ghost use Rattle.wait_model.specs.Covers.{is_single};

@@ -1,5 +1,5 @@
 -- An entry that is being written is gone, another one stays.
-use Rattle.std.proofs.Common.{◌≡◌, true, false, sym, ◌∙◌, ap, arith}
+use Rattle.std.proofs.Common.{sym, ◌∙◌, ap}
 use Rattle.proxy_model.specs.Keyed.{at, with_at}
 use Rattle.proxy_model.specs.LeaseTable.{is_writing}
 use Rattle.revoke_calls.specs.Ends.{dropped_turn}

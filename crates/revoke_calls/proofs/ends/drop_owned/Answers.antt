@@ -1,5 +1,5 @@
 -- Key after key, and nothing where it is no owner.
-use Rattle.std.proofs.Common.{◌≡◌, true, false, cond, [], sym, ◌∙◌, ap}
+use Rattle.std.proofs.Common.{cond, [], sym, ◌∙◌, ap}
 use Rattle.revoke_calls.specs.Ends.{turned, dropped_turn}
 use Rattle.revoke_calls.proofs.TurnedKeys.{dropped_is}
 use Rattle.revoke_calls.proofs.ends.drop_owned.Goals as goal

@@ -1,5 +1,5 @@
 -- Key after key, and nothing where it is no owner.
-use Rattle.std.proofs.Common.{◌≡◌, true, false, cond, [], sym, ◌∙◌, ap}
+use Rattle.std.proofs.Common.{cond, [], sym, ◌∙◌, ap}
 use Rattle.revoke_calls.specs.Ends.{turned, kept_turn}
 use Rattle.revoke_calls.proofs.TurnedKeys.{kept_is}
 use Rattle.revoke_calls.proofs.ends.keep_shown.Goals as goal

@@ -1,5 +1,5 @@
 -- One more.
-use Rattle.std.proofs.Common.{◌≡◌, sym, ◌∙◌, ap}
+use Rattle.std.proofs.Common.{sym, ◌∙◌, ap}
 use Rattle.proxy_model.specs.Keyed.{at, with_at}
 use Rattle.revoke_calls.specs.Ends.{wrote_turn}
 use Rattle.revoke_calls.proofs.TurnedKeys.{wrote_append}

@@ -1,8 +1,5 @@
 -- The ranges of an owner are single keys; of another write nothing is changed.
-use Rattle.std.proofs.Common.{true, cond, sym, ◌∙◌, ap}
-use Rattle.wait_model.specs.Covers.{covered}
-use Rattle.wait_model.specs.Edits.{each}
-use Rattle.wait_model.specs.Phases.{if_written}
+use Rattle.std.proofs.Common.{sym, ◌∙◌}
 use Rattle.revoke_calls.specs.Fates.{after}
 use Rattle.revoke_calls.proofs.ProperWrite.{owner-by_keys}
 use Rattle.revoke_calls.proofs.SettledEntries.{owner_settled, none_settled}

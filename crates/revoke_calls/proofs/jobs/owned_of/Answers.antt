@@ -1,5 +1,5 @@
 -- The entries of an owner's single keys, and of another write none.
-use Rattle.std.proofs.Common.{◌≡◌, ℕ, List, sym, ◌∙◌, ap}
+use Rattle.std.proofs.Common.{List, sym, ◌∙◌, ap}
 use Rattle.proxy_model.specs.declared.ownership.Owned.{Owned}
 use Rattle.proxy_model.specs.Guarded.{create_or}
 use Rattle.revoke_calls.specs.Jobs.{owned_over}

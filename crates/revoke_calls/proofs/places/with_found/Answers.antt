@@ -1,5 +1,5 @@
 -- One more.
-use Rattle.wait_model.specs.DueOrder.{due_of, due_found}
+use Rattle.wait_model.specs.DueOrder.{due_found}
 use Rattle.revoke_calls.proofs.DueParts.{earliest-more}
 use Rattle.revoke_calls.proofs.places.with_found.Goals as goal
 
