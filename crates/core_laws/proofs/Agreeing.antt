@@ -177,9 +177,9 @@ told_agrees k f c h a w = (
     kept i x a e t =
         by_test (λ (y : Asked). y ≡ a) (acquires_at k a) (f a) a
         (λ u.
-           let p : ask_key a ≡ i = same-equal (ask_key a) i (acquires_is i a t).1 in
-           let q : ask_key a ≡ k = same-equal (ask_key a) k (acquires_is k a u).1 in
-           let s : same k i ≡ true = ap (λ (j : List ℕ). same j i) (sym q ∙ p) ∙ same-itself i in
-           let z = not_there i x (same k i) refl (sym (at-with_at c.acquires k i None) ∙ e) in
-           absurd (cc))
+        let p : ask_key a ≡ i = same-equal (ask_key a) i (acquires_is i a t).1 in
+        let q : ask_key a ≡ k = same-equal (ask_key a) k (acquires_is k a u).1 in
+        let s : same k i ≡ true = ap (λ (j : List ℕ). same j i) (sym q ∙ p) ∙ same-itself i in
+        let z = not_there i x (same k i) refl (sym (at-with_at c.acquires k i None) ∙ e) in
+        absurd (cc))
         (λ u. refl)

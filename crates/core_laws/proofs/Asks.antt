@@ -253,7 +253,7 @@ read_agrees m c a n h = by_under d.under refl
         awaited_at i true t =
             any_pushed (λ y. has_ticket a.ticket y && acquires_at i y) x c.asks
             ∙ or_right (list_any (λ y. has_ticket a.ticket y && acquires_at i y) c.asks) (has_ticket a.ticket x && acquires_at i x)
-              (and_both (a.ticket == a.ticket) (acquires_at i x) (number_itself a.ticket) (ap (λ (z : Stage). is_acquiring z && same (ask_key a) i) acquiring ∙ t))
+            (and_both (a.ticket == a.ticket) (acquires_at i x) (number_itself a.ticket) (ap (λ (z : Stage). is_acquiring z && same (ask_key a) i) acquiring ∙ t))
         awaited_at i false t = awaits_pushed x c.asks i (at c.acquires i) (h.awaited i)
 
 pub read_mid : (most : ℕ) (m : Moment) (c : Core) (a : Asked) → has_number (ask_tickets c.asks) a.ticket ≡ false → Mid most c → Mid most (with_reads c (read_asked m a (reads_of c)))

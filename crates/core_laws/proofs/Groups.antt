@@ -82,8 +82,8 @@ pub groups_pushed : (x : OutCall) (out : List OutCall) (xs : List Asked) → NoG
 groups_pushed x out xs n h =
     groups_kept out (out ++ x ∷ []) xs
     (record {
-       for_lease = λ lease. any_pushed (λ (o : OutCall). is_group_of lease o.job) x out ∙ ap (λ b. is_out_for lease out || b) (n lease) ∙ or_false (is_out_for lease out);
-       calls = λ lease m t. job_grown (is_group_of lease) m x out t;
+      for_lease = λ lease. any_pushed (λ (o : OutCall). is_group_of lease o.job) x out ∙ ap (λ b. is_out_for lease out || b) (n lease) ∙ or_false (is_out_for lease out);
+      calls = λ lease m t. job_grown (is_group_of lease) m x out t;
     })
     (λ lease. one_of_push (λ (o : OutCall). is_group_of lease o.job) x out (h.one lease) (n lease)) h
 
@@ -107,8 +107,8 @@ pub groups_left : (n : ℕ) (j : OutJob) (out : List OutCall) (xs : List Asked) 
 groups_left n j out xs u f e h =
     groups_kept out (without_out n out) xs
     (record {
-       for_lease = λ lease. any_without n (is_group_of lease) out (only_found n (is_group_of lease) j out u f (e lease));
-       calls = λ lease m t. calls_without (is_group_of lease) n m j out f (e lease) t;
+      for_lease = λ lease. any_without n (is_group_of lease) out (only_found n (is_group_of lease) j out u f (e lease));
+      calls = λ lease m t. calls_without (is_group_of lease) n m j out f (e lease) t;
     })
     (λ lease. one_of_filter (λ (o : OutCall). is_group_of lease o.job) (λ (o : OutCall). not (o.call == n)) out (h.one lease)) h
 

@@ -356,8 +356,8 @@ ask_mid most k o (answer.Refused r) c f h = caller_mid most c o.call k (said (an
 ask_mid most k o (answer.Done reply) c f h =
     by_test (MidIf most) (is_body_of k reply.body) (Some (ask_done k o reply (call_gone o.call c))) None
     (λ t. by_test (Mid most) (is_stale_reply k o reply) (with_caller o.call (stale_once c.members.count c.own.waits.step) (member_failed o (call_gone o.call c))) (with_caller o.call (said (answer.Done reply)) (call_gone o.call c))
-      (λ u. caller_mid most (member_failed o c) o.call k (stale_once c.members.count c.own.waits.step) f (stale_rests c.members.count c.own.waits.step) (member_mid most o c h))
-      (λ u. caller_mid most c o.call k (said (answer.Done reply)) f (replied_rests (verdict.Said (answer.Done reply))) h))
+    (λ u. caller_mid most (member_failed o c) o.call k (stale_once c.members.count c.own.waits.step) f (stale_rests c.members.count c.own.waits.step) (member_mid most o c h))
+    (λ u. caller_mid most c o.call k (said (answer.Done reply)) f (replied_rests (verdict.Said (answer.Done reply))) h))
     (λ t. tt)
 
 answered_by : (most now : ℕ) (o : OutCall) (j : OutJob) (a : Answer) (c : Core) → job_at o.call c.out ≡ Some j → ShowsBytes a → Mid most c → MidIf most (answered_job now o j a (call_gone o.call c))

@@ -199,8 +199,8 @@ placed_writes again h g x =
     by_test (λ (y : Asked). is_writes y.stage ≡ is_writes x.stage) (ask_stands g x) x (cond again again_ask plain_ask)
     (λ t. refl)
     (λ t.
-       let n = read_waits x.ticket (at g.own.entries (ask_key x)) (at g.acquires (ask_key x)) x.stage t in
-       by_test (λ (y : Asked). is_writes y.stage ≡ is_writes x.stage) again again_ask plain_ask (λ u. free_writes again_ask.stage (turn_free h g.own.waits.step (at g.own.entries (ask_key x))) ∙ sym n) (λ u. sym n))
+    let n = read_waits x.ticket (at g.own.entries (ask_key x)) (at g.acquires (ask_key x)) x.stage t in
+    by_test (λ (y : Asked). is_writes y.stage ≡ is_writes x.stage) again again_ask plain_ask (λ u. free_writes again_ask.stage (turn_free h g.own.waits.step (at g.own.entries (ask_key x))) ∙ sym n) (λ u. sym n))
 
 -- A read whose acquire is due stands, and so it stays.
 
@@ -319,8 +319,8 @@ replied_awaited ticket v xs acquires u w h = awaited_changed (λ x. cond (x.tick
     kept k c x e r t =
         by_test (λ (y : Asked). y ≡ x) (x.ticket == ticket) (in_stage (stage.Replied v) x) x
         (λ b.
-           let n : c.ticket ≡ ticket = sym (same_number x.ticket c.ticket (and_first (has_ticket c.ticket x) (acquires_at k x) t)) ∙ same_number x.ticket ticket b in
-           absurd (reads_no_write ticket k xs u (subst (λ (m : ℕ). list_any (λ a. has_ticket m a && acquires_at k a) xs ≡ true) n r) w))
+        let n : c.ticket ≡ ticket = sym (same_number x.ticket c.ticket (and_first (has_ticket c.ticket x) (acquires_at k x) t)) ∙ same_number x.ticket ticket b in
+        absurd (reads_no_write ticket k xs u (subst (λ (m : ℕ). list_any (λ a. has_ticket m a && acquires_at k a) xs ≡ true) n r) w))
         (λ b. refl)
 
 removed_is : (ticket : ℕ) (ws vs : List Write) (xs : List Asked) → IsRemoved ticket ws vs → AsksOk xs ws → has_number (writing_tickets xs) ticket ≡ true

@@ -317,8 +317,8 @@ ask_whole most now a c d w =
     kept k x b e r t =
         by_test (λ (y : Asked). y ≡ b) (has_ticket a.ticket b) (in_stage (stage.Calling (sending.Out (next_call c))) b) b
         (λ u.
-           let n : x.ticket ≡ a.ticket = sym (same_number b.ticket x.ticket (and_first (has_ticket x.ticket b) (acquires_at k b) t)) ∙ same_number b.ticket a.ticket u in
-           absurd (never_both (λ (y : Asked). is_called_due y.stage) (acquires_at k) (due_no_read k) a.ticket c.asks w.mid.agrees.asks.once d (subst (λ (m : ℕ). list_any (λ y. has_ticket m y && acquires_at k y) c.asks ≡ true) n r)))
+        let n : x.ticket ≡ a.ticket = sym (same_number b.ticket x.ticket (and_first (has_ticket x.ticket b) (acquires_at k b) t)) ∙ same_number b.ticket a.ticket u in
+        absurd (never_both (λ (y : Asked). is_called_due y.stage) (acquires_at k) (due_no_read k) a.ticket c.asks w.mid.agrees.asks.once d (subst (λ (m : ℕ). list_any (λ y. has_ticket m y && acquires_at k y) c.asks ≡ true) n r)))
         (λ u. refl)
 
     or_calls : (n : ℕ) (x : Asked) → calls_as n (called_as (next_call c) a.ticket x) ≡ true → has_ticket a.ticket x || calls_as n x ≡ true

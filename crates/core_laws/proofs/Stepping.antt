@@ -115,10 +115,10 @@ taken_after most m a c n h =
     let other = answered_or_called (if_live m.session (held_body c.own.entries a.request)) a c in
     by_test (After most) (leases c) (leased_ask m a c) (call_is_asked a c)
     (λ t. by_test (After most) (is_leased_read c.own.waits.prefix a.request) (read_is_asked m a c) (cond (writes_keys a.request) (write_is_asked a c) other)
-      (λ u. read_after most m a c n h)
-      (λ u. by_test (After most) (writes_keys a.request) (write_is_asked a c) other
-        (λ v. goes_whole most _ (write_mid most c a n v h.mid))
-        (λ v. answered_after most (if_live m.session (held_body c.own.entries a.request)) a c n h)))
+    (λ u. read_after most m a c n h)
+    (λ u. by_test (After most) (writes_keys a.request) (write_is_asked a c) other
+    (λ v. goes_whole most _ (write_mid most c a n v h.mid))
+    (λ v. answered_after most (if_live m.session (held_body c.own.entries a.request)) a c n h)))
     (λ t. call_after most a c n h)
 
 request_after : (most : ℕ) (q : Request) (m : Moment) (a : Asked) (c : Core) → has_number (ask_tickets c.asks) a.ticket ≡ false → Whole most c → After most (request_asked q m a c)
@@ -226,8 +226,8 @@ created_mid : (most : ℕ) (o : Opening) (d : Header) (c : Core) → Mid most c 
 created_mid most o d c h =
     by_test (Mid most) o.stream.created c (record (stream_is o (created o.stream d.revision) c) { own = own_created o.stream.next c.own }) (λ t. h)
     (λ t. by_test (λ (own : Ownership). Mid most (record (stream_is o (created o.stream d.revision) c) { own = own })) (o.stream.next == 0) (resynced c.own) c.own
-      (λ u. beside_mid most (record c { own = resynced c.own }) c.members c.header (stream_is o (created o.stream d.revision) c).leasing c.watches (resynced_mid most c h))
-      (λ u. beside_mid most c c.members c.header (stream_is o (created o.stream d.revision) c).leasing c.watches h))
+    (λ u. beside_mid most (record c { own = resynced c.own }) c.members c.header (stream_is o (created o.stream d.revision) c).leasing c.watches (resynced_mid most c h))
+    (λ u. beside_mid most c c.members c.header (stream_is o (created o.stream d.revision) c).leasing c.watches h))
 
 told_mid : (most now : ℕ) (o : Opening) (d : Header) (es : List Event) (c : Core) → Mid most c → Mid most (leasing_told now o d es c)
 told_mid most now o d es c h =

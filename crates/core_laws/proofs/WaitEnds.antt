@@ -263,8 +263,8 @@ done_ends session call w (Some (Blocked os)) own f h n =
     (finding session (sends call) (by_key [] (other_owners w own.entries os)) own (kept_entries w os own.entries))
     (λ t. sends_go call w (Sends false (sending.Due own.waits.step)) own (staged_by own (without (owns_at w own.entries) own.entries) (sends call) (Sends false (sending.Due own.waits.step))) f h n refl refl refl refl (calm_due w.stage false own.waits.step))
     (λ t.
-       let xs = others session (kept_entries w os own.entries) (by_key [] (other_owners w own.entries os)) in
-       sends_go call w (Finds (map (found_of own.waits.step) xs)) own (finding session (sends call) (by_key [] (other_owners w own.entries os)) own (kept_entries w os own.entries)) f h n refl refl refl refl (found_calms w.stage own.waits.step xs))
+    let xs = others session (kept_entries w os own.entries) (by_key [] (other_owners w own.entries os)) in
+    sends_go call w (Finds (map (found_of own.waits.step) xs)) own (finding session (sends call) (by_key [] (other_owners w own.entries os)) own (kept_entries w os own.entries)) f h n refl refl refl refl (found_calms w.stage own.waits.step xs))
 
 write_ends : (session : Option ℕ) (call : ℕ) (o : Option Write) (a : Answer) (own : Ownership) → first_by (sends call) own.waits.writes ≡ o → one (sends call) own.waits.writes ≡ true → list_any (asks call) own.waits.writes ≡ false → EndedIf call own (write_answered session (sends call) o a own)
 write_ends session call None a own f h n = stays call own own refl refl (record { sends = none_found (sends call) own.waits.writes f; asks = n })

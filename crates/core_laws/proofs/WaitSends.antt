@@ -87,8 +87,8 @@ all_first P Q p w s f g [] e h = absurd (cc)
 all_first P Q p w s f g (v ∷ vs) e h =
     by_test (λ (us : List Write). list_all Q us ≡ true) (p v) (staged v s ∷ vs) (v ∷ with_first p s vs)
     (λ t.
-       let q = head_found p v w vs t e in
-       and_both (Q (staged v s)) (list_all Q vs) (subst (λ (x : Write). P x ≡ true → Q (staged x s) ≡ true) (sym q) g (and_first (P v) (list_all P vs) h)) (all_kept P Q f vs (and_second (P v) (list_all P vs) h)))
+    let q = head_found p v w vs t e in
+    and_both (Q (staged v s)) (list_all Q vs) (subst (λ (x : Write). P x ≡ true → Q (staged x s) ≡ true) (sym q) g (and_first (P v) (list_all P vs) h)) (all_kept P Q f vs (and_second (P v) (list_all P vs) h)))
     (λ t. and_both (Q v) (list_all Q (with_first p s vs)) (f v (and_first (P v) (list_all P vs) h)) (all_first P Q p w s f g vs (rest_found p v w vs t e) (and_second (P v) (list_all P vs) h)))
 
 none_first : (q p : Write → Bool) (w : Write) (s : WriteStage) → (q (staged w s) ≡ true → q w ≡ true) → (ws : List Write) → first_by p ws ≡ Some w → list_any q ws ≡ false → list_any q (with_first p s ws) ≡ false
@@ -96,8 +96,8 @@ none_first q p w s g [] e h = absurd (cc)
 none_first q p w s g (v ∷ vs) e h =
     by_test (λ (us : List Write). list_any q us ≡ false) (p v) (staged v s ∷ vs) (v ∷ with_first p s vs)
     (λ t.
-       let i = head_found p v w vs t e in
-       or_none (q (staged v s)) (list_any q vs) (unless (q (staged v s)) refl (subst (λ (x : Write). q (staged x s) ≡ true → q x ≡ true) (sym i) g)) (or_second (q v) (list_any q vs) h))
+    let i = head_found p v w vs t e in
+    or_none (q (staged v s)) (list_any q vs) (unless (q (staged v s)) refl (subst (λ (x : Write). q (staged x s) ≡ true → q x ≡ true) (sym i) g)) (or_second (q v) (list_any q vs) h))
     (λ t. or_none (q v) (list_any q (with_first p s vs)) (or_first (q v) (list_any q vs) h) (none_first q p w s g vs (rest_found p v w vs t e) (or_second (q v) (list_any q vs) h)))
   where
     unless : (b : Bool) → q (staged v s) ≡ b → (q (staged v s) ≡ true → q v ≡ true) → q (staged v s) ≡ false
@@ -148,8 +148,8 @@ causes_first es ss p w s g earlier [] e h = absurd (cc)
 causes_first es ss p w s g earlier (v ∷ vs) e h =
     by_test (AllHaveCause earlier es ss) (p v) (staged v s ∷ vs) (v ∷ with_first p s vs)
     (λ t.
-       let i = head_found p v w vs t e in
-       (λ u n. h.0 (subst (λ (x : Write). is_waiting s ≡ true → is_waiting x.stage ≡ true) (sym i) g u) n, same_causes es ss (v ∷ earlier) (staged v s ∷ earlier) (λ u. refl) vs h.1))
+    let i = head_found p v w vs t e in
+    (λ u n. h.0 (subst (λ (x : Write). is_waiting s ≡ true → is_waiting x.stage ≡ true) (sym i) g u) n, same_causes es ss (v ∷ earlier) (staged v s ∷ earlier) (λ u. refl) vs h.1))
     (λ t. (h.0, causes_first es ss p w s g (v ∷ earlier) vs (rest_found p v w vs t e) h.1))
 
 held_causes : (es fs : Keyed Entry) (ss : Keyed Bool) → ((k : List ℕ) → is_held_back (at es k) (at ss k) ≡ true → is_held_back (at fs k) (at ss k) ≡ true) → (earlier ws : List Write) → AllHaveCause earlier es ss ws → AllHaveCause earlier fs ss ws
@@ -290,9 +290,9 @@ found_steps : (call : ℕ) (waiting : List WaitCall) (k : List ℕ) (f : Found) 
 found_steps call waiting k f n =
     by_test (FoundSteps call waiting k f) (same k f.key && is_asking_due f.revoke) (record f { revoke = asking.Out call }) f
     (λ t. record {
-       out = λ h. ap (passes (is_revoke_of f.key)) (job_last call (job.Revoke k) waiting n) ∙ and_first (same k f.key) (is_asking_due f.revoke) t;
-       asks = λ m e u. absurd (cc);
-       over = λ u. absurd (let v = and_second f.gone false u in cc);
+      out = λ h. ap (passes (is_revoke_of f.key)) (job_last call (job.Revoke k) waiting n) ∙ and_first (same k f.key) (is_asking_due f.revoke) t;
+      asks = λ m e u. absurd (cc);
+      over = λ u. absurd (let v = and_second f.gone false u in cc);
     })
     (λ t. record { out = λ h. found_grown (record { call = call; job = job.Revoke k }) waiting f h; asks = λ m e u. u; over = λ u. u })
 
