@@ -90,8 +90,8 @@ put_parts : (session : Option ℕ) (k : List ℕ) (create lease : ℕ) (own : Ow
 put_parts session k create lease own = by_test (is_some (at own.waits.spoiled k))
   where
     by_test : (b : Bool) →
-      ◌≡◌ {A = Ownership} (cond b (acquire_spoiled k own) (record own { entries = revoked_entry session k create lease own.entries }))
-      (record { entries = cond b own.entries (revoked_entry session k create lease own.entries); waits = record own.waits { spoiled = cond b (changed_at own.waits.spoiled k (λ s. true)) own.waits.spoiled } })
+        ◌≡◌ {A = Ownership} (cond b (acquire_spoiled k own) (record own { entries = revoked_entry session k create lease own.entries }))
+        (record { entries = cond b own.entries (revoked_entry session k create lease own.entries); waits = record own.waits { spoiled = cond b (changed_at own.waits.spoiled k (λ s. true)) own.waits.spoiled } })
     by_test true = refl
     by_test false = refl
 

@@ -21,7 +21,7 @@ use Rattle.revoke_core.specs.Sends.{out_call, after_sending, rescind_of, with_wr
 
 -- A rescind.
 
-pair_or : {A : Type 0} → A → Option A → A
+abbrev pair_or : {A : Type 0} → A → Option A → A
 pair_or d None = d
 pair_or d (Some x) = x
 
@@ -49,6 +49,10 @@ call_parts call own (Some d) = of (first_by (has_ticket d.place.number) own.wait
     of : (o : Option Write) → call_of call d o own ≡ sent_of call (with_write d o) own
     of None = refl
     of (Some w) = ap Some (by_kind w (is_revoke d.place.kind))
+
+-- the first due call, and the write whose it is
+pub first_due-is : (ws : List Write) (d : DueCall) (w : Write) → first_call ws ≡ Some d → first_by (has_ticket d.place.number) ws ≡ Some w → first_due ws ≡ Some (d, w)
+first_due-is ws d w e f = ap (due_in ws) e ∙ ap (with_write d) f
 
 no_rescind : (call : ℕ) (own : Ownership) (o : Option (List ℕ × Entry)) → option_map rescind_of o ≡ None → job_sent_after call o own ≡ call_sent call (first_call own.waits.writes) own
 no_rescind call own None e = refl

@@ -1,10 +1,11 @@
 ghost use Rattle.std.specs.Prelude.{◌≡◌, ◌<◌, [], take, drop, length};
 ghost use Rattle.std.specs.List.{list_any};
-ghost use Rattle.wait_model.specs.Covers.{shares};
+ghost use Rattle.wait_model.specs.Covers.{covers, shares};
 ghost use Rattle.wait_model.specs.Passes.{passed};
 ghost use Rattle.revoke_core.specs.Steps.{is_blocked};
 
-use crate::turns::{shares, take_turn};
+use crate::turns::{covers, shares, take_turn};
+use etcd_types::Bytes;
 use keyed_rows::Rows;
 use lease_table::LeaseTable;
 use wait_model::Write;
@@ -38,4 +39,11 @@ fn shares_any(write: &Write, earlier: &[Write]) -> bool
     ensures { result ≡ list_any (shares write.now) earlier.now }
 {
     earlier.iter().any(|other| shares(write, other))
+}
+
+/// Whether one of the writes covers the key.
+pub(crate) fn is_covered(writes: &[Write], key: &Bytes) -> bool
+    ensures { result ≡ list_any (λ w. covers w key.now) writes.now }
+{
+    writes.iter().any(|write| covers(write, key))
 }

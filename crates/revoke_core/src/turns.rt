@@ -282,7 +282,8 @@ fn spoil(write: &Write, spoiled: &mut Rows<bool>)
     spoiled.raise_in(write.ranges.as_slice());
 }
 
-fn covers(write: &Write, key: &Bytes) -> bool
+/// Whether the write covers the key.
+pub(crate) fn covers(write: &Write, key: &Bytes) -> bool
     ensures { result ≡ covered write.now.ranges key.now }
 {
     write

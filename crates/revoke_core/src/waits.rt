@@ -1,6 +1,8 @@
 ghost use Rattle.std.specs.Prelude.{◌≡◌, true, IfOk, OnOk, OnErr, []};
+ghost use Rattle.std.specs.List.{list_any};
 ghost use Rattle.std.specs.Option.{option_copied, option_map};
 ghost use Rattle.wait_model.specs.Asked.{submitted, acquire_begun, acquire_spoiled, acquire_ended, is_spoiled, is_true};
+ghost use Rattle.wait_model.specs.Covers.{covers};
 ghost use Rattle.wait_model.specs.DueOrder.{first_place};
 ghost use Rattle.wait_model.specs.Endings.{lost, forgotten};
 ghost use Rattle.wait_model.specs.Fits.{is_write};
@@ -16,7 +18,7 @@ ghost use Rattle.revoke_core.specs.Sends.{after_sending};
 use crate::gone::{end_all, lose_all};
 use crate::losses::{forget_write, lose_job};
 use crate::notices::take_all;
-use crate::passes::pass;
+use crate::passes::{is_covered, pass};
 use crate::places::take_job;
 use crate::sends::{first_rescind, send_call, send_rescind};
 use etcd_types::{Bytes, Event, List, NoMemory, Request};
@@ -122,6 +124,13 @@ impl Waits {
         moment_or_zero(self.quiet.find(key))
     }
 
+    /// Whether an unanswered write covers the key.
+    pub fn is_written(&self, key: &Bytes) -> bool
+        ensures { result ≡ list_any (λ w. covers w key.now) self.now.writes }
+    {
+        is_covered(&self.writes, key)
+    }
+
     /// Takes each waiting write as far as its rule lets it, in order of asking.
     pub fn proceed(&mut self, table: &mut LeaseTable)
         ensures waits { self.new ≡ (proceeded (owned table.old.entries self.old)).waits }
@@ -155,13 +164,7 @@ impl Waits {
     {
         let notices = notices_of(self.alloc, &self.prefix, events)?;
         table.reserve(notices.len() as u64)?;
-        take_all(
-            notices,
-            session,
-            &mut self.writes,
-            &mut self.spoiled,
-            table,
-        );
+        take_all(notices, session, &mut self.writes, &mut self.spoiled, table);
         Ok(())
     }
 

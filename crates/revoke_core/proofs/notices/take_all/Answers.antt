@@ -1,16 +1,9 @@
--- One notice more, for which there is room since it was among them.
+-- One notice more.
 use Rattle.std.proofs.Common.{◌≡◌, ◌<◌, [], ◌∷◌, length, sym, ◌∙◌, ap, arith}
-use Rattle.std.proofs.lemmas.Iterator.Adapters.{YieldsList-from_vec}
-use Rattle.std.proofs.lemmas.Iterator.Consumers.{YieldsList-turn}
 use Rattle.std.proofs.lemmas.List.{length_push}
 use Rattle.revoke_core.specs.Told.{Told, told_one, told_all}
 use Rattle.revoke_core.proofs.NoticeParts.{told_append}
 use Rattle.revoke_core.proofs.notices.take_all.Goals as goal
-
-pub take_one-requires : goal.take_one-requires
-take_one-requires c =
-    let t = YieldsList-turn (YieldsList-from_vec c.args.notices.items c.into_iter-notice-iterator.ensures.rest c.into_iter-notice-iterator.ensures.len) c.loop-notice.yielded _ c.loop-notice.yielded_by _ _ c.in-Some.notice c.in-Some.is c.next.ensures.steps in
-    omega (arith, t.0, c.loop-notice.invariant.room)
 
 pub loop-notice-preserved : goal.loop-notice-preserved
 loop-notice-preserved c =
@@ -18,7 +11,7 @@ loop-notice-preserved c =
     let n = c.in-Some.notice in
     let first : Told = record { entries = c.args.table.now.entries; spoiled = c.args.spoiled.now; writes = c.args.writes.now.items } in
     let before : record { entries = c.loop-notice.table.entries; spoiled = c.loop-notice.spoiled; writes = c.loop-notice.writes.items } ≡ told_all s c.loop-notice.yielded first =
-        λ i. record { entries = c.loop-notice.invariant.entries i; spoiled = c.loop-notice.invariant.spoiled i; writes = c.loop-notice.invariant.writes i } in
+    λ i. record { entries = c.loop-notice.invariant.entries i; spoiled = c.loop-notice.invariant.spoiled i; writes = c.loop-notice.invariant.writes i } in
     let whole = ap (told_one s n) before ∙ sym (told_append s c.loop-notice.yielded (n ∷ []) first) in
     record {
       entries = c.take_one.ensures.entries ∙ ap (λ (t : Told). t.entries) whole;
