@@ -1,9 +1,9 @@
 -- What the sending of a rescind, of a revoke call or of a write's own call does to the writes.
-use Rattle.std.proofs.Common.{◌≡◌, ◌⊎◌, ℕ, ◌==◌, Bool, true, false, not, cond, ◌&&◌, ◌||◌, List, [], ◌∷◌, ◌++◌, map, Option, None, Some, is_some, refl, sym, ◌∙◌, ap, subst}
+use Rattle.std.proofs.Common.{◌≡◌, ℕ, ◌==◌, Bool, true, false, not, cond, ◌&&◌, ◌||◌, List, [], ◌∷◌, ◌++◌, map, Option, None, Some, is_some, refl, sym, ◌∙◌, ap, subst}
 use Rattle.std.specs.List.{list_any, list_all}
 use Rattle.std.specs.Option.{option_map}
 use Rattle.etcd_types.specs.Keys.{same}
-use Rattle.etcd_types.proofs.Bools.{and_first, and_second, and_both, or_first, or_second, or_none, or_right, not_true, false_not}
+use Rattle.etcd_types.proofs.Bools.{and_first, and_second, and_both, or_first, or_second, or_none, not_true, false_not}
 use Rattle.etcd_types.proofs.KeyOrder.{same-equal}
 use Rattle.proxy_model.specs.declared.lease.Entry.{Entry}
 use Rattle.proxy_model.specs.declared.lease.Phase.{Phase}
@@ -15,7 +15,6 @@ use Rattle.wait_model.specs.declared.due.DueCall.{DueCall}
 use Rattle.wait_model.specs.declared.found.Asking.{Asking}
 use Rattle.wait_model.specs.declared.found.Asking.TheVariants as asking
 use Rattle.wait_model.specs.declared.found.Found.{Found}
-use Rattle.wait_model.specs.declared.sending.Sending.{Sending}
 use Rattle.wait_model.specs.declared.sending.Sending.TheVariants as sending
 use Rattle.wait_model.specs.declared.wait.WaitCall.{WaitCall}
 use Rattle.wait_model.specs.declared.wait.WaitJob.{WaitJob}
@@ -36,7 +35,7 @@ use Rattle.wait_laws.specs.Written.{SentWritten}
 use Rattle.proxy_model.specs.LeaseTable.{is_held_phase, is_writing_phase}
 use Rattle.read_laws.proofs.Owned.{StaysAt, Stays, stays_itself}
 use Rattle.core_model.specs.Fits.{passes, is_write_job, is_revoke_of, is_asking_out, is_found_out, is_write_out, HaveRanges, WritesOk, goes_on, write_tickets, calls_of}
-use Rattle.core_laws.proofs.Lists.{same_number, number_itself, number_turned, all_kept, all_mapped, any_kept, any_mapped, map_pushed, one, one_is, none_is_one}
+use Rattle.core_laws.proofs.Lists.{same_number, number_itself, all_kept, all_mapped, any_kept, any_mapped, map_pushed, one, one_is, none_is_one}
 use Rattle.core_laws.proofs.Comes.{by_test, proper_staged}
 use Rattle.core_laws.proofs.WaitEnds.{is_revoke_job, nobody_sends, nobody_asks}
 
@@ -87,8 +86,8 @@ all_first P Q p w s f g [] e h = absurd (cc)
 all_first P Q p w s f g (v ∷ vs) e h =
     by_test (λ (us : List Write). list_all Q us ≡ true) (p v) (staged v s ∷ vs) (v ∷ with_first p s vs)
     (λ t.
-       let q = head_found p v w vs t e in
-       and_both (Q (staged v s)) (list_all Q vs) (subst (λ (x : Write). P x ≡ true → Q (staged x s) ≡ true) (sym q) g (and_first (P v) (list_all P vs) h)) (all_kept P Q f vs (and_second (P v) (list_all P vs) h)))
+    let q = head_found p v w vs t e in
+    and_both (Q (staged v s)) (list_all Q vs) (subst (λ (x : Write). P x ≡ true → Q (staged x s) ≡ true) (sym q) g (and_first (P v) (list_all P vs) h)) (all_kept P Q f vs (and_second (P v) (list_all P vs) h)))
     (λ t. and_both (Q v) (list_all Q (with_first p s vs)) (f v (and_first (P v) (list_all P vs) h)) (all_first P Q p w s f g vs (rest_found p v w vs t e) (and_second (P v) (list_all P vs) h)))
 
 none_first : (q p : Write → Bool) (w : Write) (s : WriteStage) → (q (staged w s) ≡ true → q w ≡ true) → (ws : List Write) → first_by p ws ≡ Some w → list_any q ws ≡ false → list_any q (with_first p s ws) ≡ false
@@ -96,8 +95,8 @@ none_first q p w s g [] e h = absurd (cc)
 none_first q p w s g (v ∷ vs) e h =
     by_test (λ (us : List Write). list_any q us ≡ false) (p v) (staged v s ∷ vs) (v ∷ with_first p s vs)
     (λ t.
-       let i = head_found p v w vs t e in
-       or_none (q (staged v s)) (list_any q vs) (unless (q (staged v s)) refl (subst (λ (x : Write). q (staged x s) ≡ true → q x ≡ true) (sym i) g)) (or_second (q v) (list_any q vs) h))
+    let i = head_found p v w vs t e in
+    or_none (q (staged v s)) (list_any q vs) (unless (q (staged v s)) refl (subst (λ (x : Write). q (staged x s) ≡ true → q x ≡ true) (sym i) g)) (or_second (q v) (list_any q vs) h))
     (λ t. or_none (q v) (list_any q (with_first p s vs)) (or_first (q v) (list_any q vs) h) (none_first q p w s g vs (rest_found p v w vs t e) (or_second (q v) (list_any q vs) h)))
   where
     unless : (b : Bool) → q (staged v s) ≡ b → (q (staged v s) ≡ true → q v ≡ true) → q (staged v s) ≡ false
@@ -148,8 +147,8 @@ causes_first es ss p w s g earlier [] e h = absurd (cc)
 causes_first es ss p w s g earlier (v ∷ vs) e h =
     by_test (AllHaveCause earlier es ss) (p v) (staged v s ∷ vs) (v ∷ with_first p s vs)
     (λ t.
-       let i = head_found p v w vs t e in
-       (λ u n. h.0 (subst (λ (x : Write). is_waiting s ≡ true → is_waiting x.stage ≡ true) (sym i) g u) n, same_causes es ss (v ∷ earlier) (staged v s ∷ earlier) (λ u. refl) vs h.1))
+    let i = head_found p v w vs t e in
+    (λ u n. h.0 (subst (λ (x : Write). is_waiting s ≡ true → is_waiting x.stage ≡ true) (sym i) g u) n, same_causes es ss (v ∷ earlier) (staged v s ∷ earlier) (λ u. refl) vs h.1))
     (λ t. (h.0, causes_first es ss p w s g (v ∷ earlier) vs (rest_found p v w vs t e) h.1))
 
 held_causes : (es fs : Keyed Entry) (ss : Keyed Bool) → ((k : List ℕ) → is_held_back (at es k) (at ss k) ≡ true → is_held_back (at fs k) (at ss k) ≡ true) → (earlier ws : List Write) → AllHaveCause earlier es ss ws → AllHaveCause earlier fs ss ws
@@ -290,9 +289,9 @@ found_steps : (call : ℕ) (waiting : List WaitCall) (k : List ℕ) (f : Found) 
 found_steps call waiting k f n =
     by_test (FoundSteps call waiting k f) (same k f.key && is_asking_due f.revoke) (record f { revoke = asking.Out call }) f
     (λ t. record {
-       out = λ h. ap (passes (is_revoke_of f.key)) (job_last call (job.Revoke k) waiting n) ∙ and_first (same k f.key) (is_asking_due f.revoke) t;
-       asks = λ m e u. absurd (cc);
-       over = λ u. absurd (let v = and_second f.gone false u in cc);
+      out = λ h. ap (passes (is_revoke_of f.key)) (job_last call (job.Revoke k) waiting n) ∙ and_first (same k f.key) (is_asking_due f.revoke) t;
+      asks = λ m e u. absurd (cc);
+      over = λ u. absurd (let v = and_second f.gone false u in cc);
     })
     (λ t. record { out = λ h. found_grown (record { call = call; job = job.Revoke k }) waiting f h; asks = λ m e u. u; over = λ u. u })
 
