@@ -1,15 +1,13 @@
 -- Parts of a step: a change of what is owned, a release of reads, an acquire that is gone, the end of a session; and what agrees after it.
-use Rattle.std.proofs.Common.{◌≡◌, ℕ, ◌==◌, Bool, true, false, not, cond, ◌&&◌, ◌||◌, List, [], ◌∷◌, map, Option, None, Some, is_some, refl, sym, ◌∙◌, ap, subst}
-use Rattle.std.specs.List.{list_any, list_all}
+use Rattle.std.proofs.Common.{◌≡◌, ℕ, Bool, true, false, cond, List, [], ◌∷◌, map, Option, None, Some, refl, sym, ◌∙◌, ap, subst}
 use Rattle.etcd_types.specs.Keys.{same}
 use Rattle.etcd_types.specs.declared.record.Header.{Header}
 use Rattle.etcd_types.proofs.KeyOrder.{same-equal, same-itself}
-use Rattle.etcd_types.proofs.Bools.{and_first, and_second}
+use Rattle.etcd_types.proofs.Bools.{and_second}
 use Rattle.proxy_model.specs.declared.session.Standing.{Standing}
 use Rattle.proxy_model.specs.Keyed.{Keyed, at, with_at}
 use Rattle.proxy_model.proofs.KeyedLaws.{at-with_at}
 use Rattle.wait_model.specs.declared.sending.Sending.{Sending}
-use Rattle.wait_model.specs.declared.sending.Sending.TheVariants as sending
 use Rattle.wait_model.specs.declared.wait.WaitCall.{WaitCall}
 use Rattle.wait_model.specs.declared.write.Write.{Write}
 use Rattle.wait_model.specs.Covers.{is_single}
@@ -22,26 +20,24 @@ use Rattle.wait_laws.specs.Laws.{AreWritten}
 use Rattle.wait_laws.proofs.WrittenKept.{ranges_stay}
 use Rattle.read_model.specs.declared.acquire.Acquire.{Acquire}
 use Rattle.read_model.specs.declared.asked.Asked.{Asked}
-use Rattle.read_model.specs.declared.asked.Stage.{Stage}
-use Rattle.read_model.specs.declared.asked.Stage.TheVariants as stage
 use Rattle.read_model.specs.Acquires.{acquires_at}
 use Rattle.read_model.specs.PlainRead.{ask_key}
 use Rattle.read_model.specs.Release.{released, released_in_place, in_place}
 use Rattle.read_model.specs.SessionEnd.{is_due_acquire, dropped, over, session_over}
-use Rattle.read_model.specs.State.{Reads, Moment, Ground, ground_of, on}
+use Rattle.read_model.specs.State.{Reads, Moment, ground_of, on}
 use Rattle.read_model.specs.TakingOff.{is_writes}
 use Rattle.read_laws.proofs.InPlace.{plain_in_place}
 use Rattle.core_model.specs.declared.out_call.OutCall.{OutCall}
 use Rattle.core_model.specs.declared.out_call.OutJob.{OutJob}
 use Rattle.core_model.specs.declared.out_call.OutJob.TheVariants as job
 use Rattle.core_model.specs.ClockWork.{writes_go_on}
-use Rattle.core_model.specs.Fits.{job_at, is_out_to, is_session_job, is_call_out, is_seat_out, is_acquire_of, is_acquire_out, is_awaited, AreAwaited, HaveRanges, WritesOk, AsksOk, OutOk, NumbersOk, Agrees, is_stage_out}
-use Rattle.core_model.specs.Lookups.{reads_of, with_reads, is_out_as, has_ticket, without_out, moment}
-use Rattle.core_model.specs.Sessions.{is_sent_as, seat_calls, without_session}
+use Rattle.core_model.specs.Fits.{job_at, is_session_job, is_call_out, is_seat_out, is_acquire_of, is_acquire_out, is_awaited, AreAwaited, HaveRanges, WritesOk, AsksOk, NumbersOk, Agrees}
+use Rattle.core_model.specs.Lookups.{reads_of, with_reads, has_ticket, without_out}
+use Rattle.core_model.specs.Sessions.{is_sent_as, seat_calls}
 use Rattle.core_model.specs.State.{Seat, Core}
-use Rattle.core_laws.proofs.Calls.{out_left, out_other, not_its}
-use Rattle.core_laws.proofs.Comes.{by_test, AllCome, all_itself, come_writes, come_tickets, all_staged, owner_ended, stage_ended_calms, passed_come}
-use Rattle.core_laws.proofs.Requests.{Moves, stays, frees, Frees, moved_out, all_out, all_groups, asks_moved, awaited_changed, acquires_is, placed_moves, placed_writes, placed_awaited, is_free, free_writes}
+use Rattle.core_laws.proofs.Calls.{out_left, out_other}
+use Rattle.core_laws.proofs.Comes.{by_test, AllCome, come_writes, come_tickets, all_staged, owner_ended, stage_ended_calms, passed_come}
+use Rattle.core_laws.proofs.Requests.{Moves, stays, frees, Frees, all_out, all_groups, asks_moved, awaited_changed, acquires_is, placed_moves, placed_writes, placed_awaited, free_writes}
 
 pub to_written : (ws : List Write) → HaveRanges ws → AreWritten ws
 to_written [] h = tt

@@ -1,5 +1,5 @@
 -- A plain read at its own step.
-use Rattle.std.proofs.Common.{◌≡◌, ℕ, Bool, true, false, cond, List, [], ◌∷◌, ◌++◌, Option, None, Some, refl, ◌∙◌, ap}
+use Rattle.std.proofs.Common.{◌≡◌, ℕ, Bool, cond, List, [], ◌∷◌, ◌++◌, Option, Some, ◌∙◌, ap}
 use Rattle.etcd_types.specs.declared.answer.Refusal.{Refusal}
 use Rattle.etcd_types.specs.declared.operation.RangeAsk.{RangeAsk}
 use Rattle.etcd_types.specs.declared.request.Request.TheVariants as request
@@ -9,7 +9,7 @@ use Rattle.proxy_model.proofs.KeyedLaws.{at-with_at}
 use Rattle.wait_model.specs.declared.sending.Sending.TheVariants as sending
 use Rattle.read_model.specs.declared.acquire.Acquire.{Acquire}
 use Rattle.read_model.specs.declared.asked.Asked.{Asked}
-use Rattle.read_model.specs.PlainRead.{Decision, decision, begun_under, in_stage}
+use Rattle.read_model.specs.PlainRead.{Decision, begun_under, in_stage}
 use Rattle.read_model.specs.State.{Moment, ground_of, on}
 use Rattle.read_laws.proofs.Waiting.{held_decision, free_decision}
 use Rattle.core_model.specs.Asking.{asked_at, read_by, read_is_asked, write_is_asked, call_is_asked, held_body, if_live, answered_or_called, leased_ask, refused_or_taken, if_unknown, on_ask}

@@ -1,24 +1,23 @@
 -- A request is asked: what agrees then.
-use Rattle.std.proofs.Common.{◌≡◌, ℕ, ◌==◌, Bool, true, false, not, cond, ◌&&◌, ◌||◌, List, [], ◌∷◌, ◌++◌, map, filter, Option, None, Some, is_some, refl, sym, ◌∙◌, ap, subst}
-use Rattle.std.specs.List.{list_any, list_all}
+use Rattle.std.proofs.Common.{◌≡◌, ℕ, ◌==◌, Bool, true, false, not, cond, ◌&&◌, ◌||◌, List, [], ◌∷◌, ◌++◌, map, filter, Option, None, Some, is_some, refl, sym, ◌∙◌, ap}
+use Rattle.std.specs.List.{list_any}
 use Rattle.etcd_types.specs.declared.record.Header.{Header}
 use Rattle.etcd_types.specs.declared.request.Request.{Request}
 use Rattle.etcd_types.specs.declared.request.Request.TheVariants as request
 use Rattle.etcd_types.specs.Keys.{same}
-use Rattle.etcd_types.proofs.Bools.{and_first, and_second, and_both, or_none, or_left, or_right, or_true}
+use Rattle.etcd_types.proofs.Bools.{and_both, or_left, or_right, or_true}
 use Rattle.proxy_model.specs.declared.lease.Entry.{Entry}
 use Rattle.proxy_model.specs.declared.lease.Phase.{Phase}
 use Rattle.proxy_model.specs.declared.lease.Phase.TheVariants.{Held, Writing, Leaving}
-use Rattle.proxy_model.specs.Keyed.{Keyed, at, with_at}
-use Rattle.proxy_model.specs.SeveralKeys.{written_ranges}
+use Rattle.proxy_model.specs.Keyed.{at}
 use Rattle.proxy_model.proofs.KeyedLaws.{at-with_at}
 use Rattle.wait_model.specs.declared.sending.Sending.{Sending}
 use Rattle.wait_model.specs.declared.sending.Sending.TheVariants as sending
 use Rattle.wait_model.specs.declared.wait.WaitCall.{WaitCall}
 use Rattle.wait_model.specs.declared.write.Write.{Write}
-use Rattle.wait_model.specs.Asked.{new_write, submitted, acquire_begun}
+use Rattle.wait_model.specs.Asked.{new_write, submitted}
 use Rattle.wait_model.specs.Covers.{is_by_keys}
-use Rattle.wait_model.specs.Fits.{is_write, is_proper, are_proper}
+use Rattle.wait_model.specs.Fits.{is_write, is_proper}
 use Rattle.wait_model.specs.Writes.{sends, asks}
 use Rattle.wait_laws.proofs.Steps as steps
 use Rattle.wait_laws.proofs.WrittenKept.{ranges_stay}
@@ -27,18 +26,16 @@ use Rattle.read_model.specs.declared.asked.Asked.{Asked}
 use Rattle.read_model.specs.declared.asked.Stage.{Stage}
 use Rattle.read_model.specs.declared.asked.Stage.TheVariants as stage
 use Rattle.read_model.specs.Acquires.{is_acquiring, acquires_at, read_asked}
-use Rattle.read_model.specs.Fits.{ReadsOk}
-use Rattle.read_model.specs.PlainRead.{Decision, ask_key, acquirable, held_turn, read_turn, decision, begun_under, decided_ask, in_stage, called}
+use Rattle.read_model.specs.PlainRead.{Decision, ask_key, acquirable, held_turn, read_turn, decision, begun_under, in_stage, called}
 use Rattle.read_model.specs.Release.{stands, ask_stands}
-use Rattle.read_model.specs.State.{Reads, Moment, Ground, ground_of, on}
+use Rattle.read_model.specs.State.{Moment, ground_of, on}
 use Rattle.read_model.specs.TakingOff.{is_writes}
 use Rattle.read_laws.proofs.Kept as kept
 use Rattle.core_model.specs.declared.out_call.OutCall.{OutCall}
 use Rattle.core_model.specs.Asking.{with_ask, call_stage}
-use Rattle.core_model.specs.DueJobs.{lease_of}
-use Rattle.core_model.specs.Fits.{has_number, once, at_most_one, is_acquire_out, is_stage_out, group_stands, ask_tickets, writing_tickets, write_tickets, WritesOk, AsksOk, awaits, is_awaited, AreAwaited, GroupsOk, Agrees, HaveRanges, is_standing, is_write_out}
+use Rattle.core_model.specs.Fits.{has_number, once, is_acquire_out, is_stage_out, group_stands, ask_tickets, writing_tickets, write_tickets, WritesOk, AsksOk, awaits, is_awaited, GroupsOk, Agrees, HaveRanges, is_standing, is_write_out}
 use Rattle.core_model.specs.Groups.{is_out_for, group_since, joining, group_stage}
-use Rattle.core_model.specs.Kinds.{has_some, writes_keys}
+use Rattle.core_model.specs.Kinds.{writes_keys}
 use Rattle.core_model.specs.Lookups.{reads_of, with_reads, has_ticket, stage_calls, calls_as, ask_at}
 use Rattle.core_model.specs.State.{Core}
 use Rattle.core_laws.proofs.Agreeing.{to_written, from_written}

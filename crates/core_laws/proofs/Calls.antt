@@ -1,18 +1,17 @@
 -- The calls that are out: one is sent under the next number, or ends.
-use Rattle.std.proofs.Common.{◌≡◌, ℕ, ◌+◌, ◌==◌, ◌≤◌, nat_le, Bool, true, false, not, cond, ◌&&◌, ◌||◌, List, [], ◌∷◌, ◌++◌, map, filter, Option, None, Some, refl, sym, ◌∙◌, ap, subst, arith}
+use Rattle.std.proofs.Common.{◌≡◌, ℕ, ◌+◌, ◌==◌, ◌≤◌, nat_le, Bool, true, false, not, cond, ◌&&◌, ◌||◌, List, [], ◌∷◌, ◌++◌, map, filter, Option, None, Some, refl, sym, ◌∙◌, ap, arith}
 use Rattle.std.proofs.lemmas.Bool.Decides.{nat_tests}
 use Rattle.std.specs.List.{list_any, list_all}
-use Rattle.etcd_types.proofs.Bools.{and_first, and_second, and_both, or_first, or_second, or_none, not_true, false_not, and_false, and_true}
+use Rattle.etcd_types.proofs.Bools.{and_first, and_second, and_both, or_first, or_second, or_none, not_true, and_true}
 use Rattle.wait_model.specs.declared.sending.Sending.{Sending}
 use Rattle.wait_model.specs.declared.sending.Sending.TheVariants as sending
 use Rattle.wait_model.specs.declared.wait.WaitCall.{WaitCall}
 use Rattle.wait_model.specs.Writes.{job_of, without_call}
 use Rattle.core_model.specs.declared.out_call.OutCall.{OutCall}
 use Rattle.core_model.specs.declared.out_call.OutJob.{OutJob}
-use Rattle.core_model.specs.declared.out_call.OutJob.TheVariants as job
 use Rattle.core_model.specs.Fits.{has_number, once, job_at, passes, is_out_to, numbers_of, is_wait, wait_numbers, calls_of, NumbersOk}
 use Rattle.core_model.specs.Lookups.{is_out_as, out_at, without_out}
-use Rattle.core_laws.proofs.Lists.{same_number, number_itself, number_turned, all_kept, all_pushed, all_filtered, any_mapped, any_pushed, any_filtered, once_filtered, once_pushed, map_pushed, but, but_none, but_numbers, filtered_again}
+use Rattle.core_laws.proofs.Lists.{same_number, number_itself, number_turned, all_kept, all_pushed, once_filtered, once_pushed, map_pushed, but, but_none, but_numbers, filtered_again}
 
 -- What a call is for.
 

@@ -1,7 +1,7 @@
 -- What a step makes of the writes: each keeps its request and its ticket, and no call stands at it that didn't.
-use Rattle.std.proofs.Common.{◌≡◌, ℕ, ◌==◌, Bool, true, false, not, cond, ◌&&◌, ◌||◌, List, [], ◌∷◌, ◌++◌, map, filter, Option, None, Some, is_some, refl, sym, ◌∙◌, ap, subst}
+use Rattle.std.proofs.Common.{◌≡◌, ℕ, Bool, true, false, not, cond, ◌&&◌, ◌||◌, List, [], ◌∷◌, map, Some, is_some, refl, sym, ◌∙◌, ap, subst}
 use Rattle.std.specs.List.{list_any, list_all}
-use Rattle.etcd_types.proofs.Bools.{and_first, and_second, and_both, or_left, or_right, or_first, or_second, or_none, not_true, false_not}
+use Rattle.etcd_types.proofs.Bools.{and_first, and_second, and_both, or_left, or_first, or_second, or_none, not_true, false_not}
 use Rattle.proxy_model.specs.declared.lease.Entry.{Entry}
 use Rattle.proxy_model.specs.Keyed.{Keyed, at}
 use Rattle.wait_model.specs.declared.found.Asking.{Asking}
@@ -13,9 +13,9 @@ use Rattle.wait_model.specs.declared.wait.WaitCall.{WaitCall}
 use Rattle.wait_model.specs.declared.write.Write.{Write}
 use Rattle.wait_model.specs.declared.write.WriteStage.{WriteStage}
 use Rattle.wait_model.specs.declared.write.WriteStage.TheVariants.{Waiting, Sends, Finds}
-use Rattle.wait_model.specs.Covers.{shares, is_by_keys, is_single}
+use Rattle.wait_model.specs.Covers.{shares, is_by_keys}
 use Rattle.wait_model.specs.Edits.{each}
-use Rattle.wait_model.specs.Fits.{is_write, is_proper, are_proper}
+use Rattle.wait_model.specs.Fits.{is_write, is_proper}
 use Rattle.wait_model.specs.ForeignOwnership.{asked_back, stage_asked, asking_gone, gone_if, stage_gone}
 use Rattle.wait_model.specs.Passes.{goes, turn, passed}
 use Rattle.wait_model.specs.Phases.{is_leaving}
@@ -25,8 +25,8 @@ use Rattle.wait_model.specs.SingleKeys.{Turn, any_key, keys_begun, by_keys, let_
 use Rattle.wait_model.specs.Stages.{staged, gone_on, is_waiting, is_owner, is_found_over, stage_on}
 use Rattle.wait_model.specs.Writes.{first_by, with_first, is_asked_as, stage_sends, stage_asks, sends, asks}
 use Rattle.wait_laws.proofs.FoundWrite.{head_found, rest_found}
-use Rattle.core_model.specs.Fits.{is_found_out, is_write_out, HaveRanges, WritesOk, goes_on, write_tickets, at_most_one}
-use Rattle.core_laws.proofs.Lists.{all_kept, all_mapped, any_kept, any_mapped, none_kept, none_is_one, one, one_is}
+use Rattle.core_model.specs.Fits.{is_found_out, is_write_out, HaveRanges, WritesOk, goes_on, write_tickets}
+use Rattle.core_laws.proofs.Lists.{all_mapped, any_kept, any_mapped, none_is_one, one, one_is}
 
 pub by_test : {A : Type 0} (P : A → Type 0) (b : Bool) (x y : A) → (b ≡ true → P x) → (b ≡ false → P y) → P (cond b x y)
 by_test P true x y f g = f refl

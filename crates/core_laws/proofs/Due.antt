@@ -1,9 +1,8 @@
 -- What the first due job says of the proxy: it stands where it is read off.
-use Rattle.std.proofs.Common.{◌≡◌, ℕ, ◌==◌, Bool, true, false, not, cond, ◌&&◌, ◌||◌, List, [], ◌∷◌, ◌++◌, Option, None, Some, is_some, refl, sym, ◌∙◌, ap}
+use Rattle.std.proofs.Common.{◌≡◌, ℕ, ◌==◌, Bool, true, false, not, cond, ◌&&◌, List, [], ◌∷◌, ◌++◌, Option, None, Some, is_some, refl, ap}
 use Rattle.std.specs.List.{list_any, list_all, flat_map}
 use Rattle.etcd_types.proofs.Bools.{and_first, and_second, and_both, or_left, or_right, not_true}
 use Rattle.proxy_model.specs.Keyed.{Keyed}
-use Rattle.proxy_model.specs.Session.{Session}
 use Rattle.wait_model.specs.declared.due.Place.{Place}
 use Rattle.wait_model.specs.declared.sending.Sending.{Sending}
 use Rattle.wait_model.specs.declared.sending.Sending.TheVariants as sending
@@ -16,9 +15,8 @@ use Rattle.read_model.specs.declared.asked.Stage.TheVariants as stage
 use Rattle.watch_model.specs.declared.stream.StreamPhase.{StreamPhase}
 use Rattle.watch_model.specs.declared.stream.StreamPhase.TheVariants as phase
 use Rattle.watch_model.specs.State.{Stream}
-use Rattle.core_model.specs.declared.out_call.OutCall.{OutCall}
 use Rattle.core_model.specs.DueJobs.{DueJob, ForSession, ForWrites, ForAcquire, ForAsk, ForGroup, ToOpen, ForStream, Placed, placed, if_due, due_writes, due_acquire, lease_of, due_ask, due_stage, due_at, due_opening, due_phase, due_stream, due_jobs, earlier, earliest, job_of, session_job_of, session_job, rescind_or, or_else, first_job}
-use Rattle.core_model.specs.Fits.{is_keepalive, group_sending, group_stands, Agrees}
+use Rattle.core_model.specs.Fits.{is_keepalive, group_stands, Agrees}
 use Rattle.core_model.specs.Groups.{is_out_for}
 use Rattle.core_model.specs.Lookups.{has_ticket}
 use Rattle.core_model.specs.State.{Seat, Opening, Core}

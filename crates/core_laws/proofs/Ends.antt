@@ -1,17 +1,16 @@
 -- A call is answered or lost: what agrees before agrees after it, by what the call was for.
-use Rattle.std.proofs.Common.{◌≡◌, ℕ, ◌+◌, ◌==◌, nat_le, Bool, true, false, not, cond, ◌&&◌, ◌||◌, List, [], ◌∷◌, map, filter, Option, None, Some, is_some, refl, sym, ◌∙◌, ap, subst}
+use Rattle.std.proofs.Common.{◌≡◌, ℕ, ◌+◌, ◌==◌, nat_le, Bool, true, false, cond, ◌&&◌, List, map, Option, None, Some, refl, sym, ◌∙◌, ap, subst}
 use Rattle.std.specs.List.{list_any, list_all}
 use Rattle.etcd_types.specs.declared.answer.Answer.{Answer}
 use Rattle.etcd_types.specs.declared.answer.Answer.TheVariants as answer
 use Rattle.etcd_types.specs.declared.answer.Body.{Body}
 use Rattle.etcd_types.specs.declared.answer.Body.TheVariants as body
-use Rattle.etcd_types.specs.declared.answer.Reply.{Reply}
 use Rattle.etcd_types.specs.declared.code.TheConstants.{NOT_FOUND}
 use Rattle.etcd_types.specs.declared.record.Header.{Header}
 use Rattle.etcd_types.specs.declared.record.Kv.{Kv}
 use Rattle.etcd_types.specs.Keys.{same}
 use Rattle.etcd_types.proofs.KeyOrder.{same-equal}
-use Rattle.etcd_types.proofs.Bools.{and_first, and_second, and_false, or_false}
+use Rattle.etcd_types.proofs.Bools.{and_second, and_false, or_false}
 use Rattle.proxy_model.specs.declared.lease.Entry.{Entry}
 use Rattle.proxy_model.specs.declared.ownership.Claim.{Claim}
 use Rattle.proxy_model.specs.declared.ownership.Claim.TheVariants.{Acquired, OwnedBy}
@@ -24,7 +23,6 @@ use Rattle.wait_model.specs.declared.sending.Sending.TheVariants as sending
 use Rattle.wait_model.specs.declared.wait.WaitCall.{WaitCall}
 use Rattle.wait_model.specs.Endings as endings
 use Rattle.wait_model.specs.GuardedAnswers.{Ending}
-use Rattle.wait_model.specs.Writes.{without_call}
 use Rattle.wait_laws.proofs.WrittenKept.{ranges_stay}
 use Rattle.wait_laws.specs.Written.{EndsWritten, IsWritten}
 use Rattle.read_model.specs.declared.acquire.Acquire.{Acquire}
@@ -33,10 +31,10 @@ use Rattle.read_model.specs.declared.asked.Stage.{Stage}
 use Rattle.read_model.specs.declared.asked.Stage.TheVariants as stage
 use Rattle.read_model.specs.declared.asked.Verdict.{Verdict}
 use Rattle.read_model.specs.declared.asked.Verdict.TheVariants as verdict
-use Rattle.read_model.specs.Acquires.{acquires_at, acquired, owned_by, acquire_gone, with_entry, found_own, done_by, acquire_refused, answered_acquire, acquire_answered, is_to_be_held, lost_once, told_lost, acquire_lost}
+use Rattle.read_model.specs.Acquires.{acquires_at, acquired, owned_by, acquire_gone, done_by, acquire_refused, answered_acquire, acquire_answered, is_to_be_held, lost_once, told_lost, acquire_lost}
 use Rattle.read_model.specs.Fits.{ReadsOk}
 use Rattle.read_model.specs.PlainRead.{in_stage, called, shown}
-use Rattle.read_model.specs.Release.{released, released_in_place}
+use Rattle.read_model.specs.Release.{released}
 use Rattle.read_model.specs.State.{Reads, Moment, ground_of, on}
 use Rattle.read_model.specs.TakingOff.{is_writes}
 use Rattle.read_model.specs.WriteAnswers.{settled_ask, ending, wait_answered, wait_lost}
@@ -47,10 +45,9 @@ use Rattle.core_model.specs.declared.out_call.CallKind.{CallKind}
 use Rattle.core_model.specs.declared.out_call.OutCall.{OutCall}
 use Rattle.core_model.specs.declared.out_call.OutJob.{OutJob}
 use Rattle.core_model.specs.declared.out_call.OutJob.TheVariants as job
-use Rattle.core_model.specs.Ends.{call_gone, with_caller, lost_ask, lost_job, stale_once, stales_limit, said, is_stale_reply, ask_done, ask_answered, member_failed, acquire_ended, acquire_if, reads_if, is_keepalive, group_answered, answered_job}
-use Rattle.core_model.specs.Fits.{once, has_standing, is_standing, is_seated, job_at, passes, is_session_job, is_call_out, is_seat_out, is_acquire_of, is_acquire_out, is_ask_job, is_stage_out, is_wait, numbers_of, AsksOk, AreAwaited, GroupsOk, NumbersOk, OutOk, WritesOk, Agrees}
+use Rattle.core_model.specs.Ends.{call_gone, with_caller, acquire_ended, acquire_if, reads_if}
+use Rattle.core_model.specs.Fits.{has_standing, is_standing, is_seated, job_at, passes, is_session_job, is_call_out, is_seat_out, is_acquire_of, is_acquire_out, is_ask_job, is_stage_out, is_wait, AsksOk, AreAwaited, GroupsOk, NumbersOk, Agrees}
 use Rattle.core_model.specs.Groups.{group_ended, groups_ended, is_out_stage, waits_next, keeps}
-use Rattle.core_model.specs.Kinds.{is_read, is_body_of}
 use Rattle.core_model.specs.Lookups.{reads_of, with_reads, moment, without_out, calls_as, has_ticket}
 use Rattle.core_model.specs.Sessions.{is_sent_as, seat_calls, seat_granted, granted_by, grant_failed, grant_answered, seat_free, keep_failed, seat_renewed, kept, kept_by, keep_answered, without_session}
 use Rattle.core_model.specs.State.{Seat, Core}
@@ -59,7 +56,7 @@ use Rattle.core_laws.proofs.Calls.{numbers_other, numbers_wait}
 use Rattle.core_laws.proofs.Comes.{by_test}
 use Rattle.core_laws.proofs.Groups.{NoGroup, groups_left, groups_end}
 use Rattle.core_laws.proofs.Lists.{same_number, all_mapped, same_numbers, any_mapped, none_kept}
-use Rattle.core_laws.proofs.Requests.{is_free, Moves, Frees, CallerOk, caller, caller_ok, none_moved, all_left, nobody_calls, all_out, all_groups, asks_changed, awaited_changed, acquires_is, settled_moves, settled_asks, settled_awaited}
+use Rattle.core_laws.proofs.Requests.{is_free, Frees, caller, caller_ok, none_moved, all_left, nobody_calls, all_out, all_groups, asks_changed, awaited_changed, acquires_is, settled_moves, settled_asks, settled_awaited}
 use Rattle.core_laws.proofs.WaitEnds.{Ended, EndedIf, answered_ends, lost_ends, ended_writes}
 
 abbrev pub AgreesIf : Option Core → Type 0

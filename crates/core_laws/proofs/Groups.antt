@@ -1,10 +1,9 @@
 -- Keepalives of one lease: one call is out at most, and none is due beside it, as calls are sent and end.
 use Rattle.std.proofs.Common.{◌≡◌, ℕ, ◌==◌, Bool, true, false, not, cond, ◌&&◌, ◌||◌, List, [], ◌∷◌, ◌++◌, map, filter, Option, None, Some, refl, sym, ◌∙◌, ap, subst}
-use Rattle.std.specs.List.{list_any, list_all}
+use Rattle.std.specs.List.{list_any}
 use Rattle.etcd_types.specs.declared.request.Request.{Request}
 use Rattle.etcd_types.specs.declared.request.Request.TheVariants as request
-use Rattle.etcd_types.specs.Keys.{same}
-use Rattle.etcd_types.proofs.Bools.{and_first, and_second, and_both, or_first, or_second, or_none, or_left, or_right, not_true, not_false, false_not, or_false, and_false}
+use Rattle.etcd_types.proofs.Bools.{and_first, and_second, and_both, or_first, or_second, or_none, or_left, or_right, not_true, false_not, or_false, and_false}
 use Rattle.wait_model.specs.declared.sending.Sending.{Sending}
 use Rattle.wait_model.specs.declared.sending.Sending.TheVariants as sending
 use Rattle.read_model.specs.declared.asked.Asked.{Asked}
@@ -18,7 +17,7 @@ use Rattle.core_model.specs.declared.out_call.OutJob.TheVariants as job
 use Rattle.core_model.specs.DueJobs.{lease_of}
 use Rattle.core_model.specs.Fits.{once, at_most_one, job_at, passes, numbers_of, is_keepalive, group_sending, group_stands, GroupsOk}
 use Rattle.core_model.specs.Groups.{keeps, is_group_of, is_out_for, is_due_stage, group_sent, is_out_stage, waits_next, group_ended}
-use Rattle.core_model.specs.Lookups.{is_out_as, without_out}
+use Rattle.core_model.specs.Lookups.{without_out}
 use Rattle.core_laws.proofs.Lists.{same_number, number_itself, number_turned, all_kept, all_mapped, any_pushed, any_filtered, none_kept, one_of_push, one_of_last, one_of_filter, both_of_one}
 use Rattle.core_laws.proofs.Calls.{job_grown, job_last, job_without, only_found}
 use Rattle.core_laws.proofs.Comes.{by_test}

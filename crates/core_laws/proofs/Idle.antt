@@ -1,8 +1,7 @@
 -- No request waits for nothing: a read by what stands at its key, a write by its stage, a keepalive by its group.
-use Rattle.std.proofs.Common.{◌≡◌, ◌⊎◌, inl, inr, ℕ, ◌==◌, Bool, true, false, not, cond, ◌||◌, List, [], ◌∷◌, ◌++◌, map, filter, Option, None, Some, refl, sym, ◌∙◌, ap, subst, append_assoc}
+use Rattle.std.proofs.Common.{◌≡◌, ◌⊎◌, inl, inr, ℕ, ◌==◌, Bool, true, false, not, cond, ◌||◌, List, [], ◌∷◌, ◌++◌, map, filter, None, Some, refl, sym, ◌∙◌, ap, append_assoc}
 use Rattle.std.specs.List.{list_any, list_all}
 use Rattle.etcd_types.proofs.Bools.{and_first, and_second, or_left, or_right, not_true}
-use Rattle.wait_model.specs.declared.sending.Sending.{Sending}
 use Rattle.wait_model.specs.declared.write.Write.{Write}
 use Rattle.wait_model.specs.declared.write.WriteStage.{WriteStage}
 use Rattle.wait_model.specs.declared.write.WriteStage.TheVariants.{Waiting, Sends, Finds}
@@ -14,7 +13,7 @@ use Rattle.wait_model.proofs.Bools.{or_cases}
 use Rattle.read_model.specs.declared.asked.Asked.{Asked}
 use Rattle.read_model.specs.declared.asked.Stage.{Stage}
 use Rattle.read_model.specs.declared.asked.Stage.TheVariants as stage
-use Rattle.read_model.specs.State.{Ground, ground_of}
+use Rattle.read_model.specs.State.{ground_of}
 use Rattle.read_model.specs.TakingOff.{is_writes}
 use Rattle.read_laws.specs.Laws as reads
 use Rattle.read_laws.proofs.Waiting.{no_read_is_idle}
@@ -23,7 +22,7 @@ use Rattle.core_model.specs.Fits.{CoreOk, has_number, group_stands, is_keepalive
 use Rattle.core_model.specs.Groups.{is_out_for}
 use Rattle.core_model.specs.Lookups.{reads_of}
 use Rattle.core_model.specs.State.{Core}
-use Rattle.core_model.specs.WaitsFor.{HeldBack, WriteWaits, WriteOf, StageWaits, WaitsFor, AllWaitFor}
+use Rattle.core_model.specs.WaitsFor.{HeldBack, WriteWaits, WriteOf, StageWaits, AllWaitFor}
 use Rattle.core_laws.specs.Laws.{NoRequestIsIdle}
 use Rattle.core_laws.proofs.Lists.{same_number, number_itself}
 

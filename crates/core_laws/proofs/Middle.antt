@@ -1,28 +1,23 @@
 -- Parts of a step keep what holds in its middle: the end of a session, requests that end, calls that end, and notices.
-use Rattle.std.proofs.Common.{◌≡◌, ℕ, ◌+◌, ◌==◌, nat_le, Bool, true, false, not, cond, ◌&&◌, ◌||◌, List, [], ◌∷◌, map, Option, None, Some, is_some, refl, sym, ◌∙◌, ap, subst}
-use Rattle.std.specs.List.{list_any, list_all}
+use Rattle.std.proofs.Common.{◌≡◌, ℕ, ◌+◌, ◌==◌, nat_le, Bool, true, false, cond, ◌&&◌, List, [], ◌∷◌, map, Option, None, Some, is_some, refl, sym, ◌∙◌, ap, subst}
 use Rattle.etcd_types.specs.declared.answer.Answer.{Answer}
 use Rattle.etcd_types.specs.declared.answer.Answer.TheVariants as answer
 use Rattle.etcd_types.specs.declared.answer.Body.{Body}
 use Rattle.etcd_types.specs.declared.answer.Body.TheVariants as body
-use Rattle.etcd_types.specs.declared.answer.Reply.{Reply}
 use Rattle.etcd_types.specs.declared.watch.Change.{Change}
 use Rattle.etcd_types.specs.declared.watch.Change.TheVariants as change
 use Rattle.etcd_types.specs.declared.watch.Event.{Event}
 use Rattle.etcd_types.specs.Keys.{same}
-use Rattle.etcd_types.proofs.Bools.{and_first, or_false}
 use Rattle.proxy_model.specs.declared.lease.Entry.{Entry}
 use Rattle.proxy_model.specs.declared.session.Standing.{Standing}
 use Rattle.proxy_model.specs.Foreign.{revoke_word}
 use Rattle.proxy_model.specs.Keyed.{at, with_at}
 use Rattle.proxy_model.specs.Session.{is_live}
-use Rattle.wait_model.specs.declared.sending.Sending.{Sending}
 use Rattle.wait_model.specs.declared.sending.Sending.TheVariants as sending
-use Rattle.wait_model.specs.declared.write.Write.{Write}
 use Rattle.wait_model.specs.Asked.{acquire_spoiled}
 use Rattle.wait_model.specs.ForeignOwnership.{found_gone, stage_gone}
 use Rattle.wait_model.specs.LeasingStream.{resynced, all_given_up}
-use Rattle.wait_model.specs.Notices.{owned_key, put_noticed, revoked_turn, deleted_turn, delete_noticed, noticed, all_noticed}
+use Rattle.wait_model.specs.Notices.{owned_key, put_noticed, revoked_turn, deleted_turn, noticed, all_noticed}
 use Rattle.wait_model.specs.State.{Ownership}
 use Rattle.wait_model.specs.Writes.{sends}
 use Rattle.wait_laws.specs.Laws.{AreWritten, OwnersCovered}
@@ -35,25 +30,25 @@ use Rattle.read_model.specs.declared.asked.Stage.{Stage}
 use Rattle.read_model.specs.declared.asked.Stage.TheVariants as stage
 use Rattle.read_model.specs.declared.asked.Verdict.{Verdict}
 use Rattle.read_model.specs.declared.asked.Verdict.TheVariants as verdict
-use Rattle.read_model.specs.Acquires.{AfterAcquire, acquire_answered, acquire_lost, lost_once}
-use Rattle.read_model.specs.Fits.{GroundOk, ReadsOk}
+use Rattle.read_model.specs.Acquires.{AfterAcquire, acquire_answered, lost_once}
+use Rattle.read_model.specs.Fits.{ReadsOk}
 use Rattle.read_model.specs.PlainRead.{ask_key, in_stage, called}
 use Rattle.read_model.specs.Release.{stands, ask_stands}
 use Rattle.read_model.specs.State.{Reads, Moment, ground_of}
-use Rattle.read_model.specs.WriteAnswers.{wait_answered, wait_lost}
+use Rattle.read_model.specs.WriteAnswers.{wait_answered}
 use Rattle.read_laws.specs.Kept as keeps
 use Rattle.read_laws.proofs.Kept as kept
 use Rattle.core_model.specs.declared.out_call.CallKind.{CallKind}
 use Rattle.core_model.specs.declared.out_call.OutCall.{OutCall}
 use Rattle.core_model.specs.declared.out_call.OutJob.{OutJob}
 use Rattle.core_model.specs.declared.out_call.OutJob.TheVariants as job
-use Rattle.core_model.specs.ClockWork.{times_out, timed_out_ask, requests_timed_out, begun, clock_work, writes_go_on}
-use Rattle.core_model.specs.Ends.{call_gone, with_caller, lost_ask, lost_job, lost_call, stale_once, stales_limit, said, is_stale_reply, ask_done, ask_answered, member_failed, acquire_ended, acquire_if, reads_if, is_keepalive, group_answered, answered_job, or_lost, heard_call, answered_call}
+use Rattle.core_model.specs.ClockWork.{times_out, timed_out_ask, requests_timed_out, begun, clock_work}
+use Rattle.core_model.specs.Ends.{call_gone, with_caller, lost_ask, lost_job, lost_call, stale_once, stales_limit, said, is_stale_reply, ask_done, ask_answered, member_failed, acquire_ended, acquire_if, reads_if, is_keepalive, answered_job, or_lost, heard_call, answered_call}
 use Rattle.core_model.specs.Fits.{has_standing, is_standing, is_seat_out, is_session_job, job_at, Agrees}
 use Rattle.core_model.specs.Groups.{keeps as keeps_lease, group_ended, groups_ended, is_out_stage, waits_next}
 use Rattle.core_model.specs.Heard.{heard, answer_taken}
 use Rattle.core_model.specs.Kinds.{is_read, is_body_of}
-use Rattle.core_model.specs.Lookups.{reads_of, with_reads, moment, live_number, number_if, calls_as, has_ticket, without_ask}
+use Rattle.core_model.specs.Lookups.{reads_of, moment, live_number, number_if, calls_as, has_ticket, without_ask}
 use Rattle.core_model.specs.Sessions.{without_session, seat_is_over, deadline_passed, seat_calls, seat_granted, granted_by, grant_failed, grant_answered, seat_free, keep_failed, seat_renewed, kept_by, keep_answered}
 use Rattle.core_model.specs.Sessions as sessions
 use Rattle.core_model.specs.State.{Seat, Core}

@@ -1,5 +1,5 @@
 -- What each event gives, by its cases.
-use Rattle.std.proofs.Common.{◌≡◌, ℕ, Bool, true, false, cond, List, [], ◌∷◌, Option, None, Some, Ok, refl, ◌∙◌, ap}
+use Rattle.std.proofs.Common.{◌≡◌, ℕ, Bool, true, false, cond, Option, None, Some, refl, ap}
 use Rattle.etcd_types.specs.declared.answer.Answer.{Answer}
 use Rattle.etcd_types.specs.declared.answer.Body.{Body}
 use Rattle.etcd_types.specs.declared.answer.Refusal.{Refusal}
@@ -23,10 +23,9 @@ use Rattle.core_model.specs.declared.event.CoreEvent.{CoreEvent}
 use Rattle.core_model.specs.declared.event.CoreEvent.TheVariants as event
 use Rattle.core_model.specs.declared.event.Outcome.{Outcome}
 use Rattle.core_model.specs.declared.event.Outcome.TheVariants as outcome
-use Rattle.core_model.specs.declared.event.StepFault.{StepFault}
 use Rattle.core_model.specs.declared.event.StepFault.TheVariants as fault
 use Rattle.core_model.specs.declared.out_call.OutCall.{OutCall}
-use Rattle.core_model.specs.Asking.{asked_at, is_leased_read, read_by, read_is_asked, write_is_asked, held_body, if_live, call_is_asked, answered_or_called, leased_ask, taken_in, request_asked, refused_or_taken, if_unknown, on_ask}
+use Rattle.core_model.specs.Asking.{asked_at, is_leased_read, read_by, read_is_asked, write_is_asked, held_body, if_live, call_is_asked, answered_or_called, leased_ask, taken_in, request_asked, refused_or_taken, on_ask}
 use Rattle.core_model.specs.ClockWork.{clock_work}
 use Rattle.core_model.specs.DueJobs.{DueJob, ForSession, ForWrites, ForAcquire, ForAsk, ForGroup, ToOpen, ForStream, first_job}
 use Rattle.core_model.specs.Ends.{answer_of, on_answer, loss_of, on_lost}
@@ -39,7 +38,7 @@ use Rattle.core_model.specs.Step.{on_tick, opening_at, client_item, item_of, on_
 use Rattle.core_model.specs.Stepped.{Stepped, faults, counted}
 use Rattle.core_model.specs.Takes.{item_taken, taken, on_take, watcher_left, left, on_leave}
 use Rattle.core_model.specs.Takes as takes
-use Rattle.core_model.specs.Watching.{taken_item, watch_taken, stream_job, stream_sent, with_watches}
+use Rattle.core_model.specs.Watching.{taken_item, stream_job, with_watches}
 use Rattle.core_laws.specs.Outcomes.{is_reply_or_wait, is_taken, is_job, is_noted, may_have, Gives, gave, faulted, WornDoesNothing, StepsGive}
 
 by_test : {A : Type 0} (P : A → Type 0) (b : Bool) (x y : A) → P x → P y → P (cond b x y)

@@ -1,11 +1,11 @@
 -- What a step makes of the requests: most leave each as it is, or with nothing out; and what that keeps.
-use Rattle.std.proofs.Common.{◌≡◌, ℕ, ◌==◌, Bool, true, false, not, cond, ◌&&◌, ◌||◌, List, [], ◌∷◌, ◌++◌, map, filter, Option, None, Some, is_some, refl, sym, ◌∙◌, ap, subst}
+use Rattle.std.proofs.Common.{◌≡◌, ℕ, ◌==◌, Bool, true, false, not, cond, ◌&&◌, ◌||◌, List, [], ◌∷◌, map, filter, Option, None, Some, refl, sym, ◌∙◌, ap, subst}
 use Rattle.std.specs.List.{list_any, list_all}
 use Rattle.etcd_types.specs.declared.request.Request.{Request}
 use Rattle.etcd_types.specs.Keys.{same}
 use Rattle.etcd_types.specs.declared.record.Header.{Header}
 use Rattle.etcd_types.proofs.KeyOrder.{same-equal}
-use Rattle.etcd_types.proofs.Bools.{and_first, and_second, and_both, and_false, and_true, or_first, or_second, or_none, not_true, false_not}
+use Rattle.etcd_types.proofs.Bools.{and_first, and_second, and_both, and_false, and_true, or_first, or_second, or_none}
 use Rattle.proxy_model.specs.declared.lease.Entry.{Entry}
 use Rattle.proxy_model.specs.declared.lease.Phase.{Phase}
 use Rattle.proxy_model.specs.declared.lease.Phase.TheVariants.{Held, Writing, Leaving}
@@ -29,10 +29,9 @@ use Rattle.read_model.specs.TakingOff.{is_writes}
 use Rattle.read_model.specs.WriteAnswers.{settled_ask}
 use Rattle.core_model.specs.declared.out_call.OutCall.{OutCall}
 use Rattle.core_model.specs.declared.out_call.OutJob.{OutJob}
-use Rattle.core_model.specs.DueJobs.{lease_of}
-use Rattle.core_model.specs.Fits.{has_number, once, at_most_one, job_at, passes, is_ask_job, is_stage_out, is_keepalive, group_sending, group_stands, ask_tickets, writing_tickets, write_tickets, AsksOk, awaits, is_awaited, AreAwaited, GroupsOk}
-use Rattle.core_model.specs.Lookups.{has_ticket, is_out_as, stage_calls, calls_as, without_out}
-use Rattle.core_laws.proofs.Lists.{same_number, number_itself, all_kept, all_mapped, all_pushed, any_kept, any_mapped, any_filtered, none_kept, one_of_map, both_of_one, once_is_one, once_filtered, same_numbers, but, but_numbers}
+use Rattle.core_model.specs.Fits.{has_number, once, job_at, is_ask_job, is_stage_out, group_stands, ask_tickets, writing_tickets, write_tickets, AsksOk, awaits, is_awaited, AreAwaited, GroupsOk}
+use Rattle.core_model.specs.Lookups.{has_ticket, stage_calls, calls_as, without_out}
+use Rattle.core_laws.proofs.Lists.{same_number, number_itself, all_mapped, any_kept, any_mapped, any_filtered, none_kept, one_of_map, both_of_one, once_is_one, once_filtered, same_numbers, but, but_numbers}
 use Rattle.core_laws.proofs.Calls.{out_left, not_its}
 use Rattle.core_laws.proofs.Comes.{by_test, come_tickets}
 use Rattle.core_laws.proofs.WaitEnds.{none_by, IsRemoved, EndsAs, removed_tickets, found_ticket}

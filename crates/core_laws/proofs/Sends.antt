@@ -1,58 +1,52 @@
 -- The first due job is sent: what holds then.
-use Rattle.std.proofs.Common.{◌≡◌, ℕ, ◌+◌, ◌==◌, nat_le, Bool, true, false, not, cond, ◌&&◌, ◌||◌, List, [], ◌∷◌, ◌++◌, map, filter, Option, None, Some, is_some, refl, sym, ◌∙◌, ap, subst, arith}
+use Rattle.std.proofs.Common.{◌≡◌, ℕ, ◌+◌, ◌==◌, nat_le, Bool, true, false, not, cond, ◌&&◌, ◌||◌, List, [], ◌∷◌, ◌++◌, map, filter, Option, None, Some, refl, sym, ◌∙◌, ap, subst, arith}
 use Rattle.std.proofs.lemmas.Bool.Decides.{nat_tests}
 use Rattle.std.specs.List.{list_any, list_all}
 use Rattle.std.specs.Option.{option_map}
-use Rattle.etcd_types.specs.declared.request.Request.{Request}
 use Rattle.etcd_types.specs.Keys.{same}
-use Rattle.etcd_types.proofs.KeyOrder.{same-equal, same-itself}
-use Rattle.etcd_types.proofs.Bools.{and_first, and_second, and_both, and_false, and_true, or_true, or_first, or_second, or_none, not_true, false_not}
+use Rattle.etcd_types.proofs.Bools.{and_first, and_second, and_false, and_true, or_true, or_first, or_second, or_none, not_true, false_not}
 use Rattle.proxy_model.specs.declared.session.Standing.{Standing}
-use Rattle.proxy_model.specs.Keyed.{Keyed, at, with_at, changed_at}
+use Rattle.proxy_model.specs.Keyed.{at}
 use Rattle.proxy_model.specs.Session.{Session}
 use Rattle.proxy_model.proofs.KeyedLaws.{at-with_at}
 use Rattle.wait_model.specs.declared.sending.Sending.{Sending}
 use Rattle.wait_model.specs.declared.sending.Sending.TheVariants as sending
-use Rattle.wait_model.specs.declared.wait.WaitCall.{WaitCall}
-use Rattle.wait_model.specs.declared.write.Write.{Write}
 use Rattle.wait_model.specs.Sent.{JobSent, job_sent}
-use Rattle.wait_model.specs.State.{Ownership}
 use Rattle.wait_laws.specs.Laws as waits
-use Rattle.wait_laws.specs.Written.{SentWritten}
 use Rattle.wait_laws.proofs.Sendings as sendings
 use Rattle.wait_laws.proofs.WrittenKept.{ranges_stay}
 use Rattle.read_model.specs.declared.acquire.Acquire.{Acquire}
 use Rattle.read_model.specs.declared.asked.Asked.{Asked}
 use Rattle.read_model.specs.declared.asked.Stage.{Stage}
 use Rattle.read_model.specs.declared.asked.Stage.TheVariants as stage
-use Rattle.read_model.specs.Acquires.{is_acquiring, acquires_at, sent_out, acquire_sent}
+use Rattle.read_model.specs.Acquires.{acquires_at, sent_out, acquire_sent}
 use Rattle.read_model.specs.Fits.{ReadsOk}
-use Rattle.read_model.specs.PlainRead.{ask_key, in_stage}
-use Rattle.read_model.specs.Release.{stands, ask_stands}
-use Rattle.read_model.specs.State.{Reads, ground_of}
+use Rattle.read_model.specs.PlainRead.{in_stage}
+use Rattle.read_model.specs.Release.{ask_stands}
+use Rattle.read_model.specs.State.{ground_of}
 use Rattle.read_model.specs.TakingOff.{is_writes}
 use Rattle.read_laws.proofs.Kept.{stays_ok, sending_keeps}
 use Rattle.core_model.specs.declared.out_call.OutCall.{OutCall}
 use Rattle.core_model.specs.declared.out_call.OutJob.{OutJob}
 use Rattle.core_model.specs.declared.out_call.OutJob.TheVariants as job
 use Rattle.core_model.specs.DueJobs.{ForSession, ForAsk, ForGroup}
-use Rattle.core_model.specs.Fits.{has_number, once, at_most_one, has_standing, is_standing, job_at, passes, is_session_job, is_call_out, is_seat_out, is_acquire_of, is_acquire_out, is_ask_job, is_stage_out, is_wait, calls_of, group_stands, ask_tickets, writing_tickets, write_tickets, WritesOk, AsksOk, awaits, is_awaited, AreAwaited, OutOk, NumbersOk, GroupsOk, Agrees, goes_on}
-use Rattle.core_model.specs.Groups.{keeps, is_group_of, is_out_for, is_due_stage, group_sent}
+use Rattle.core_model.specs.Fits.{has_number, once, at_most_one, has_standing, is_standing, job_at, passes, is_session_job, is_call_out, is_seat_out, is_acquire_of, is_acquire_out, is_ask_job, is_stage_out, is_wait, calls_of, group_stands, writing_tickets, is_awaited, NumbersOk, Agrees}
+use Rattle.core_model.specs.Groups.{keeps, is_due_stage, group_sent}
 use Rattle.core_model.specs.Kinds.{kind_of}
 use Rattle.core_model.specs.Lookups.{reads_of, with_reads, has_ticket, stage_calls, calls_as}
 use Rattle.core_model.specs.Sending.{next_call, out_call, session_out, seat_sent, called_as}
 use Rattle.core_model.specs.State.{Seat, Core}
-use Rattle.core_laws.proofs.Agreeing.{to_written, from_written}
+use Rattle.core_laws.proofs.Agreeing.{to_written}
 use Rattle.core_laws.proofs.Calls.{job_last, out_grown, is_new, is_new_wait, numbers_sent}
 use Rattle.core_laws.proofs.Comes.{by_test}
 use Rattle.core_laws.proofs.Due.{is_called_due, DueOk}
 use Rattle.core_laws.proofs.Groups.{NoGroup, groups_pushed, groups_sent}
-use Rattle.core_laws.proofs.Lists.{same_number, number_itself, all_kept, all_mapped, any_mapped, any_kept, none_kept, one, one_is, one_of_map, once_is_one, same_numbers, but, but_none, but_numbers}
+use Rattle.core_laws.proofs.Lists.{same_number, all_kept, all_mapped, one, one_is, one_of_map, once_is_one, same_numbers, but, but_none, but_numbers}
 use Rattle.core_laws.proofs.Requests.{asks_changed, awaited_changed, acquires_is, same_tickets, is_writing}
 use Rattle.core_laws.proofs.TakenOff.{never_both}
 use Rattle.core_laws.proofs.WaitEnds.{none_by}
-use Rattle.core_laws.proofs.WaitSends.{Sent, SentIf, job_sends}
-use Rattle.core_laws.proofs.Whole.{Mid, Whole}
+use Rattle.core_laws.proofs.WaitSends.{SentIf, job_sends}
+use Rattle.core_laws.proofs.Whole.{Whole}
 
 -- What stands as out is out in a longer list too.
 

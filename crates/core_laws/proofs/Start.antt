@@ -1,5 +1,5 @@
 -- A proxy at its start.
-use Rattle.std.proofs.Common.{◌≡◌, true, false, refl}
+use Rattle.std.proofs.Common.{refl}
 use Rattle.core_laws.specs.Laws.{StartFits}
 
 pub start_fits : StartFits

@@ -1,6 +1,5 @@
 -- Each kind of event keeps what is to hold of a proxy, and so does a whole step.
-use Rattle.std.proofs.Common.{◌≡◌, ◌≤◌, ℕ, ◌+◌, ◌==◌, nat_le, Bool, true, false, not, cond, ◌&&◌, ◌||◌, List, [], ◌∷◌, ◌++◌, Option, None, Some, is_some, Result, Ok, Err, refl, sym, ◌∙◌, ap, subst, arith}
-use Rattle.std.specs.List.{list_any, list_all}
+use Rattle.std.proofs.Common.{◌≡◌, ℕ, ◌+◌, ◌==◌, true, false, not, cond, ◌||◌, List, [], ◌∷◌, Option, None, Some, is_some, Result, Ok, Err, refl, sym, ◌∙◌, ap, subst, arith}
 use Rattle.etcd_types.specs.declared.answer.Answer.{Answer}
 use Rattle.etcd_types.specs.declared.answer.Body.{Body}
 use Rattle.etcd_types.specs.declared.answer.Refusal.{Refusal}
@@ -12,7 +11,7 @@ use Rattle.etcd_types.specs.declared.watch.WatchItem.{WatchItem}
 use Rattle.etcd_types.specs.declared.watch.WatchItem.TheVariants as item
 use Rattle.etcd_types.proofs.Bools.{or_first, or_left, or_false}
 use Rattle.proxy_model.specs.declared.session.Standing.{Standing}
-use Rattle.proxy_model.specs.Session.{Session, is_due, start}
+use Rattle.proxy_model.specs.Session.{is_due}
 use Rattle.proxy_model.specs.Unwrapped.{Unwrapped, item_without}
 use Rattle.proxy_model.specs.Upstream.{Upstream, created, advance, opened}
 use Rattle.wait_model.specs.declared.sending.Sending.{Sending}
@@ -23,8 +22,7 @@ use Rattle.wait_model.specs.Sent.{JobSent, job_sent}
 use Rattle.wait_model.specs.State.{Ownership}
 use Rattle.watch_model.specs.declared.stream.StreamJob.{StreamJob}
 use Rattle.watch_model.specs.declared.stream.StreamJob.TheVariants as stream
-use Rattle.watch_model.specs.Cuts.{cut_stream, cancelled_stream}
-use Rattle.watch_model.specs.Delivery.{delivered_stream, stands_created}
+use Rattle.watch_model.specs.Cuts.{cut_stream}
 use Rattle.watch_model.specs.Due.{next_job}
 use Rattle.watch_model.specs.Joining.{joined}
 use Rattle.watch_model.specs.Leaving.{removed}
@@ -49,7 +47,7 @@ use Rattle.core_model.specs.Asking.{asked_at, is_leased_read, read_by, read_is_a
 use Rattle.core_model.specs.ClockWork.{is_replied, begun, writes_go_on, clock_work}
 use Rattle.core_model.specs.DueJobs.{DueJob, ForSession, ForWrites, ForAcquire, ForAsk, ForGroup, ToOpen, ForStream, first_job}
 use Rattle.core_model.specs.Ends.{call_gone, answered_call, lost_call, answer_of, on_answer, loss_of, on_lost}
-use Rattle.core_model.specs.Fits.{has_number, job_at, has_standing, is_standing, is_seated, is_call_out, is_seat_out, ask_tickets, Agrees, CoreOk}
+use Rattle.core_model.specs.Fits.{has_number, job_at, has_standing, is_standing, is_seated, is_call_out, is_seat_out, ask_tickets, CoreOk}
 use Rattle.core_model.specs.Heard.{heard, header_taken}
 use Rattle.core_model.specs.Kinds.{writes_keys}
 use Rattle.core_model.specs.LeasingStream.{due_anew, leasing_ticked, leasing_cut, stream_is, own_created, leasing_created, leasing_cancelled, told_revision, is_readable, leasing_told, leasing_message, message_if_sent, item_header, leasing_item, opening_sent}
@@ -61,7 +59,7 @@ use Rattle.core_model.specs.Sessions.{without_session, seat_is_over, call_ticked
 use Rattle.core_model.specs.State.{Seat, Opening, Core, first_core}
 use Rattle.core_model.specs.declared.settings.Settings.{Settings}
 use Rattle.core_model.specs.Step.{ticked, on_tick, opening_at, client_item, item_of, on_item, client_cut, cut_of, on_cut, happened, is_worn, stepped}
-use Rattle.core_model.specs.Stepped.{Stepped, gives, faults, counted, counted_by}
+use Rattle.core_model.specs.Stepped.{Stepped, faults, counted, counted_by}
 use Rattle.core_model.specs.Takes.{gone, item_taken, taken, on_take, has_left, watcher_left, left, on_leave}
 use Rattle.core_model.specs.Takes as takes
 use Rattle.core_model.specs.Watching.{watch_is_asked, stream_message, message_if_begun, stream_item, taken_item, watch_taken, stream_job, stream_sent, with_watches}
@@ -70,7 +68,7 @@ use Rattle.core_laws.specs.Kept.{HeardBytes, IsHeard, StepsKeep, Timed, after, r
 use Rattle.core_laws.proofs.Asks.{unknown, call_mid, write_mid, read_mid}
 use Rattle.core_laws.proofs.Calls.{IsFound, found_is}
 use Rattle.core_laws.proofs.Comes.{by_test}
-use Rattle.core_laws.proofs.Due.{DueOk, DueIf, first_due}
+use Rattle.core_laws.proofs.Due.{DueIf, first_due}
 use Rattle.core_laws.proofs.Idle.{none_is_idle}
 use Rattle.core_laws.proofs.Lists.{all_filtered}
 use Rattle.core_laws.proofs.Middle.{left_mid, clock_whole, message_mid, resynced_mid, given_up_mid, lost_mid, answered_mid}

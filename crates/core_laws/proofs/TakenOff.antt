@@ -1,13 +1,11 @@
 -- Requests that end without an answer, by time or since the client left, and replies that are taken: what agrees after them.
-use Rattle.std.proofs.Common.{◌≡◌, ℕ, ◌-◌, ◌==◌, nat_le, Bool, true, false, not, cond, ◌&&◌, ◌||◌, List, [], ◌∷◌, ◌++◌, map, filter, Option, None, Some, is_some, refl, sym, ◌∙◌, ap, subst, append_assoc}
+use Rattle.std.proofs.Common.{◌≡◌, ℕ, ◌==◌, Bool, true, false, not, cond, ◌&&◌, ◌||◌, List, [], ◌∷◌, ◌++◌, map, filter, Option, None, Some, refl, sym, ◌∙◌, ap, subst, append_assoc}
 use Rattle.std.specs.List.{list_any, list_all}
 use Rattle.etcd_types.proofs.Bools.{and_first, and_second, and_both, and_false, and_true, or_first, or_second, or_none, or_left, or_right, not_true, false_not}
-use Rattle.proxy_model.specs.Keyed.{Keyed, at}
+use Rattle.proxy_model.specs.Keyed.{at}
 use Rattle.wait_model.specs.declared.sending.Sending.{Sending}
 use Rattle.wait_model.specs.declared.sending.Sending.TheVariants as sending
 use Rattle.wait_model.specs.declared.wait.WaitCall.{WaitCall}
-use Rattle.wait_model.specs.declared.write.Write.{Write}
-use Rattle.wait_model.specs.Edits.{without}
 use Rattle.wait_model.specs.Endings.{forgotten}
 use Rattle.wait_model.specs.State.{Ownership}
 use Rattle.wait_model.proofs.Tables.{at-without}
@@ -20,17 +18,17 @@ use Rattle.read_model.specs.declared.asked.Verdict.TheVariants as verdict
 use Rattle.read_model.specs.Acquires.{acquires_at}
 use Rattle.read_model.specs.PlainRead.{in_stage}
 use Rattle.read_model.specs.SessionEnd.{is_due, is_due_acquire, dropped}
-use Rattle.read_model.specs.State.{Reads, Moment, ground_of, on}
+use Rattle.read_model.specs.State.{Moment, on}
 use Rattle.read_model.specs.TakingOff.{is_writes, forgotten_all, falls, taken_off}
 use Rattle.core_model.specs.declared.out_call.OutCall.{OutCall}
-use Rattle.core_model.specs.ClockWork.{request_time, is_replied, times_out, timed_out_ask, requests_timed_out}
-use Rattle.core_model.specs.Fits.{has_number, once, at_most_one, is_stage_out, group_stands, ask_tickets, writing_tickets, write_tickets, WritesOk, AsksOk, awaits, is_awaited, AreAwaited, GroupsOk, NumbersOk, OutOk, Agrees}
+use Rattle.core_model.specs.ClockWork.{is_replied, times_out, timed_out_ask, requests_timed_out}
+use Rattle.core_model.specs.Fits.{has_number, once, at_most_one, is_stage_out, group_stands, ask_tickets, writing_tickets, write_tickets, WritesOk, awaits, is_awaited, GroupsOk, NumbersOk, Agrees}
 use Rattle.core_model.specs.Lookups.{reads_of, with_reads, moment, has_ticket, calls_as, ask_at, without_ask}
 use Rattle.core_model.specs.State.{Core}
 use Rattle.core_model.specs.Takes.{gone, has_left}
 use Rattle.core_laws.proofs.Agreeing.{to_written, from_written, released_agrees, acquires_without}
 use Rattle.core_laws.proofs.Comes.{by_test}
-use Rattle.core_laws.proofs.Lists.{same_number, number_itself, number_turned, all_kept, all_filtered, all_pushed, any_mapped, any_pushed, any_filtered, any_kept, none_kept, both_of_one, once_is_one, once_filtered, one_of_map, one_of_filter, same_numbers, filtered_again, but, but_none, but_numbers}
+use Rattle.core_laws.proofs.Lists.{number_itself, number_turned, all_filtered, any_mapped, any_pushed, any_filtered, none_kept, both_of_one, once_is_one, once_filtered, one_of_map, one_of_filter, same_numbers, filtered_again, but, but_none, but_numbers}
 use Rattle.core_laws.proofs.Requests.{Moves, stays, frees, moved_ticket, moved_calls, all_out, all_groups, same_tickets, is_writing, acquires_is, once_writing}
 use Rattle.core_laws.proofs.WaitEnds.{Forgets, forgets}
 

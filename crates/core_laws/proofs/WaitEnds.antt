@@ -1,6 +1,6 @@
 -- What the end of a call does to the writes: the one that it is of goes on, or is taken out with what its request is told; after it
 -- no write has that call.
-use Rattle.std.proofs.Common.{◌≡◌, ℕ, ◌+◌, ◌==◌, Bool, true, false, not, cond, ◌&&◌, ◌||◌, List, [], ◌∷◌, map, filter, Option, None, Some, refl, sym, ◌∙◌, ap, subst}
+use Rattle.std.proofs.Common.{◌≡◌, ℕ, ◌+◌, ◌==◌, Bool, true, false, not, cond, ◌&&◌, ◌||◌, List, [], ◌∷◌, map, Option, None, Some, refl, sym, ◌∙◌, ap, subst}
 use Rattle.std.specs.List.{list_any, list_all}
 use Rattle.etcd_types.specs.declared.answer.Answer.{Answer}
 use Rattle.etcd_types.specs.declared.answer.Answer.TheVariants as answer
@@ -15,7 +15,6 @@ use Rattle.proxy_model.specs.Limits.{capped}
 use Rattle.wait_model.specs.declared.found.Asking.{Asking}
 use Rattle.wait_model.specs.declared.found.Asking.TheVariants as asking
 use Rattle.wait_model.specs.declared.found.Found.{Found}
-use Rattle.wait_model.specs.declared.sending.Sending.{Sending}
 use Rattle.wait_model.specs.declared.sending.Sending.TheVariants as sending
 use Rattle.wait_model.specs.declared.wait.Settled.{Settled}
 use Rattle.wait_model.specs.declared.wait.Settled.TheVariants as settled
@@ -39,8 +38,8 @@ use Rattle.wait_model.specs.Writes.{first_by, without_first, with_first, asking_
 use Rattle.wait_laws.proofs.FoundWrite.{head_found, rest_found}
 use Rattle.wait_laws.proofs.Kept.{first_passes}
 use Rattle.core_model.specs.Fits.{has_number, once, passes, is_write_job, is_revoke_of, is_asking_out, is_found_out, is_write_out, HaveRanges, WritesOk, write_tickets}
-use Rattle.core_laws.proofs.Lists.{same_number, number_turned, number_itself, all_kept, none_kept, one, one_is, none_is_one, but, but_none}
-use Rattle.core_laws.proofs.Comes.{by_test, Calms, calm_due, calm_itself, stage_asked_calms, owner_asked, AllCome, all_itself, first_staged, come_none, come_tickets, come_writes}
+use Rattle.core_laws.proofs.Lists.{same_number, number_turned, number_itself, one, one_is, none_is_one, but, but_none}
+use Rattle.core_laws.proofs.Comes.{by_test, Calms, calm_due, stage_asked_calms, owner_asked, AllCome, all_itself, first_staged, come_none, come_writes}
 
 -- Which calls stand at writes.
 

@@ -1,9 +1,9 @@
 -- What the sending of a rescind, of a revoke call or of a write's own call does to the writes.
-use Rattle.std.proofs.Common.{◌≡◌, ◌⊎◌, ℕ, ◌==◌, Bool, true, false, not, cond, ◌&&◌, ◌||◌, List, [], ◌∷◌, ◌++◌, map, Option, None, Some, is_some, refl, sym, ◌∙◌, ap, subst}
+use Rattle.std.proofs.Common.{◌≡◌, ℕ, ◌==◌, Bool, true, false, not, cond, ◌&&◌, ◌||◌, List, [], ◌∷◌, ◌++◌, map, Option, None, Some, is_some, refl, sym, ◌∙◌, ap, subst}
 use Rattle.std.specs.List.{list_any, list_all}
 use Rattle.std.specs.Option.{option_map}
 use Rattle.etcd_types.specs.Keys.{same}
-use Rattle.etcd_types.proofs.Bools.{and_first, and_second, and_both, or_first, or_second, or_none, or_right, not_true, false_not}
+use Rattle.etcd_types.proofs.Bools.{and_first, and_second, and_both, or_first, or_second, or_none, not_true, false_not}
 use Rattle.etcd_types.proofs.KeyOrder.{same-equal}
 use Rattle.proxy_model.specs.declared.lease.Entry.{Entry}
 use Rattle.proxy_model.specs.declared.lease.Phase.{Phase}
@@ -15,7 +15,6 @@ use Rattle.wait_model.specs.declared.due.DueCall.{DueCall}
 use Rattle.wait_model.specs.declared.found.Asking.{Asking}
 use Rattle.wait_model.specs.declared.found.Asking.TheVariants as asking
 use Rattle.wait_model.specs.declared.found.Found.{Found}
-use Rattle.wait_model.specs.declared.sending.Sending.{Sending}
 use Rattle.wait_model.specs.declared.sending.Sending.TheVariants as sending
 use Rattle.wait_model.specs.declared.wait.WaitCall.{WaitCall}
 use Rattle.wait_model.specs.declared.wait.WaitJob.{WaitJob}
@@ -36,7 +35,7 @@ use Rattle.wait_laws.specs.Written.{SentWritten}
 use Rattle.proxy_model.specs.LeaseTable.{is_held_phase, is_writing_phase}
 use Rattle.read_laws.proofs.Owned.{StaysAt, Stays, stays_itself}
 use Rattle.core_model.specs.Fits.{passes, is_write_job, is_revoke_of, is_asking_out, is_found_out, is_write_out, HaveRanges, WritesOk, goes_on, write_tickets, calls_of}
-use Rattle.core_laws.proofs.Lists.{same_number, number_itself, number_turned, all_kept, all_mapped, any_kept, any_mapped, map_pushed, one, one_is, none_is_one}
+use Rattle.core_laws.proofs.Lists.{same_number, number_itself, all_kept, all_mapped, any_kept, any_mapped, map_pushed, one, one_is, none_is_one}
 use Rattle.core_laws.proofs.Comes.{by_test, proper_staged}
 use Rattle.core_laws.proofs.WaitEnds.{is_revoke_job, nobody_sends, nobody_asks}
 

@@ -5,10 +5,8 @@ use Rattle.std.specs.List.{list_all}
 use Rattle.etcd_types.specs.declared.record.Header.{Header}
 use Rattle.proxy_model.specs.Members.{Members}
 use Rattle.wait_model.specs.Fits.{IsSettled}
-use Rattle.wait_model.specs.Passes.{proceeded}
 use Rattle.wait_laws.proofs.Passes.{settles}
-use Rattle.read_model.specs.Fits.{GroundOk, ReadsOk}
-use Rattle.read_model.specs.State.{Reads, ground_of}
+use Rattle.read_model.specs.Fits.{ReadsOk}
 use Rattle.read_laws.proofs.Kept.{going_on_keeps}
 use Rattle.watch_model.specs.State.{Broadcasts}
 use Rattle.core_model.specs.ClockWork.{writes_go_on, begun}

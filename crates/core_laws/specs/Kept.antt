@@ -1,6 +1,6 @@
 -- Every step keeps what is to hold of a proxy. So after each step of a run from its start it holds: no request waits for nothing,
 -- and of each lease one keepalive is out at most, and none is due beside it.
-use Rattle.std.specs.Prelude.{◌≡◌, ℕ, true, List, [], ◌∷◌, Option, None, Some}
+use Rattle.std.specs.Prelude.{ℕ, List, [], ◌∷◌, Option, None, Some}
 use Rattle.etcd_types.specs.declared.answer.Answer.{Answer}
 use Rattle.wait_laws.specs.Written.{ShowsBytes}
 use Rattle.core_model.specs.declared.event.CoreEvent.{CoreEvent}

@@ -1,5 +1,5 @@
 -- What follows from what holds of one proxy, and what a plain read comes to at its own step.
-use Rattle.std.specs.Prelude.{◌≡◌, ℕ, true, false, List, Option, None, Some}
+use Rattle.std.specs.Prelude.{◌≡◌, ℕ, true, false, None, Some}
 use Rattle.std.specs.Option.{option_to_list}
 use Rattle.etcd_types.specs.declared.answer.Answer.TheVariants.{Done}
 use Rattle.etcd_types.specs.declared.operation.RangeAsk.{RangeAsk}

@@ -1,6 +1,5 @@
 -- What a step gives: which outcomes each event may have, and what a fault leaves.
 use Rattle.std.specs.Prelude.{◌≡◌, ℕ, Bool, true, false, Ok}
-use Rattle.etcd_types.specs.declared.request.Request.{Request}
 use Rattle.core_model.specs.declared.event.CoreEvent.{CoreEvent}
 use Rattle.core_model.specs.declared.event.CoreEvent.TheVariants as event
 use Rattle.core_model.specs.declared.event.Outcome.{Outcome}
