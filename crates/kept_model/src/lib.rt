@@ -5,5 +5,8 @@
 mod laws;
 mod version;
 
-pub use laws::{kept_places_step, kept_versions_answer, kept_versions_step, versions_are_the_history, worked_compactions};
+pub use laws::{
+    kept_places_step, kept_versions_answer, kept_versions_step, versions_are_the_history,
+    worked_compactions,
+};
 pub use version::Version;
