@@ -1,11 +1,10 @@
 -- What is kept of two histories stays the same with a further revision, and with a later compaction.
-use Rattle.std.proofs.Common.{◌≡◌, ℕ, ◌+◌, ◌-◌, ◌≤◌, List, [], ◌∷◌, ◌++◌, None, length, drop, map, refl, sym, ◌∙◌, ap, arith, length-append}
-use Rattle.std.proofs.lemmas.List.{map-append, length-map, drop-append-le, drop-drop}
+use Rattle.std.proofs.Common.{◌≡◌, ℕ, ◌+◌, ◌-◌, ◌≤◌, List, [], ◌∷◌, ◌++◌, None, length, drop, refl, sym, ◌∙◌, ap, arith, length-append}
 use Rattle.store_model.specs.declared.history.KeyChange.{KeyChange}
 use Rattle.store_model.specs.History.{History, newest, with_revision}
 use Rattle.store_model.specs.State.{State}
 use Rattle.kept_model.specs.Versions.{last_left, versions_in, kept}
-use Rattle.kept_model.specs.Places.{changed_keys, kept_places}
+use Rattle.kept_model.specs.Places.{changed_keys}
 use Rattle.kept_model.proofs.KeptProofs.{kept_grow, kept_again}
 use Rattle.kept_model.proofs.PlaceProofs.{places_grow, places_again}
 use Rattle.kept_laws.specs.Alike.{KeepSame, Alike}

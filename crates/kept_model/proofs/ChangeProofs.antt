@@ -3,7 +3,7 @@ use Rattle.std.proofs.Common.{◌≡◌, ℕ, ◌+◌, Bool, true, false, cond, 
 use Rattle.etcd_types.specs.declared.record.Kv.{Kv}
 use Rattle.etcd_types.specs.Keys.{same}
 use Rattle.store_model.specs.declared.history.KeyChange.{KeyChange}
-use Rattle.store_model.specs.History.{History, newest, with_revision, changed_key}
+use Rattle.store_model.specs.History.{newest, with_revision, changed_key}
 use Rattle.store_model.specs.Records.{after_change, after_changes}
 use Rattle.kept_model.specs.declared.version.Version.{Version}
 use Rattle.kept_model.specs.Versions.{versions_in, last_left, kept_versions}

@@ -1,7 +1,6 @@
 -- The places of changes, with a further revision and with a later compaction.
-use Rattle.std.proofs.Common.{◌≡◌, ℕ, ◌+◌, ◌-◌, ◌≤◌, [], ◌∷◌, length, drop, map, sym, ◌∙◌, ap, arith}
+use Rattle.std.proofs.Common.{◌≡◌, ◌+◌, ◌-◌, ◌≤◌, [], ◌∷◌, length, drop, map, sym, ◌∙◌, ap, arith}
 use Rattle.std.proofs.lemmas.List.{map-append, length-map, drop-append-le, drop-drop}
-use Rattle.store_model.specs.History.{newest}
 use Rattle.kept_model.specs.Places.{changed_keys}
 use Rattle.kept_model.specs.KeyLaws.{PlacesGrow, PlacesAgain}
 
