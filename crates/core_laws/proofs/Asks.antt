@@ -40,8 +40,8 @@ use Rattle.core_model.specs.Lookups.{reads_of, with_reads, has_ticket, stage_cal
 use Rattle.core_model.specs.State.{Core}
 use Rattle.core_laws.proofs.Agreeing.{to_written, from_written}
 use Rattle.core_laws.proofs.Comes.{by_test}
-use Rattle.core_laws.proofs.Lists.{number_itself, all_pushed, any_pushed, once_pushed, one_of_push, map_pushed}
-use Rattle.core_laws.proofs.Requests.{is_free, free_out, free_group, free_calls, free_writes}
+use Rattle.core_laws.proofs.Lists.{nothing_more, number_itself, all_pushed, any_pushed, once_pushed, one_of_push, map_pushed}
+use Rattle.core_laws.proofs.Requests.{is_free, free_out, free_group, free_calls, free_writes, turn_free}
 use Rattle.core_laws.proofs.Whole.{Mid}
 
 -- its ticket is new
@@ -82,10 +82,6 @@ awaits_pushed x xs k (Some y) h = by_sending y.sending h
 
 groups_asked : (x : Asked) (out : List OutCall) (xs : List Asked) → group_stands out x.request x.stage ≡ true → GroupsOk out xs → GroupsOk out (xs ++ x ∷ [])
 groups_asked x out xs g h = record { one = h.one; stand = all_pushed (λ (a : Asked). group_stands out a.request a.stage) x xs h.stand g }
-
-nothing_more : {A : Type 0} (xs : List A) → xs ++ [] ≡ xs
-nothing_more [] = refl
-nothing_more (x ∷ xs) = ap (λ l. x ∷ l) (nothing_more xs)
 
 -- A request that waits for a call, its own or one that it shares.
 
@@ -188,17 +184,6 @@ write_mid most c a n w h =
     }
 
 -- A plain read.
-
-held_free : (h : Header) (step : ℕ) (e : Entry) (p : Phase) → is_free (held_turn h step e.kv p) ≡ true
-held_free h step e Held = refl
-held_free h step e (Writing revoked) = refl
-held_free h step e (Leaving sent) = refl
-
-turn_free : (h : Header) (step : ℕ) (e : Option Entry) (claimed : Bool) (under : Option ℕ) → is_free (read_turn h step e claimed under).stage ≡ true
-turn_free h step (Some e) claimed under = held_free h step e e.phase
-turn_free h step None true under = refl
-turn_free h step None false None = refl
-turn_free h step None false (Some n) = refl
 
 under_acquires : (h : Header) (step : ℕ) (e : Option Entry) (claimed : Bool) (under : Option ℕ) (n : ℕ) → (read_turn h step e claimed under).under ≡ Some n → (read_turn h step e claimed under).stage ≡ stage.Acquiring
 under_acquires h step (Some e) claimed under n t = absurd (cc)

@@ -11,7 +11,7 @@ use Rattle.core_model.specs.declared.out_call.OutCall.{OutCall}
 use Rattle.core_model.specs.declared.out_call.OutJob.{OutJob}
 use Rattle.core_model.specs.Fits.{has_number, once, job_at, passes, is_out_to, numbers_of, is_wait, wait_numbers, calls_of, NumbersOk}
 use Rattle.core_model.specs.Lookups.{is_out_as, out_at, without_out}
-use Rattle.core_laws.proofs.Lists.{same_number, number_itself, number_turned, all_kept, all_pushed, once_filtered, once_pushed, map_pushed, but, but_none, but_numbers, filtered_again}
+use Rattle.core_laws.proofs.Lists.{and_turned, same_number, number_itself, number_turned, all_kept, all_pushed, once_filtered, once_pushed, map_pushed, but, but_none, but_numbers, filtered_again}
 
 -- What a call is for.
 
@@ -175,16 +175,10 @@ once_without n (x ∷ xs) h = by_head (once_without n xs (and_second (not (has_n
 waits_without : (n : ℕ) (out : List OutCall) → wait_numbers (without_out n out) ≡ but n (wait_numbers out)
 waits_without n out = ap (map (λ (o : OutCall). o.call)) (filtered_again (λ (o : OutCall). is_wait o.job) (λ (o : OutCall). not (o.call == n)) out ∙ turned out) ∙ sym (but_numbers (λ (o : OutCall). o.call) n (λ (o : OutCall). is_wait o.job) out)
   where
-    swapped : (a b : Bool) → a && b ≡ b && a
-    swapped true true = refl
-    swapped true false = refl
-    swapped false true = refl
-    swapped false false = refl
-
     turned : (xs : List OutCall) → filter (λ (o : OutCall). not (o.call == n) && is_wait o.job) xs ≡ filter (λ (o : OutCall). is_wait o.job && not (o.call == n)) xs
     turned [] = refl
     turned (x ∷ xs) =
-        ap (λ b. cond b (x ∷ filter (λ (o : OutCall). not (o.call == n) && is_wait o.job) xs) (filter (λ (o : OutCall). not (o.call == n) && is_wait o.job) xs)) (swapped (not (x.call == n)) (is_wait x.job))
+        ap (λ b. cond b (x ∷ filter (λ (o : OutCall). not (o.call == n) && is_wait o.job) xs) (filter (λ (o : OutCall). not (o.call == n) && is_wait o.job) xs)) (and_turned (not (x.call == n)) (is_wait x.job))
         ∙ ap (λ l. cond (is_wait x.job && not (x.call == n)) (x ∷ l) l) (turned xs)
 
 numbers_left : (calls n : ℕ) (out : List OutCall) (waiting then : List WaitCall) → calls_of then ≡ wait_numbers (without_out n out) → NumbersOk calls out waiting → NumbersOk calls (without_out n out) then

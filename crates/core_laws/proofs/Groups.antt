@@ -18,7 +18,7 @@ use Rattle.core_model.specs.DueJobs.{lease_of}
 use Rattle.core_model.specs.Fits.{once, at_most_one, job_at, passes, numbers_of, is_keepalive, group_sending, group_stands, GroupsOk}
 use Rattle.core_model.specs.Groups.{keeps, is_group_of, is_out_for, is_due_stage, group_sent, is_out_stage, waits_next, group_ended}
 use Rattle.core_model.specs.Lookups.{without_out}
-use Rattle.core_laws.proofs.Lists.{same_number, number_itself, number_turned, all_kept, all_mapped, any_pushed, any_filtered, none_kept, one_of_push, one_of_last, one_of_filter, both_of_one}
+use Rattle.core_laws.proofs.Lists.{and_turned, same_number, number_itself, number_turned, all_kept, all_mapped, any_pushed, any_filtered, none_kept, one_of_push, one_of_last, one_of_filter, both_of_one}
 use Rattle.core_laws.proofs.Calls.{job_grown, job_last, job_without, only_found}
 use Rattle.core_laws.proofs.Comes.{by_test}
 
@@ -177,13 +177,7 @@ none_left n lease out xs f h = any_filtered (λ (o : OutCall). is_group_of lease
   where
     swapped : (ys : List OutCall) → list_any (λ (o : OutCall). not (o.call == n) && is_group_of lease o.job) ys ≡ list_any (λ (o : OutCall). is_group_of lease o.job && not (o.call == n)) ys
     swapped [] = refl
-    swapped (y ∷ ys) = ap (λ b. b || list_any (λ (o : OutCall). not (o.call == n) && is_group_of lease o.job) ys) (turned (not (y.call == n)) (is_group_of lease y.job)) ∙ ap (λ b. (is_group_of lease y.job && not (y.call == n)) || b) (swapped ys)
-      where
-        turned : (a b : Bool) → a && b ≡ b && a
-        turned true true = refl
-        turned true false = refl
-        turned false true = refl
-        turned false false = refl
+    swapped (y ∷ ys) = ap (λ b. b || list_any (λ (o : OutCall). not (o.call == n) && is_group_of lease o.job) ys) (and_turned (not (y.call == n)) (is_group_of lease y.job)) ∙ ap (λ b. (is_group_of lease y.job && not (y.call == n)) || b) (swapped ys)
 
     never : (ys : List OutCall) → list_any (λ (o : OutCall). is_group_of lease o.job && ((o.call == n) && not (o.call == n))) ys ≡ false
     never [] = refl

@@ -17,6 +17,18 @@ number_itself a = grind (arith, nat_tests)
 pub number_turned : (a b : ℕ) → (a == b) ≡ false → (b == a) ≡ false
 number_turned a b e = grind (arith, nat_tests)
 
+-- Tests and lists.
+
+pub and_turned : (a b : Bool) → a && b ≡ b && a
+and_turned true true = refl
+and_turned true false = refl
+and_turned false true = refl
+and_turned false false = refl
+
+pub nothing_more : {A : Type 0} (xs : List A) → xs ++ [] ≡ xs
+nothing_more [] = refl
+nothing_more (x ∷ xs) = ap (λ l. x ∷ l) (nothing_more xs)
+
 -- All and any.
 
 pub all_kept : {A : Type 0} (P Q : A → Bool) → ((a : A) → P a ≡ true → Q a ≡ true) → (xs : List A) → list_all P xs ≡ true → list_all Q xs ≡ true

@@ -31,7 +31,7 @@ use Rattle.core_model.specs.declared.out_call.OutCall.{OutCall}
 use Rattle.core_model.specs.declared.out_call.OutJob.{OutJob}
 use Rattle.core_model.specs.Fits.{has_number, once, job_at, is_ask_job, is_stage_out, group_stands, ask_tickets, writing_tickets, write_tickets, AsksOk, awaits, is_awaited, AreAwaited, GroupsOk}
 use Rattle.core_model.specs.Lookups.{has_ticket, stage_calls, calls_as, without_out}
-use Rattle.core_laws.proofs.Lists.{same_number, number_itself, all_mapped, any_kept, any_mapped, any_filtered, none_kept, one_of_map, both_of_one, once_is_one, once_filtered, same_numbers, but, but_numbers}
+use Rattle.core_laws.proofs.Lists.{and_turned, same_number, number_itself, all_mapped, any_kept, any_mapped, any_filtered, none_kept, one_of_map, both_of_one, once_is_one, once_filtered, same_numbers, but, but_numbers}
 use Rattle.core_laws.proofs.Calls.{out_left, not_its}
 use Rattle.core_laws.proofs.Comes.{by_test, come_tickets}
 use Rattle.core_laws.proofs.WaitEnds.{none_by, IsRemoved, EndsAs, removed_tickets, found_ticket}
@@ -172,15 +172,17 @@ held_free h step e Held = refl
 held_free h step e (Writing revoked) = refl
 held_free h step e (Leaving sent) = refl
 
-turn_free : (h : Header) (step : ℕ) (e : Option Entry) → is_free (read_turn h step e false None).stage ≡ true
-turn_free h step None = refl
-turn_free h step (Some e) = held_free h step e e.phase
+pub turn_free : (h : Header) (step : ℕ) (e : Option Entry) (claimed : Bool) (under : Option ℕ) → is_free (read_turn h step e claimed under).stage ≡ true
+turn_free h step (Some e) claimed under = held_free h step e e.phase
+turn_free h step None true under = refl
+turn_free h step None false None = refl
+turn_free h step None false (Some n) = refl
 
 pub placed_moves : (again : Bool) (h : Header) (g : Ground) (x : Asked) → Moves x (in_place again h g x)
 placed_moves again h g x =
     by_test (Moves x) (ask_stands g x) x (cond again (in_stage (read_turn h g.own.waits.step (at g.own.entries (ask_key x)) false None).stage x) (in_stage (called g.own.waits.step) x))
     (λ t. stays refl)
-    (λ t. by_test (Moves x) again (in_stage (read_turn h g.own.waits.step (at g.own.entries (ask_key x)) false None).stage x) (in_stage (called g.own.waits.step) x) (λ u. frees refl (turn_free h g.own.waits.step (at g.own.entries (ask_key x)))) (λ u. frees refl refl))
+    (λ t. by_test (Moves x) again (in_stage (read_turn h g.own.waits.step (at g.own.entries (ask_key x)) false None).stage x) (in_stage (called g.own.waits.step) x) (λ u. frees refl (turn_free h g.own.waits.step (at g.own.entries (ask_key x)) false None)) (λ u. frees refl refl))
 
 read_waits : (ticket : ℕ) (e : Option Entry) (c : Option Acquire) (s : Stage) → stands ticket e c s ≡ false → is_writes s ≡ false
 read_waits ticket e c (stage.Calling s) h = refl
@@ -199,7 +201,7 @@ placed_writes again h g x =
     (λ t. refl)
     (λ t.
     let n = read_waits x.ticket (at g.own.entries (ask_key x)) (at g.acquires (ask_key x)) x.stage t in
-    by_test (λ (y : Asked). is_writes y.stage ≡ is_writes x.stage) again again_ask plain_ask (λ u. free_writes again_ask.stage (turn_free h g.own.waits.step (at g.own.entries (ask_key x))) ∙ sym n) (λ u. sym n))
+    by_test (λ (y : Asked). is_writes y.stage ≡ is_writes x.stage) again again_ask plain_ask (λ u. free_writes again_ask.stage (turn_free h g.own.waits.step (at g.own.entries (ask_key x)) false None) ∙ sym n) (λ u. sym n))
 
 -- A read whose acquire is due stands, and so it stays.
 
@@ -274,20 +276,14 @@ settled_asks (settled.Failed ticket) ws vs xs e h =
 -- the read that a due acquire is for is no write
 
 pub is_writing : (ticket : ℕ) (xs : List Asked) → has_number (writing_tickets xs) ticket ≡ true → list_any (λ a. has_ticket ticket a && is_writes a.stage) xs ≡ true
-is_writing ticket xs h = sym (ap (λ (p : Bool). p) (any_turned xs)) ∙ h
+is_writing ticket xs h = sym (any_turned xs) ∙ h
   where
-    swapped : (a b : Bool) → a && b ≡ b && a
-    swapped true true = refl
-    swapped true false = refl
-    swapped false true = refl
-    swapped false false = refl
-
     any_turned : (ys : List Asked) → has_number (writing_tickets ys) ticket ≡ list_any (λ a. has_ticket ticket a && is_writes a.stage) ys
     any_turned ys = any_mapped (λ m. m == ticket) (λ (a : Asked). a.ticket) (filter (λ (a : Asked). is_writes a.stage) ys) ∙ any_filtered (λ (a : Asked). a.ticket == ticket) (λ (a : Asked). is_writes a.stage) ys ∙ each ys
       where
         each : (zs : List Asked) → list_any (λ (a : Asked). is_writes a.stage && (a.ticket == ticket)) zs ≡ list_any (λ a. has_ticket ticket a && is_writes a.stage) zs
         each [] = refl
-        each (z ∷ zs) = ap (λ b. b || list_any (λ (a : Asked). is_writes a.stage && (a.ticket == ticket)) zs) (swapped (is_writes z.stage) (z.ticket == ticket)) ∙ ap (λ b. (has_ticket ticket z && is_writes z.stage) || b) (each zs)
+        each (z ∷ zs) = ap (λ b. b || list_any (λ (a : Asked). is_writes a.stage && (a.ticket == ticket)) zs) (and_turned (is_writes z.stage) (z.ticket == ticket)) ∙ ap (λ b. (has_ticket ticket z && is_writes z.stage) || b) (each zs)
 
 reads_no_write : (ticket : ℕ) (k : List ℕ) (xs : List Asked) → once (ask_tickets xs) ≡ true → list_any (λ a. has_ticket ticket a && acquires_at k a) xs ≡ true → has_number (writing_tickets xs) ticket ≡ true → ⊥
 reads_no_write ticket k xs u r w =

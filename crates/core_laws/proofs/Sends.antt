@@ -41,7 +41,7 @@ use Rattle.core_laws.proofs.Calls.{job_last, out_grown, is_new, is_new_wait, num
 use Rattle.core_laws.proofs.Comes.{by_test}
 use Rattle.core_laws.proofs.Due.{is_called_due, DueOk}
 use Rattle.core_laws.proofs.Groups.{NoGroup, groups_pushed, groups_sent}
-use Rattle.core_laws.proofs.Lists.{same_number, all_kept, all_mapped, one, one_is, one_of_map, once_is_one, same_numbers, but, but_none, but_numbers}
+use Rattle.core_laws.proofs.Lists.{nothing_more, same_number, all_kept, all_mapped, one, one_is, one_of_map, once_is_one, same_numbers, but, but_none, but_numbers}
 use Rattle.core_laws.proofs.Requests.{asks_changed, awaited_changed, acquires_is, same_tickets, is_writing}
 use Rattle.core_laws.proofs.TakenOff.{never_both}
 use Rattle.core_laws.proofs.WaitEnds.{none_by}
@@ -74,13 +74,9 @@ stage_grown x out (stage.Replied v) h = refl
 all_grown : (x : OutCall) (out : List OutCall) (xs : List Asked) → list_all (λ a. is_stage_out out a.stage) xs ≡ true → list_all (λ a. is_stage_out (out ++ x ∷ []) a.stage) xs ≡ true
 all_grown x out xs h = all_kept (λ (a : Asked). is_stage_out out a.stage) (λ (a : Asked). is_stage_out (out ++ x ∷ []) a.stage) (λ a t. stage_grown x out a.stage t) xs h
 
-nothing_more : (ns : List ℕ) → ns ≡ ns ++ []
-nothing_more [] = refl
-nothing_more (n ∷ ns) = ap (λ l. n ∷ l) (nothing_more ns)
-
 -- another than a write's
 plain_numbers : (c : Core) (now : ℕ) (j : OutJob) → is_wait j ≡ false → Agrees c → NumbersOk (next_call c) (c.out ++ out_call now j c ∷ []) c.own.waits.out
-plain_numbers c now j w h = numbers_sent c.calls (out_call now j c) c.out c.own.waits.out c.own.waits.out refl (nothing_more (calls_of c.own.waits.out) ∙ ap (λ b. calls_of c.own.waits.out ++ cond b (next_call c ∷ []) []) (sym w)) h.numbers
+plain_numbers c now j w h = numbers_sent c.calls (out_call now j c) c.out c.own.waits.out c.own.waits.out refl (sym (nothing_more (calls_of c.own.waits.out)) ∙ ap (λ b. calls_of c.own.waits.out ++ cond b (next_call c ∷ []) []) (sym w)) h.numbers
 
 newest : (c : Core) (now : ℕ) (j : OutJob) → Agrees c → job_at (next_call c) (c.out ++ out_call now j c ∷ []) ≡ Some j
 newest c now j h = job_last (out_call now j c) c.out (is_new c.calls c.out c.own.waits.out h.numbers)

@@ -28,17 +28,11 @@ use Rattle.core_model.specs.State.{Core}
 use Rattle.core_model.specs.Takes.{gone, has_left}
 use Rattle.core_laws.proofs.Agreeing.{to_written, from_written, released_agrees, acquires_without}
 use Rattle.core_laws.proofs.Comes.{by_test}
-use Rattle.core_laws.proofs.Lists.{number_itself, number_turned, all_filtered, any_mapped, any_pushed, any_filtered, none_kept, both_of_one, once_is_one, once_filtered, one_of_map, one_of_filter, same_numbers, filtered_again, but, but_none, but_numbers}
+use Rattle.core_laws.proofs.Lists.{and_turned, number_itself, number_turned, all_filtered, any_mapped, any_pushed, any_filtered, none_kept, both_of_one, once_is_one, once_filtered, one_of_map, one_of_filter, same_numbers, filtered_again, but, but_none, but_numbers}
 use Rattle.core_laws.proofs.Requests.{Moves, stays, frees, moved_ticket, moved_calls, all_out, all_groups, same_tickets, is_writing, acquires_is, once_writing}
 use Rattle.core_laws.proofs.WaitEnds.{Forgets, forgets}
 
 -- Those that are forgotten.
-
-swapped : (a b : Bool) → a && b ≡ b && a
-swapped true true = refl
-swapped true false = refl
-swapped false true = refl
-swapped false false = refl
 
 pub same_filters : {A : Type 0} (p q : A → Bool) → ((x : A) → p x ≡ q x) → (xs : List A) → filter p xs ≡ filter q xs
 same_filters p q e [] = refl
@@ -223,7 +217,7 @@ groups_filtered q out xs h = record { one = h.one; stand = all_filtered (λ (a :
 left_off : (ticket : ℕ) (c : Core) → Agrees c → TakenOff (has_ticket ticket) c.asks (without_ask ticket c.asks)
 left_off ticket c h = record {
   once = once_filtered (λ (a : Asked). a.ticket) (λ a. not (has_ticket ticket a)) c.asks h.asks.once;
-  writes = ap (map (λ (a : Asked). a.ticket)) (same_filters (λ (a : Asked). is_writes a.stage && not (has_ticket ticket a)) (λ (a : Asked). not (has_ticket ticket a) && is_writes a.stage) (λ a. swapped (is_writes a.stage) (not (has_ticket ticket a))) c.asks ∙ sym (filtered_again (λ (a : Asked). is_writes a.stage) (λ a. not (has_ticket ticket a)) c.asks));
+  writes = ap (map (λ (a : Asked). a.ticket)) (same_filters (λ (a : Asked). is_writes a.stage && not (has_ticket ticket a)) (λ (a : Asked). not (has_ticket ticket a) && is_writes a.stage) (λ a. and_turned (is_writes a.stage) (not (has_ticket ticket a))) c.asks ∙ sym (filtered_again (λ (a : Asked). is_writes a.stage) (λ a. not (has_ticket ticket a)) c.asks));
   calls = λ n. one_of_filter (calls_as n) (λ a. not (has_ticket ticket a)) c.asks (h.asks.calls_once n);
   reads = λ other k n r. any_filtered (λ a. has_ticket other a && acquires_at k a) (λ a. not (has_ticket ticket a)) c.asks ∙ standing other k c.asks n r;
   stages = λ out s. all_filtered (λ (a : Asked). is_stage_out out a.stage) (λ a. not (has_ticket ticket a)) c.asks s;

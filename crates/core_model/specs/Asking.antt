@@ -1,12 +1,9 @@
 -- A request is asked: it is refused; a plain read goes by its key, a write waits for its turn, a transaction that only reads is
 -- answered from held records where all of its keys are held, a keepalive joins the others of its lease, and all else is passed on.
-use Rattle.std.specs.Prelude.{ℕ, Bool, true, false, not, ◌&&◌, if◌then◌else◌, List, [], ◌∷◌, ◌++◌, Option, None, Some, is_some}
-use Rattle.std.specs.Option.{option_map}
-use Rattle.etcd_types.specs.declared.answer.Answer.{Answer}
+use Rattle.std.specs.Prelude.{ℕ, Bool, false, not, ◌&&◌, if◌then◌else◌, List, [], ◌∷◌, ◌++◌, Option, None, Some}
 use Rattle.etcd_types.specs.declared.answer.Answer.TheVariants.{Done, Refused}
 use Rattle.etcd_types.specs.declared.answer.Body.{Body}
 use Rattle.etcd_types.specs.declared.answer.Refusal.{Refusal}
-use Rattle.etcd_types.specs.declared.record.Header.{Header}
 use Rattle.etcd_types.specs.declared.record.Kv.{Kv}
 use Rattle.etcd_types.specs.declared.request.Request.{Request}
 use Rattle.etcd_types.specs.declared.request.Request.TheVariants as request
@@ -16,14 +13,12 @@ use Rattle.proxy_model.specs.Keyed.{Keyed, at}
 use Rattle.proxy_model.specs.LeaseTable.{is_held}
 use Rattle.proxy_model.specs.Prefixes.{leasing_range}
 use Rattle.proxy_model.specs.Snapshot.{is_plain, snapshot}
-use Rattle.wait_model.specs.declared.sending.Sending.TheVariants as sending
 use Rattle.wait_model.specs.Asked.{submitted}
 use Rattle.read_model.specs.declared.asked.Asked.{Asked}
 use Rattle.read_model.specs.declared.asked.Stage.{Stage}
 use Rattle.read_model.specs.declared.asked.Stage.TheVariants as stage
-use Rattle.read_model.specs.declared.asked.Verdict.TheVariants as verdict
 use Rattle.read_model.specs.Acquires.{read_asked}
-use Rattle.read_model.specs.PlainRead.{key_of, ask_key, called, decided_ask, in_stage}
+use Rattle.read_model.specs.PlainRead.{key_of, called, decided_ask, in_stage}
 use Rattle.read_model.specs.State.{Moment, ground_of}
 use Rattle.core_model.specs.declared.event.Outcome.TheVariants as outcome
 use Rattle.core_model.specs.declared.event.StepFault.TheVariants as fault

@@ -10,7 +10,6 @@ use Rattle.wait_model.specs.declared.due.Place.{Place}
 use Rattle.wait_model.specs.declared.sending.Sending.{Sending}
 use Rattle.wait_model.specs.declared.sending.Sending.TheVariants as sending
 use Rattle.wait_model.specs.DueOrder.{place_at, is_earlier, first_place, first_rescind}
-use Rattle.wait_model.specs.State.{Ownership}
 use Rattle.read_model.specs.declared.acquire.Acquire.{Acquire}
 use Rattle.read_model.specs.declared.asked.Asked.{Asked}
 use Rattle.read_model.specs.declared.asked.Stage.{Stage}

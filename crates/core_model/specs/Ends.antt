@@ -1,15 +1,12 @@
 -- Calls end: each is answered or lost once. What an answer does goes by what its call is for; one that can't be an answer to
 -- the call counts as a loss. What was replied, or whose client left, is at no stage any more, so a late end of its call finds nothing.
-use Rattle.std.specs.Prelude.{ℕ, ◌+◌, ◌*◌, Bool, true, false, ◌&&◌, nat_le, if◌then◌else◌, List, [], ◌∷◌, map, Option, None, Some}
+use Rattle.std.specs.Prelude.{ℕ, ◌+◌, ◌*◌, Bool, true, ◌&&◌, nat_le, if◌then◌else◌, map, Option, None, Some}
 use Rattle.etcd_types.specs.declared.answer.Answer.{Answer}
 use Rattle.etcd_types.specs.declared.answer.Answer.TheVariants.{Done, Refused}
-use Rattle.etcd_types.specs.declared.answer.Body.{Body}
 use Rattle.etcd_types.specs.declared.answer.Reply.{Reply}
 use Rattle.proxy_model.specs.Members.{failed, is_stale}
 use Rattle.read_model.specs.declared.asked.Asked.{Asked}
-use Rattle.read_model.specs.declared.asked.Stage.{Stage}
 use Rattle.read_model.specs.declared.asked.Stage.TheVariants as stage
-use Rattle.read_model.specs.declared.asked.Verdict.{Verdict}
 use Rattle.read_model.specs.declared.asked.Verdict.TheVariants as verdict
 use Rattle.read_model.specs.Acquires.{AfterAcquire, acquire_answered, acquire_lost, lost_once}
 use Rattle.read_model.specs.PlainRead.{called, in_stage}

@@ -1,7 +1,6 @@
 -- The leasing stream, by which a proxy is told of the ownership keys: opened at the first tick, and again wherever it broke off.
 -- Each time that it is due it has a new number.
-use Rattle.std.specs.Prelude.{ℕ, ◌+◌, Bool, true, false, not, ◌==◌, ◌||◌, if◌then◌else◌, List, [], ◌∷◌, Ok, Err, Option, None, Some}
-use Rattle.etcd_types.specs.declared.key_range.KeyRange.{KeyRange}
+use Rattle.std.specs.Prelude.{ℕ, ◌+◌, Bool, false, not, ◌==◌, ◌||◌, if◌then◌else◌, List, Ok, Err, Option, None, Some}
 use Rattle.etcd_types.specs.declared.record.Header.{Header}
 use Rattle.etcd_types.specs.declared.request.Request.{Request}
 use Rattle.etcd_types.specs.declared.request.Request.TheVariants as request

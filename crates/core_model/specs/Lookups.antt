@@ -1,6 +1,5 @@
 -- Looking things up in the state of a proxy, and putting its parts back.
-use Rattle.std.specs.Prelude.{ℕ, Bool, true, false, not, ◌==◌, ◌||◌, if◌then◌else◌, List, [], ◌∷◌, filter, Option, None, Some, is_some}
-use Rattle.etcd_types.specs.declared.record.Header.{Header}
+use Rattle.std.specs.Prelude.{ℕ, Bool, false, not, ◌==◌, ◌||◌, if◌then◌else◌, List, [], ◌∷◌, filter, Option, None, Some, is_some}
 use Rattle.etcd_types.specs.Keys.{is_empty}
 use Rattle.proxy_model.specs.Session.{is_live}
 use Rattle.wait_model.specs.declared.sending.Sending.{Sending}

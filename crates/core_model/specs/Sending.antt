@@ -15,7 +15,6 @@ use Rattle.read_model.specs.declared.asked.Asked.{Asked}
 use Rattle.read_model.specs.declared.asked.Stage.TheVariants as stage
 use Rattle.read_model.specs.Acquires.{acquire_sent}
 use Rattle.read_model.specs.PlainRead.{in_stage}
-use Rattle.core_model.specs.declared.event.Job.{Job}
 use Rattle.core_model.specs.declared.event.Job.TheVariants as sent
 use Rattle.core_model.specs.declared.event.Outcome.TheVariants as outcome
 use Rattle.core_model.specs.declared.out_call.OutCall.{OutCall}

@@ -1,5 +1,5 @@
 -- What a step gives, and what stands then.
-use Rattle.std.specs.Prelude.{ℕ, ◌+◌, Result, Ok, Err}
+use Rattle.std.specs.Prelude.{◌+◌, Result, Ok, Err}
 use Rattle.etcd_types.specs.declared.answer.Answer.{Answer}
 use Rattle.core_model.specs.declared.event.Outcome.{Outcome}
 use Rattle.core_model.specs.declared.event.Outcome.TheVariants as outcome

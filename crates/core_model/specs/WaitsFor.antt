@@ -1,6 +1,6 @@
 -- What a request without a reply waits for, read off the state: a call that names it, an acquire or an owner write of its key, what
 -- holds its write back, an owner that was asked and whose deletion isn't told yet, an earlier write, or a keepalive that is out.
-use Rattle.std.specs.Prelude.{◌≡◌, ◌⊎◌, ℕ, Bool, true, false, not, List, [], ◌∷◌, ◌++◌, Option, None, Some, is_some}
+use Rattle.std.specs.Prelude.{◌≡◌, ◌⊎◌, ℕ, Bool, true, false, not, List, [], ◌∷◌, ◌++◌, Option, None, Some}
 use Rattle.std.specs.List.{list_any, list_all}
 use Rattle.proxy_model.specs.Keyed.{at}
 use Rattle.wait_model.specs.declared.sending.Sending.{Sending}

@@ -1,6 +1,6 @@
 -- Client watches: a watch joins a stream of its range when it is asked, and takes the messages that were queued for it. Streams are
 -- opened without filters and with the records before, and ask for progress, so that watches of any kind can share them.
-use Rattle.std.specs.Prelude.{ℕ, true, false, if◌then◌else◌, Ok, Err, Option, None, Some, is_some, ◌||◌, Bool}
+use Rattle.std.specs.Prelude.{ℕ, true, false, if◌then◌else◌, Ok, Err, Option, None, Some}
 use Rattle.etcd_types.specs.declared.key_range.KeyRange.{KeyRange}
 use Rattle.etcd_types.specs.declared.request.Request.{Request}
 use Rattle.etcd_types.specs.declared.request.Request.TheVariants as request

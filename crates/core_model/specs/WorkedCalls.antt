@@ -1,11 +1,9 @@
 -- Worked runs of requests that are refused, passed on, answered from held records, or share a call; of stale and late answers; and
 -- of numbers that nothing has.
-use Rattle.std.specs.Prelude.{◌≡◌, ℕ, ◌^◌, true, false, codes, List, [], ◌∷◌, ◌++◌, None, Some, Ok, Err}
+use Rattle.std.specs.Prelude.{◌≡◌, ℕ, ◌^◌, true, false, codes, List, [], ◌∷◌, None, Some, Ok, Err}
 use Rattle.etcd_types.specs.declared.answer.Answer.{Answer}
 use Rattle.etcd_types.specs.declared.answer.Answer.TheVariants as answer
 use Rattle.etcd_types.specs.declared.answer.Body.TheVariants as body
-use Rattle.etcd_types.specs.declared.operation.Op.{Op}
-use Rattle.etcd_types.specs.declared.operation.Compare.{Compare}
 use Rattle.etcd_types.specs.declared.operation.Relation.TheVariants as relation
 use Rattle.etcd_types.specs.declared.operation.Target.TheVariants as target
 use Rattle.etcd_types.specs.declared.request.Request.{Request}
@@ -24,7 +22,7 @@ use Rattle.core_model.specs.Refusals.{reserved_range}
 use Rattle.core_model.specs.Step.{stepped}
 use Rattle.core_model.specs.Stepped.{faults}
 use Rattle.core_model.specs.Verdicts.{timed_out, no_greater_revision}
-use Rattle.core_model.specs.WorkedRuns.{Timed, outcomes, at_first, proxy_of, plain_proxy, leasing_proxy, holding_core, asks, works, takes, takes_at, answers, answers_at, loses, done, head, waits, pends, notes, replies, sends, sends_nothing, get_a, put_a, none_there, session}
+use Rattle.core_model.specs.WorkedRuns.{Timed, outcomes, at_first, proxy_of, plain_proxy, leasing_proxy, holding_core, asks, works, takes, takes_at, answers, answers_at, loses, done, waits, pends, notes, replies, sends, sends_nothing, get_a, put_a, none_there}
 
 abbrev put_at : List ℕ → ℕ → Request
 put_at k lease = request.Put (record { key = k; value = codes "x"; lease = lease; prev_kv = false; ignore_lease = false })

@@ -1,5 +1,5 @@
 -- Worked runs of plain reads: cached, acquired, given up, timed out.
-use Rattle.std.specs.Prelude.{◌≡◌, ℕ, codes, List, [], ◌∷◌, ◌++◌, None}
+use Rattle.std.specs.Prelude.{◌≡◌, codes, [], ◌∷◌, ◌++◌, None}
 use Rattle.etcd_types.specs.declared.answer.Answer.TheVariants as answer
 use Rattle.etcd_types.specs.declared.answer.Body.TheVariants as body
 use Rattle.proxy_model.specs.PassingOn.{call_lost}

@@ -1,11 +1,9 @@
 -- Worked runs: what a proxy of one member answers to a list of events, each at its reading of the clock. Leasing is by the prefix L/.
-use Rattle.std.specs.Prelude.{ℕ, true, false, codes, List, [], ◌∷◌, ◌++◌, Option, None, Some, Result, Ok, Err}
+use Rattle.std.specs.Prelude.{ℕ, true, false, codes, List, [], ◌∷◌, ◌++◌, None, Some, Result, Ok}
 use Rattle.etcd_types.specs.declared.answer.Answer.{Answer}
 use Rattle.etcd_types.specs.declared.answer.Answer.TheVariants as answer
 use Rattle.etcd_types.specs.declared.answer.Body.{Body}
 use Rattle.etcd_types.specs.declared.answer.Body.TheVariants as body
-use Rattle.etcd_types.specs.declared.operation.Op.TheVariants as op
-use Rattle.etcd_types.specs.declared.operation.TxnAsk.{TxnAsk}
 use Rattle.etcd_types.specs.declared.record.Header.{Header}
 use Rattle.etcd_types.specs.declared.record.Kv.{Kv}
 use Rattle.etcd_types.specs.declared.request.Request.{Request}
@@ -20,7 +18,6 @@ use Rattle.proxy_model.specs.Leaving.{rescind}
 use Rattle.proxy_model.specs.Prefixes.{only, leasing_range}
 use Rattle.core_model.specs.declared.event.CoreEvent.{CoreEvent}
 use Rattle.core_model.specs.declared.event.CoreEvent.TheVariants as event
-use Rattle.core_model.specs.declared.event.Job.{Job}
 use Rattle.core_model.specs.declared.event.Job.TheVariants as job
 use Rattle.core_model.specs.declared.event.Outcome.{Outcome}
 use Rattle.core_model.specs.declared.event.Outcome.TheVariants as outcome

@@ -1,5 +1,5 @@
 -- Worked runs of sessions and of the leasing stream. `a` is held as absent at the start.
-use Rattle.std.specs.Prelude.{◌≡◌, ℕ, true, false, codes, List, [], ◌∷◌, ◌++◌, None, Some, Result, Ok}
+use Rattle.std.specs.Prelude.{◌≡◌, ℕ, true, false, codes, [], ◌∷◌, None, Some, Result, Ok}
 use Rattle.etcd_types.specs.declared.answer.Answer.TheVariants as answer
 use Rattle.etcd_types.specs.declared.answer.Body.TheVariants as body
 use Rattle.etcd_types.specs.declared.request.Request.{Request}
@@ -13,7 +13,7 @@ use Rattle.core_model.specs.declared.event.Outcome.{Outcome}
 use Rattle.core_model.specs.declared.event.Outcome.TheVariants as outcome
 use Rattle.core_model.specs.declared.event.StepFault.{StepFault}
 use Rattle.core_model.specs.Takes.{peek, ready}
-use Rattle.core_model.specs.WorkedRuns.{Timed, outcomes, ran, at_time, at_first, opened_core, holding_core, asks, asks_at, works, works_at, answers_at, takes, done, head, waits, notes, replies, sends, get_a, put_a, none_there, acquire_of_a, guarded_put, put_done, rescind_of_a, owned_by_other, ask_of_a, record_a, answers, session}
+use Rattle.core_model.specs.WorkedRuns.{Timed, outcomes, ran, at_time, at_first, opened_core, holding_core, asks, asks_at, works, works_at, answers_at, done, head, waits, notes, replies, sends, get_a, put_a, none_there, acquire_of_a, guarded_put, put_done, rescind_of_a, owned_by_other, ask_of_a, record_a, answers, session}
 use Rattle.proxy_model.specs.Prefixes.{leasing_range}
 
 abbrev ticks_at : ℕ → Timed

@@ -1,5 +1,5 @@
 -- Worked runs of writes: as a guest, as the owner, with a lease, and of several keys.
-use Rattle.std.specs.Prelude.{◌≡◌, ℕ, true, false, codes, List, [], ◌∷◌, None}
+use Rattle.std.specs.Prelude.{◌≡◌, true, false, codes, List, [], ◌∷◌, None}
 use Rattle.etcd_types.specs.declared.answer.Body.TheVariants as body
 use Rattle.etcd_types.specs.declared.operation.Op.{Op}
 use Rattle.etcd_types.specs.declared.operation.Op.TheVariants as op
@@ -10,7 +10,7 @@ use Rattle.etcd_types.specs.declared.request.Request.TheVariants as request
 use Rattle.etcd_types.specs.declared.answer.Body.{Body}
 use Rattle.proxy_model.specs.Asks.{created_at, equals, put_op, read_op}
 use Rattle.proxy_model.specs.Prefixes.{only}
-use Rattle.core_model.specs.WorkedRuns.{outcomes, opened_core, holding_core, asks, works, takes, answers, tells, done, waits, notes, replies, sends, sends_nothing, get_a, put_a, none_there, one_there, record_a, guarded_put, put_done, rescind_of_a, rescind_done, ask_of_a, is_asked, is_deleted, owned_by_other, session}
+use Rattle.core_model.specs.WorkedRuns.{outcomes, opened_core, holding_core, asks, works, takes, answers, tells, done, waits, notes, replies, sends, sends_nothing, get_a, put_a, one_there, record_a, guarded_put, put_done, rescind_of_a, rescind_done, ask_of_a, is_asked, is_deleted, owned_by_other, session}
 
 -- a guest finds an owner, asks it, and goes on when it is told of the deletion
 abbrev pub GuestAsksOwner : Type 0

@@ -1,5 +1,5 @@
 -- What steps on ownership do at each key, as far as reads look at it: no key is owned by them, and no mark comes or goes.
-use Rattle.std.proofs.Common.{◌≡◌, ℕ, Bool, true, false, not, cond, nat_lt, ◌&&◌, ◌||◌, ◌==◌, List, [], ◌∷◌, filter, Option, None, Some, is_some, refl, sym, ◌∙◌, ap, subst}
+use Rattle.std.proofs.Common.{◌≡◌, ℕ, Bool, true, false, not, cond, nat_lt, ◌&&◌, ◌||◌, ◌==◌, List, [], ◌∷◌, Option, None, Some, is_some, refl, sym, ◌∙◌, ap, subst}
 use Rattle.std.specs.List.{list_any}
 use Rattle.etcd_types.specs.Keys.{same}
 use Rattle.etcd_types.proofs.KeyOrder.{same-equal}
@@ -27,7 +27,7 @@ use Rattle.wait_model.specs.Asked.{acquire_spoiled}
 use Rattle.wait_model.specs.Covers.{covers, leased, shares, is_by_keys, is_single}
 use Rattle.wait_model.specs.Edits.{each, without}
 use Rattle.wait_model.specs.Endings.{revoke_back, revoke_answered, answered_job, without_out, answered, lost_job, lost, given_back, forgotten_by, forgotten}
-use Rattle.wait_model.specs.ForeignOwnership.{by_key, is_own, owned_left, others}
+use Rattle.wait_model.specs.ForeignOwnership.{by_key, is_own, owned_left}
 use Rattle.wait_model.specs.GuardedAnswers.{Ending, owns, owns_at, change_owned, is_gone, kept_entries, other_owners, failed, done_if, write_answered, write_lost}
 use Rattle.wait_model.specs.LeasingStream.{all_given_up}
 use Rattle.wait_model.specs.Leaving.{rescinded, if_read, rescind_answered}

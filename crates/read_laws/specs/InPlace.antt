@@ -1,30 +1,13 @@
 -- The release as one change of each read in its place, and where that is the same: no read that is released makes an acquire then.
-use Rattle.std.specs.Prelude.{◌≡◌, ℕ, Bool, true, false, ◌==◌, if◌then◌else◌, List, [], ◌∷◌, ◌++◌, Option, None, Some, is_some}
+use Rattle.std.specs.Prelude.{◌≡◌, ℕ, Bool, true, false, List, Option, None, Some}
 use Rattle.etcd_types.specs.declared.answer.Answer.{Answer}
-use Rattle.proxy_model.specs.declared.lease.Entry.{Entry}
-use Rattle.proxy_model.specs.declared.lease.Phase.TheVariants.{Held}
-use Rattle.proxy_model.specs.Keyed.{at}
-use Rattle.read_model.specs.Acquires.{acquired, acquire_done, AfterAcquire, read_asked, acquire_answered, acquire_lost, acquire_sent}
-use Rattle.read_model.specs.Fits.{GroundOk, ReadsOk}
-use Rattle.read_model.specs.PlainRead.{ask_key, shown, acquirable, in_stage}
+use Rattle.read_model.specs.Acquires.{acquired, acquire_done}
+use Rattle.read_model.specs.Fits.{ReadsOk}
 use Rattle.read_model.specs.Release.{released, released_in_place, makes_none}
-use Rattle.read_model.specs.SessionEnd.{session_over}
-use Rattle.read_model.specs.State.{Reads, Moment, Ground, ground_of}
-use Rattle.read_model.specs.TakingOff.{taken_off}
-use Rattle.read_model.specs.WriteAnswers.{ending, went_on, wait_answered, wait_lost}
-use Rattle.wait_laws.specs.Laws.{OwnersCovered}
-use Rattle.wait_model.specs.Covers.{covers}
+use Rattle.read_model.specs.State.{Reads, Moment, ground_of}
+use Rattle.read_model.specs.WriteAnswers.{ending, wait_answered}
 use Rattle.wait_model.specs.Endings.{answered}
 use Rattle.wait_model.specs.GuardedAnswers.{Ending}
-use Rattle.wait_model.specs.LeasingStream.{resynced, all_given_up}
-use Rattle.wait_model.specs.Stages.{is_owner}
-use Rattle.wait_model.specs.Writes.{first_by, sends}
-use Rattle.wait_model.specs.declared.sending.Sending.TheVariants as sending
-use Rattle.wait_model.specs.declared.write.Write.{Write}
-use Rattle.read_model.specs.declared.asked.Asked.{Asked}
-use Rattle.read_model.specs.declared.acquire.Acquire.{Acquire}
-use Rattle.read_model.specs.declared.asked.Stage.{Stage}
-use Rattle.read_model.specs.declared.asked.Stage.TheVariants as stage
 use Rattle.std.specs.List.{list_all}
 use Rattle.etcd_types.specs.declared.record.Header.{Header}
 use Rattle.etcd_types.specs.declared.record.Kv.{Kv}
