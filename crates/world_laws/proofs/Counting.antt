@@ -6,7 +6,7 @@ use Rattle.script_text.specs.declared.line.Line.TheVariants as line
 use Rattle.world_laws.proofs.Lines.{taken_keeps}
 use Rattle.world_model.specs.declared.fault.LineRefusal.{LineRefusal}
 use Rattle.world_model.specs.State.{World, word}
-use Rattle.world_model.specs.Transcript.{Taken, done, counted_as, begun, next, taken, and_then, items_and_then, world_from, world_behind, transcript, transcript_from}
+use Rattle.world_model.specs.Transcript.{Taken, done, counted_as, begun, taken, and_then, items_and_then, world_from, world_behind, transcript, transcript_from}
 
 -- ---- items
 

@@ -2,9 +2,7 @@
 -- item first, and opens as many streams as watches of the store.
 use Rattle.std.proofs.Common.{◌≡◌, ◌⊎◌, inl, inr, ℕ, ◌==◌, Bool, true, false, cond, List, [], ◌∷◌, ◌++◌, ◌-◌, length, Option, None, Some, Result, Ok, Err, refl, sym, ◌∙◌, ap, subst, nat_lt, arith, length-append}
 use Rattle.std.proofs.lemmas.List.{length-set}
-use Rattle.std.specs.Prelude.{flat_map}
 use Rattle.etcd_types.specs.declared.answer.Answer.{Answer}
-use Rattle.etcd_types.specs.declared.answer.Answer.TheVariants.{Refused}
 use Rattle.etcd_types.specs.declared.request.Request.{Request}
 use Rattle.etcd_types.specs.declared.request.Request.TheVariants as request
 use Rattle.etcd_types.specs.declared.watch.WatchItem.{WatchItem}
@@ -15,8 +13,7 @@ use Rattle.store_model.specs.declared.store_fault.StoreFault.{StoreFault}
 use Rattle.store_model.specs.Leases.{expired}
 use Rattle.store_model.specs.Members.{applied}
 use Rattle.store_model.specs.State.{State}
-use Rattle.store_model.specs.Step.{exec}
-use Rattle.store_model.specs.Watches.{Pushed, opened, pushed as push_of, progressed}
+use Rattle.store_model.specs.Watches.{Pushed, pushed as push_of, progressed}
 use Rattle.core_model.specs.declared.event.CoreEvent.{CoreEvent}
 use Rattle.core_model.specs.declared.event.Job.{Job}
 use Rattle.core_model.specs.declared.event.Job.TheVariants as job
@@ -25,7 +22,6 @@ use Rattle.core_model.specs.declared.event.Outcome.TheVariants as outcome
 use Rattle.core_model.specs.declared.event.StepFault.{StepFault}
 use Rattle.core_model.specs.Lookups.{is_known}
 use Rattle.core_model.specs.Step.{stepped}
-use Rattle.core_model.specs.Stepped.{Stepped}
 use Rattle.script_text.specs.declared.line.Line.{Line}
 use Rattle.script_text.specs.declared.line.Line.TheVariants as line
 use Rattle.script_text.specs.declared.item.Item.{Item}
@@ -33,16 +29,16 @@ use Rattle.script_text.specs.declared.item.Item.TheVariants as item
 use Rattle.world_model.specs.declared.fault.LineRefusal.{LineRefusal}
 use Rattle.world_model.specs.declared.fault.WorldFault.{WorldFault}
 use Rattle.world_model.specs.declared.sent_call.SentCall.{SentCall}
-use Rattle.world_model.specs.Asks.{told_at_once, was_asked, asks, asked_at, asked, posted_as, posted_at, posted}
-use Rattle.world_model.specs.Calls.{executed_as, executed_if, executed_of, executed, was_answered, answered_as, answered_at, answered_of, answered, was_lost, lost_at, lost_of, lost}
-use Rattle.world_model.specs.Gains.{gained, line_if, taken_items}
-use Rattle.world_model.specs.Places.{nth, kept_at, with_kept, place_at, if_life, place_in, unless, call_place, stream_place, ended, is_among, with_core, with_place, with_ticket, with_posted}
+use Rattle.world_model.specs.Asks.{told_at_once, was_asked, asked_at, asked, posted_as, posted_at, posted}
+use Rattle.world_model.specs.Calls.{executed_if, executed_of, was_answered, answered_as, answered_at, answered_of, was_lost, lost_at, lost_of}
+use Rattle.world_model.specs.Gains.{gained, line_if}
+use Rattle.world_model.specs.Places.{nth, kept_at, with_kept, place_at, if_life, unless, call_place, stream_place, ended, is_among, with_core, with_place, with_ticket, with_posted}
 use Rattle.world_model.specs.Sends.{next_call, next_stream, stream_opened, closed_in, stream_closed, job_done, worked, sent_at, sent}
-use Rattle.world_model.specs.Starts.{started_over, started, clock_set_at, clock_set, looked, ticked_at, ticked}
+use Rattle.world_model.specs.Starts.{started_over, clock_set_at, clock_set, looked, ticked_at, ticked}
 use Rattle.world_model.specs.State.{Place, OpenedStream, World}
-use Rattle.world_model.specs.Steps.{Step, at_place_of, at_place, by_outcome, after_core, steps}
-use Rattle.world_model.specs.StoreLines.{not_due, expired_if, expired_by, lease_expired, store_stepped, member_applied}
-use Rattle.world_model.specs.Streams.{pushed_as, pushed_at, pushed_of, message_pushed, progress_pushed, open_place, was_delivered, delivered_as, delivered_at, delivered_of, delivered, was_cut, cut_at, cut_of, cut}
+use Rattle.world_model.specs.Steps.{Step, at_place_of, by_outcome, steps}
+use Rattle.world_model.specs.StoreLines.{not_due, expired_if, expired_by, store_stepped}
+use Rattle.world_model.specs.Streams.{pushed_as, pushed_at, pushed_of, open_place, was_delivered, delivered_as, delivered_at, delivered_of, was_cut, cut_at, cut_of}
 use Rattle.world_model.specs.Takes.{is_watch, took, taken_if, taken_at, message_taken, has_left, left_if, left_at, left}
 use Rattle.world_model.specs.Transcript.{Done, step, done}
 use Rattle.store_laws.proofs.RequestProofs.{whole-exec}

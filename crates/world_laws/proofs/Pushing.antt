@@ -1,7 +1,6 @@
 -- What the store has for a stream is told by the kind of the message: a push never gives a message without events, and a progress
 -- gives no other.
-use Rattle.std.proofs.Common.{◌≡◌, ℕ, ◌==◌, Bool, true, false, cond, not, nat_lt, List, [], ◌∷◌, Option, None, Some, Result, Ok, Err, refl, sym, ◌∙◌, ap, subst}
-use Rattle.etcd_types.specs.declared.record.Header.{Header}
+use Rattle.std.proofs.Common.{◌≡◌, ℕ, ◌==◌, Bool, true, false, cond, not, nat_lt, List, [], ◌∷◌, Option, None, Some, Ok, Err, refl, subst}
 use Rattle.etcd_types.specs.declared.watch.Event.{Event}
 use Rattle.etcd_types.specs.declared.watch.WatchItem.{WatchItem}
 use Rattle.etcd_types.specs.declared.watch.WatchItem.TheVariants.{Created, Events, Canceled}

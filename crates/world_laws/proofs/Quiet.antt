@@ -1,5 +1,5 @@
 -- Items that tell nothing of the store, as replies are.
-use Rattle.std.proofs.Common.{◌≡◌, ℕ, Bool, true, false, List, [], ◌∷◌, ◌++◌, refl, sym, ◌∙◌, ap, Option, Some}
+use Rattle.std.proofs.Common.{◌≡◌, ℕ, Bool, true, false, List, [], ◌∷◌, ◌++◌, refl, ◌∙◌, Some}
 use Rattle.std.specs.Prelude.{flat_map}
 use Rattle.std.specs.BTreeSet.{BTreeSet}
 use Rattle.etcd_types.specs.declared.answer.Answer.{Answer}

@@ -1,6 +1,6 @@
 -- Each answer and each message of a transcript is the store's: an induction over its lines, in which the world's store and calls
 -- are those that the items tell.
-use Rattle.std.proofs.Common.{◌≡◌, ℕ, zero, suc, ◌+◌, ◌-◌, ◌==◌, Bool, true, false, cond, List, [], ◌∷◌, ◌++◌, Option, None, Some, Result, Ok, Err, refl, sym, ◌∙◌, ap, subst, map, option_map, slice_get, set, nat_lt}
+use Rattle.std.proofs.Common.{◌≡◌, ℕ, zero, suc, ◌-◌, ◌==◌, Bool, true, false, cond, List, [], ◌∷◌, ◌++◌, Option, None, Some, Result, Ok, Err, refl, sym, ◌∙◌, ap, subst, map, option_map, slice_get, set, nat_lt}
 use Rattle.std.proofs.lemmas.List.{map-append}
 use Rattle.std.proofs.lemmas.Option.{slice_get-map}
 use Rattle.std.specs.Prelude.{flat_map}
@@ -33,22 +33,22 @@ use Rattle.script_text.specs.declared.item.Item.{Item}
 use Rattle.script_text.specs.declared.item.Item.TheVariants as item
 use Rattle.world_model.specs.declared.fault.WorldFault.{WorldFault}
 use Rattle.world_model.specs.declared.sent_call.SentCall.{SentCall}
-use Rattle.world_model.specs.Answers.{Seen, unseen, sent_call, after_call, after_step, after_push, saw, saw_all, seen, message_by, message_of, AnswersAreTheStores, MessagesAreTheStores}
+use Rattle.world_model.specs.Answers.{Seen, unseen, sent_call, after_call, after_step, after_push, saw, saw_all, message_by, message_of, AnswersAreTheStores, MessagesAreTheStores}
 use Rattle.world_model.specs.Asks.{told_at_once, was_asked, asks, asked_at, asked, post_refused, posted_as, posted_at, posted}
 use Rattle.world_model.specs.PostRefusals.{post_refusal}
 use Rattle.world_model.specs.Calls.{executed_as, executed_if, executed_of, executed, was_answered, answered_as, answered_at, answered_of, answered, was_lost, lost_at, lost_of, lost}
-use Rattle.world_model.specs.Gains.{Replies, Fetched, gained_by, gained, all_fetched, reply_items, taken_items}
+use Rattle.world_model.specs.Gains.{Replies, gained, all_fetched, reply_items}
 use Rattle.world_model.specs.Places.{nth, with_nth, with_kept, kept_at, place_at, call_place, stream_place, is_among, with_ticket, with_posted, with_core}
 use Rattle.world_model.specs.Sends.{next_call, next_stream, call_sent, stream_begun, stream_opened, closed_in, stream_closed, job_done, worked, sent_at, sent}
 use Rattle.world_model.specs.Starts.{started_over, started, clock_set_at, clock_set, looked, ticked_at, ticked}
 use Rattle.world_model.specs.State.{Place, OpenedStream, World}
-use Rattle.world_model.specs.Steps.{Step, at_place_of, at_place, by_outcome, after_core, steps}
+use Rattle.world_model.specs.Steps.{Step, at_place_of, by_outcome, after_core, steps}
 use Rattle.world_model.specs.StoreLines.{not_due, expired_if, expired_by, lease_expired, store_stepped, member_applied}
 use Rattle.world_model.specs.Streams.{pushed_as, pushed_at, pushed_of, message_pushed, progress_pushed, open_place, was_delivered, delivered_as, delivered_at, delivered_of, delivered, was_cut, cut_at, cut_of, cut}
 use Rattle.world_model.specs.Takes.{is_watch, took, taken_if, taken_at, message_taken, has_left, left_if, left_at, left}
 use Rattle.core_model.specs.Lookups.{is_known}
-use Rattle.world_model.specs.Transcript.{Done, step, done, Taken, counted, taken, begun, items_and_then, transcript, transcript_from}
-use Rattle.world_laws.proofs.Quiet.{IsTrue, AreTrue, AreTrue-append, AreTrue-later, saw_all-append, IsQuiet, no_items, reply_quiet, replies_quiet, taken_quiet}
+use Rattle.world_model.specs.Transcript.{step, Taken, counted, taken, begun, items_and_then, transcript, transcript_from}
+use Rattle.world_laws.proofs.Quiet.{IsTrue, AreTrue, AreTrue-append, AreTrue-later, saw_all-append, IsQuiet, reply_quiet, replies_quiet, taken_quiet}
 use Rattle.world_laws.proofs.Pushing.{pushed_so, progressed_so}
 
 abbrev pub member_and_request : SentCall → ℕ × Request

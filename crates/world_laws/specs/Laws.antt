@@ -1,5 +1,5 @@
 -- What holds of every script, of any number of proxies.
-use Rattle.std.specs.Prelude.{◌≡◌, ◌⊎◌, ℕ, ◌+◌, List, [], ◌∷◌, ◌++◌, length, Option, None, Some, Result, Ok, Err}
+use Rattle.std.specs.Prelude.{◌≡◌, ◌⊎◌, ℕ, ◌+◌, List, ◌∷◌, ◌++◌, length, Option, Some, Ok, Err}
 use Rattle.core_model.specs.declared.event.CoreEvent.{CoreEvent}
 use Rattle.core_model.specs.Step.{stepped}
 use Rattle.script_text.specs.declared.item.Item.{Item}
@@ -10,7 +10,7 @@ use Rattle.world_model.specs.Answers.{AnswersAreTheStores, MessagesAreTheStores}
 use Rattle.world_model.specs.declared.fault.LineRefusal.{LineRefusal}
 use Rattle.world_model.specs.Places.{place_at, with_place, with_core}
 use Rattle.world_model.specs.State.{Place, World, word}
-use Rattle.world_model.specs.Transcript.{done, transcript, transcript_from, world_from, world_behind}
+use Rattle.world_model.specs.Transcript.{done, transcript, transcript_from, world_behind}
 
 abbrev pub EachTranscriptHasTheStoresAnswers : Type 0
 EachTranscriptHasTheStoresAnswers = (lines : List Line) → AnswersAreTheStores (transcript lines)

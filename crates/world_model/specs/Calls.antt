@@ -1,6 +1,6 @@
 -- A call is executed at the store, answered or lost. It is executed at most once, whatever became of it at its proxy, and answered
 -- or lost at most once.
-use Rattle.std.specs.Prelude.{ℕ, true, List, [], ◌∷◌, Option, None, Some}
+use Rattle.std.specs.Prelude.{ℕ, true, [], ◌∷◌, Option, None, Some}
 use Rattle.etcd_types.specs.declared.answer.Answer.{Answer}
 use Rattle.store_model.specs.State.{State}
 use Rattle.store_model.specs.Step.{exec}

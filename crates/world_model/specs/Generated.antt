@@ -1,7 +1,7 @@
 -- The generated script of a number: three proxies before a store of two members, and for each number up to that one a read, a put or
 -- a deletion of one of eight keys at one of the proxies, each followed by all that it makes due. Which one it is comes from a
 -- linear congruential generator: its multiplier and increment are those of Knuth's MMIX.
-use Rattle.std.specs.Prelude.{ℕ, zero, suc, ◌+◌, ◌*◌, ◌/◌, ◌%◌, ◌^◌, ◌==◌, Bool, true, false, if◌then◌else◌, List, [], ◌∷◌, ◌++◌, length, codes, Option, None, Some, Result, Ok, Err}
+use Rattle.std.specs.Prelude.{ℕ, zero, suc, ◌+◌, ◌*◌, ◌/◌, ◌%◌, ◌^◌, ◌==◌, Bool, true, false, if◌then◌else◌, List, [], ◌∷◌, ◌++◌, length, codes, Option, None, Some, Ok, Err}
 use Rattle.std.specs.Fmt.{decimal}
 use Rattle.etcd_types.specs.declared.request.Request.{Request}
 use Rattle.etcd_types.specs.declared.request.Request.TheVariants as request

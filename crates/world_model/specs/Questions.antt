@@ -1,5 +1,5 @@
 -- What a world can be asked, without a step.
-use Rattle.std.specs.Prelude.{ℕ, Bool, true, false, List, length, Option, None, Some, is_ok, is_some}
+use Rattle.std.specs.Prelude.{ℕ, Bool, true, false, length, Option, None, Some, is_ok}
 use Rattle.core_model.specs.DueJobs.{has_job}
 use Rattle.store_model.specs.Watches.{pushed}
 use Rattle.world_model.specs.Places.{nth, place_at}

@@ -1,5 +1,5 @@
 -- A proxy's first due job is done: a call is sent, a stream is opened at the store, or closed.
-use Rattle.std.specs.Prelude.{ℕ, ◌+◌, false, List, [], ◌∷◌, ◌++◌, length, Option, None, Some}
+use Rattle.std.specs.Prelude.{ℕ, ◌+◌, false, [], ◌∷◌, ◌++◌, length, Option, None, Some}
 use Rattle.etcd_types.specs.declared.request.Request.{Request}
 use Rattle.etcd_types.specs.declared.request.Request.TheVariants as request
 use Rattle.etcd_types.specs.declared.request.WatchAsk.{WatchAsk}
@@ -10,7 +10,6 @@ use Rattle.core_model.specs.declared.event.Job.{Job}
 use Rattle.core_model.specs.declared.event.Job.TheVariants as job
 use Rattle.core_model.specs.declared.event.Outcome.{Outcome}
 use Rattle.core_model.specs.declared.event.Outcome.TheVariants as outcome
-use Rattle.script_text.specs.declared.item.Item.{Item}
 use Rattle.script_text.specs.declared.item.Item.TheVariants as item
 use Rattle.world_model.specs.declared.fault.WorldFault.TheVariants as fault
 use Rattle.world_model.specs.declared.sent_call.SentCall.{SentCall}

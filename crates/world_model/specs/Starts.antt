@@ -1,11 +1,10 @@
 -- A proxy starts, or starts again; its clock is set; it looks at its clock. What a proxy knew is gone with its start, and so are
 -- its streams; calls that were out can still be executed.
-use Rattle.std.specs.Prelude.{ℕ, ◌+◌, nat_lt, if◌then◌else◌, List, [], ◌∷◌, Option, None, Some}
+use Rattle.std.specs.Prelude.{ℕ, ◌+◌, nat_lt, if◌then◌else◌, [], ◌∷◌, Option, None, Some}
 use Rattle.core_model.specs.declared.event.CoreEvent.TheVariants as event
 use Rattle.core_model.specs.declared.event.Outcome.{Outcome}
 use Rattle.core_model.specs.declared.settings.Settings.{Settings}
 use Rattle.core_model.specs.State.{first_core}
-use Rattle.script_text.specs.declared.item.Item.{Item}
 use Rattle.script_text.specs.declared.item.Item.TheVariants as item
 use Rattle.world_model.specs.declared.fault.WorldFault.TheVariants as fault
 use Rattle.world_model.specs.Gains.{gained}

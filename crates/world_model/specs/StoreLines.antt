@@ -1,5 +1,5 @@
 -- A lease expires at the store, or a member applies revisions. A session doesn't expire below its floor.
-use Rattle.std.specs.Prelude.{ℕ, Bool, true, false, nat_lt, if◌then◌else◌, List, [], ◌∷◌, Option, None, Some, Result, Ok, Err}
+use Rattle.std.specs.Prelude.{ℕ, nat_lt, if◌then◌else◌, [], ◌∷◌, Option, None, Some, Result, Ok, Err}
 use Rattle.store_model.specs.declared.store_fault.StoreFault.{StoreFault}
 use Rattle.store_model.specs.Leases.{expired}
 use Rattle.store_model.specs.Members.{applied}

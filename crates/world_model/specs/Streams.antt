@@ -1,9 +1,7 @@
 -- The store pushes messages into a stream, the oldest one is delivered to the stream's proxy, and a stream is cut.
-use Rattle.std.specs.Prelude.{ℕ, Bool, true, false, List, [], ◌∷◌, ◌++◌, Option, None, Some, Result, Ok, Err}
+use Rattle.std.specs.Prelude.{ℕ, Bool, true, false, List, [], ◌∷◌, ◌++◌, Option, None, Some, Ok, Err}
 use Rattle.etcd_types.specs.declared.watch.WatchItem.{WatchItem}
 use Rattle.etcd_types.specs.declared.watch.WatchItem.TheVariants.{Created, Events, Canceled}
-use Rattle.store_model.specs.declared.store_fault.StoreFault.{StoreFault}
-use Rattle.store_model.specs.State.{State}
 use Rattle.store_model.specs.Watches.{Pushed, pushed, progressed}
 use Rattle.core_model.specs.declared.event.CoreEvent.TheVariants as event
 use Rattle.core_model.specs.declared.event.Outcome.{Outcome}
