@@ -1,56 +1,22 @@
-ghost use Rattle.std.specs.Prelude.{◌≡◌, List, [], IfErr};
+ghost use Rattle.std.specs.Prelude.{◌≡◌, ◌≤◌, List, [], IfErr};
+ghost use Rattle.std.specs.Io.KnownBytes.{Keeps};
+ghost use Rattle.outside.specs.Faults.{Rose};
 ghost use Rattle.serve_model.specs.Steps.{Step, Did};
-ghost use Rattle.serve_model.specs.Dialog.{Gone, Breaking, end_of, is_worn};
+ghost use Rattle.serve_model.specs.Dialog.{Gone, is_worn, is_in_use};
 ghost use Rattle.serve_model.specs.Numbers.{Asked, AsksOne};
-ghost use Rattle.serve_model.specs.Parts.{Waits, Asks};
-ghost use Rattle.proxy_server.specs.Causes.{IsOfSteps};
+ghost use Rattle.serve_model.specs.Parts.{Asks};
+ghost use Rattle.proxy_server.specs.Causes.{IsOfAsking};
 
+use crate::ends::{end_by, end_of};
+use crate::follow::follow;
+use crate::tell::tell;
 use crate::turn::Turn;
 use core_model::{CoreEvent, Outcome, StepFault};
-use etcd_types::{Answer, Request};
-use outside::Clock;
-use serve_model::{SessionEnd, TurnFault};
+use etcd_types::Request;
+use outside::{Clock, Sink, Source};
+use serve_model::{Attempt, SessionEnd, Stop, TurnFault};
+use std::alloc::Global;
 use std::sync::Wait;
-
-/// How a connection ends by this fault.
-fn end_of(fault: TurnFault) -> SessionEnd
-    ensures is { result ≡ end_of fault }
-    ensures breaking { Breaking result }
-    ensures steps { IsOfSteps result }
-{
-    match fault {
-        TurnFault::Core(StepFault::NoSuchTicket(ticket)) => SessionEnd::TicketTaken(ticket),
-        TurnFault::Core(StepFault::NoMemory) => SessionEnd::NoMemory,
-        TurnFault::Worn | TurnFault::Core(_) => SessionEnd::Worn,
-    }
-}
-
-/// Rests and takes until the reply is there.
-fn wait_for<R: Wait, T: Turn, C: Clock>(
-    rt: &R,
-    turn: &mut T,
-    clock: &mut C,
-    ticket: u64,
-) -> Result<Answer, TurnFault>
-    ensures home { T.home turn.new ≡ T.home turn.old }
-    ensures quiet { Asked (T.made turn.old) (T.made turn.new) [] }
-    ensures waits { Waits T.rests ticket (T.made turn.old) (T.made turn.new) result }
-{
-    'rests: for _ in rt.forever() {
-        if let Err(fault) = turn.rest(clock) {
-            return Err(fault);
-        }
-        match turn.turn(CoreEvent::Take { ticket }, clock) {
-            Ok(Outcome::Replied(answer)) => return Ok(answer),
-            Ok(Outcome::Pending) => {}
-            Ok(Outcome::Waiting | Outcome::Item(_) | Outcome::Noted | Outcome::Job(_)) => {
-                unreachable!()
-            }
-            Err(fault) => return Err(fault),
-        }
-    }
-    unreachable!()
-}
 
 /// Whether the turn makes no more steps.
 fn is_worn(answer: &Result<Outcome, TurnFault>) -> bool
@@ -59,11 +25,19 @@ fn is_worn(answer: &Result<Outcome, TurnFault>) -> bool
     matches!(answer, Err(TurnFault::Worn))
 }
 
+/// Whether the ticket that was asked is in use.
+fn is_in_use(fault: TurnFault) -> bool
+    ensures { result ≡ is_in_use fault }
+{
+    matches!(fault, TurnFault::Core(StepFault::TicketUsed(_)))
+}
+
 /// Leaves the ticket where it is still known.
 fn leave<T: Turn, C: Clock>(turn: &mut T, clock: &mut C, ticket: u64, end: SessionEnd) -> SessionEnd
     ensures home { T.home turn.new ≡ T.home turn.old }
-    ensures breaking { Breaking end → Breaking result }
-    ensures steps { IsOfSteps end → IsOfSteps result }
+    ensures asking { IsOfAsking end → IsOfAsking result }
+    ensures reading { result ≡ SessionEnd.ReadFault → end ≡ SessionEnd.ReadFault }
+    ensures writing { result ≡ SessionEnd.WriteFault → end ≡ SessionEnd.WriteFault }
     ensures quiet { Asked (T.made turn.old) (T.made turn.new) [] }
     ensures left { (tail : List Step) × Gone ticket end result tail × Did T.rests (T.made turn.old) (T.made turn.new) tail }
 {
@@ -81,20 +55,27 @@ fn leave<T: Turn, C: Clock>(turn: &mut T, clock: &mut C, ticket: u64, end: Sessi
     }
 }
 
-/// Asks, and waits for the reply.
-pub(crate) fn ask<R: Wait, T: Turn, C: Clock>(
+/// Asks with a ticket, and serves the request until its reply is whole.
+pub(crate) fn ask<R: Wait, T: Turn, S: Source, K: Sink, C: Clock>(
     rt: &R,
+    alloc: Global,
     turn: &mut T,
     clock: &mut C,
+    source: &mut S,
+    sink: &mut K,
     ticket: u64,
     word: u64,
     request: Request,
-) -> Result<Answer, SessionEnd>
+) -> Result<Attempt, SessionEnd>
     ensures home { T.home turn.new ≡ T.home turn.old }
-    ensures breaking { IfErr result Breaking }
-    ensures steps { IfErr result IsOfSteps }
+    ensures read_cause { IfErr result (λ end. end ≡ SessionEnd.ReadFault → Rose (S.faults source.old) (S.faults source.new)) }
+    ensures write_cause { IfErr result (λ end. end ≡ SessionEnd.WriteFault → Rose (K.faults sink.old) (K.faults sink.new)) }
+    ensures reads { S.faults source.old ≤ S.faults source.new }
+    ensures writes { K.faults sink.old ≤ K.faults sink.new }
+    ensures end { IfErr result IsOfAsking }
+    ensures ahead { Keeps (S.left source.old) (S.left source.new) }
     ensures one { AsksOne ticket word (T.made turn.old) (T.made turn.new) result }
-    ensures asks { Asks T.rests request (T.made turn.old) (T.made turn.new) result }
+    ensures asks { Asks T.rests request (T.made turn.old) (T.made turn.new) (K.written sink.old) (K.written sink.new) result }
 {
     let asked = CoreEvent::Ask {
         ticket,
@@ -102,14 +83,24 @@ pub(crate) fn ask<R: Wait, T: Turn, C: Clock>(
         word,
     };
     match turn.turn(asked, clock) {
-        Ok(Outcome::Replied(answer)) => Ok(answer),
-        Ok(Outcome::Waiting) => match wait_for(rt, turn, clock, ticket) {
-            Ok(answer) => Ok(answer),
-            Err(fault) => Err(leave(turn, clock, ticket, end_of(fault))),
+        Ok(Outcome::Replied(answer)) => match tell(alloc, sink, false, &answer) {
+            Ok(()) => Ok(Attempt::Whole),
+            Err(fault) => Err(end_by(fault)),
+        },
+        Ok(Outcome::Waiting) => match follow(rt, alloc, turn, clock, source, sink, ticket) {
+            Ok(()) => Ok(Attempt::Whole),
+            Err(Stop::Unanswered(end)) => Err(leave(turn, clock, ticket, end)),
+            Err(Stop::Answered(end)) => Err(end),
         },
         Ok(Outcome::Pending | Outcome::Item(_) | Outcome::Noted | Outcome::Job(_)) => {
             unreachable!()
         }
-        Err(fault) => Err(end_of(fault)),
+        Err(fault) => {
+            if is_in_use(fault) {
+                Ok(Attempt::InUse)
+            } else {
+                Err(end_of(fault))
+            }
+        }
     }
 }

@@ -1,115 +1,112 @@
-ghost use Rattle.std.specs.Prelude.{◌≡◌, ◌≤◌, None, IfNone, IfSome, IfErr, IsErrOf};
+ghost use Rattle.std.specs.Prelude.{◌≡◌, ◌≤◌, ◌<◌, ◌+◌, None, IfNone, IfSome, IfOk, IfErr};
+ghost use Rattle.std.specs.Io.KnownBytes.{Keeps};
 ghost use Rattle.outside.specs.Faults.{Rose};
 ghost use Rattle.http_wire.specs.Connections.{bytes_ahead};
-ghost use Rattle.http_wire.specs.Written.{Writes};
-ghost use Rattle.serve_model.specs.Dialog as spec;
 ghost use Rattle.serve_model.specs.Dialog.{Turned, Breaking, asked_of};
-ghost use Rattle.serve_model.specs.Numbers.{NumberedSo};
-ghost use Rattle.serve_model.specs.Parts.{Responds, IsOfWriting};
-ghost use Rattle.std.specs.Prelude.{Ok as Right};
+ghost use Rattle.serve_model.specs.Numbers.{NumberedSo, NumberedBy};
+ghost use Rattle.serve_model.specs.Parts.{Asks, Responds};
 
 use crate::ask::ask;
-use crate::receive::{end_by, receive};
+use crate::ends::end_by;
+use crate::receive::receive;
 use crate::refused::{asked, refuse_request};
 use crate::turn::Turn;
-use api_reply::encode_reply;
-use etcd_types::{Answer, NoMemory, Request};
-use http::Method;
-use http_wire::{Wire, WireFault, write_reply};
+use etcd_types::{NoMemory, Request};
+use http_wire::Wire;
 use outside::{Clock, Draw, Sink, Source, TicketRange};
-use serve_model::{Received, SessionEnd};
+use serve_model::{Attempt, Received, SessionEnd};
 use std::alloc::Global;
 use std::sync::Wait;
 
-/// Writes the reply that an answer is.
-#[tactic(auto, unfolding(serve_model::specs::Dialog::reply_of))]
-fn tell<K: Sink>(alloc: Global, sink: &mut K, answer: &Answer) -> Result<(), WireFault>
-    ensures written { Writes (K.written sink.old) (K.written sink.new) (spec.reply_of answer.now) result }
-    ensures fault { IfErr result IsOfWriting }
-    ensures cause { IsErrOf result WireFault.WriteFault → Rose (K.faults sink.old) (K.faults sink.new) }
-    ensures kept { K.faults sink.old ≤ K.faults sink.new }
-{
-    let Ok((status, text)) = encode_reply(alloc, answer) else {
-        return Err(WireFault::NoMemory);
-    };
-    write_reply(alloc, sink, status, text.as_slice())
-}
-
-/// Steps for a request, and writes its reply.
-#[tactic(auto, using(crate::proofs::Causes::steps_write_nothing))]
-fn respond<R: Wait, T: Turn, K: Sink, C: Clock, D: Draw>(
+/// Asks a request with the next ticket and a drawn word, if a ticket is left.
+fn respond<R: Wait, T: Turn, S: Source, K: Sink, C: Clock, D: Draw>(
     rt: &R,
     alloc: Global,
     turn: &mut T,
     clock: &mut C,
+    source: &mut S,
     sink: &mut K,
     tickets: &mut TicketRange,
     draw: &mut D,
-    method: &Method,
     request: Request,
-) -> Option<SessionEnd>
+) -> Result<Attempt, SessionEnd>
     ensures home { T.home turn.new ≡ T.home turn.old }
-    ensures breaking { IfSome result Breaking }
-    ensures cause { IfSome result (λ end. end ≡ SessionEnd.WriteFault → Rose (K.faults sink.old) (K.faults sink.new)) }
-    ensures kept { K.faults sink.old ≤ K.faults sink.new }
-    ensures numbered { NumberedSo tickets.old.next tickets.new.next (D.given draw.old) (D.given draw.new) (T.made turn.old) (T.made turn.new) result }
-    ensures responds { Responds T.rests method.now (Right request) (T.made turn.old) (T.made turn.new) (K.written sink.old) (K.written sink.new) result }
+    ensures limit { tickets.new.end ≡ tickets.old.end }
+    ensures next { IfOk result (λ attempt. tickets.old.next < tickets.old.end × tickets.new.next ≡ tickets.old.next + 1) }
+    ensures breaking { IfErr result Breaking }
+    ensures read_cause { IfErr result (λ end. end ≡ SessionEnd.ReadFault → Rose (S.faults source.old) (S.faults source.new)) }
+    ensures write_cause { IfErr result (λ end. end ≡ SessionEnd.WriteFault → Rose (K.faults sink.old) (K.faults sink.new)) }
+    ensures reads { S.faults source.old ≤ S.faults source.new }
+    ensures writes { K.faults sink.old ≤ K.faults sink.new }
+    ensures ahead { Keeps (S.left source.old) (S.left source.new) }
+    ensures numbered { NumberedBy tickets.old.end tickets.old.next tickets.new.next (D.given draw.old) (D.given draw.new) (T.made turn.old) (T.made turn.new) result }
+    ensures asks { Asks T.rests request (T.made turn.old) (T.made turn.new) (K.written sink.old) (K.written sink.new) result }
 {
     if tickets.next >= tickets.end {
-        return Some(SessionEnd::OutOfTickets);
+        return Err(SessionEnd::OutOfTickets);
     }
     let ticket = tickets.next;
     tickets.next += 1;
-    let answer = match ask(rt, turn, clock, ticket, draw.word(), request) {
-        Ok(answer) => answer,
-        Err(end) => return Some(end),
-    };
-    match tell(alloc, sink, &answer) {
-        Ok(()) => None,
-        Err(fault) => Some(end_by(fault)),
+    match ask(
+        rt,
+        alloc,
+        turn,
+        clock,
+        source,
+        sink,
+        ticket,
+        draw.word(),
+        request,
+    ) {
+        Ok(attempt) => Ok(attempt),
+        Err(end) => Err(end),
     }
 }
 
-/// Answers a request that was read.
-fn answer<R: Wait, T: Turn, K: Sink, C: Clock, D: Draw>(
+/// Answers a request that was read. Where a ticket is in use, it asks again with the next one.
+fn answer<R: Wait, T: Turn, S: Source, K: Sink, C: Clock, D: Draw>(
     rt: &R,
     alloc: Global,
     turn: &mut T,
     clock: &mut C,
+    source: &mut S,
     sink: &mut K,
     tickets: &mut TicketRange,
     draw: &mut D,
     received: &Received,
 ) -> Option<SessionEnd>
     ensures home { T.home turn.new ≡ T.home turn.old }
+    ensures limit { tickets.new.end ≡ tickets.old.end }
     ensures breaking { IfSome result Breaking }
-    ensures cause { IfSome result (λ end. end ≡ SessionEnd.WriteFault → Rose (K.faults sink.old) (K.faults sink.new)) }
-    ensures kept { K.faults sink.old ≤ K.faults sink.new }
-    ensures numbered { NumberedSo tickets.old.next tickets.new.next (D.given draw.old) (D.given draw.new) (T.made turn.old) (T.made turn.new) result }
+    ensures read_cause { IfSome result (λ end. end ≡ SessionEnd.ReadFault → Rose (S.faults source.old) (S.faults source.new)) }
+    ensures write_cause { IfSome result (λ end. end ≡ SessionEnd.WriteFault → Rose (K.faults sink.old) (K.faults sink.new)) }
+    ensures reads { S.faults source.old ≤ S.faults source.new }
+    ensures writes { K.faults sink.old ≤ K.faults sink.new }
+    ensures ahead { Keeps (S.left source.old) (S.left source.new) }
+    ensures numbered { NumberedSo tickets.old.end tickets.old.next tickets.new.next (D.given draw.old) (D.given draw.new) (T.made turn.old) (T.made turn.new) result }
     ensures responds { Responds T.rests received.now.head.method (asked_of received.now.head received.now.body) (T.made turn.old) (T.made turn.new) (K.written sink.old) (K.written sink.new) result }
 {
-    match asked(alloc, received) {
-        Ok(Ok(request)) => respond(
-            rt,
-            alloc,
-            turn,
-            clock,
-            sink,
-            tickets,
-            draw,
-            &received.head.method,
-            request,
-        ),
-        Ok(Err(refused)) => match refuse_request(alloc, sink, &received.head.method, &refused) {
-            Ok(()) => None,
-            Err(fault) => Some(end_by(fault)),
-        },
-        Err(NoMemory) => Some(SessionEnd::NoMemory),
+    'tries: loop {
+        match asked(alloc, received) {
+            Ok(Ok(request)) => match respond(
+                rt, alloc, turn, clock, source, sink, tickets, draw, request,
+            ) {
+                Ok(Attempt::Whole) => return None,
+                Ok(Attempt::InUse) => {}
+                Err(end) => return Some(end),
+            },
+            Ok(Err(refused)) => {
+                match refuse_request(alloc, sink, &received.head.method, &refused) {
+                    Ok(()) => return None,
+                    Err(fault) => return Some(end_by(fault)),
+                }
+            }
+            Err(NoMemory) => return Some(SessionEnd::NoMemory),
+        }
     }
 }
 
 /// Reads the next request and answers it. None where the connection goes on.
-#[tactic(auto, using(crate::proofs::Causes::breaks_read_nothing))]
 pub(crate) fn exchange<R: Wait, T: Turn, S: Source, K: Sink, C: Clock, D: Draw>(
     rt: &R,
     alloc: Global,
@@ -123,19 +120,22 @@ pub(crate) fn exchange<R: Wait, T: Turn, S: Source, K: Sink, C: Clock, D: Draw>(
 ) -> Option<SessionEnd>
     requires sound { wire.old.fault ≡ None }
     ensures home { T.home turn.new ≡ T.home turn.old }
+    ensures limit { tickets.new.end ≡ tickets.old.end }
     ensures sound { IfNone result (wire.new.fault ≡ None) }
     ensures read_cause { IfSome result (λ end. end ≡ SessionEnd.ReadFault → Rose (S.faults source.old) (S.faults source.new)) }
     ensures write_cause { IfSome result (λ end. end ≡ SessionEnd.WriteFault → Rose (K.faults sink.old) (K.faults sink.new)) }
     ensures reads { S.faults source.old ≤ S.faults source.new }
     ensures writes { K.faults sink.old ≤ K.faults sink.new }
-    ensures numbered { NumberedSo tickets.old.next tickets.new.next (D.given draw.old) (D.given draw.new) (T.made turn.old) (T.made turn.new) result }
+    ensures numbered { NumberedSo tickets.old.end tickets.old.next tickets.new.next (D.given draw.old) (D.given draw.new) (T.made turn.old) (T.made turn.new) result }
     ensures turned { Turned T.rests (bytes_ahead (S.left source.old) wire.old) (bytes_ahead (S.left source.new) wire.new) (T.made turn.old) (T.made turn.new) (K.written sink.old) (K.written sink.new) result }
 {
     let received = match receive(alloc, wire, source, sink) {
         Ok(received) => received,
         Err(end) => return Some(end),
     };
-    match answer(rt, alloc, turn, clock, sink, tickets, draw, &received) {
+    match answer(
+        rt, alloc, turn, clock, source, sink, tickets, draw, &received,
+    ) {
         Some(end) => Some(end),
         None => {
             if received.head.close {

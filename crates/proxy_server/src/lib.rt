@@ -3,10 +3,14 @@
 #![tactic(auto)]
 
 mod ask;
+mod ends;
 mod exchange;
+mod follow;
 mod receive;
 mod refused;
 mod serve;
+mod take;
+mod tell;
 mod turn;
 
 pub use serve::serve_on;

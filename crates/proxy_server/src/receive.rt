@@ -6,29 +6,15 @@ ghost use Rattle.http_wire.specs.Bodies.{is_of_bytes};
 ghost use Rattle.http_wire.specs.Written.{Writes};
 ghost use Rattle.http_wire.specs.Connections.{bytes_ahead, IsOfReading};
 ghost use Rattle.serve_model.specs.Dialog as spec;
-ghost use Rattle.serve_model.specs.Parts.{Received as Gets, IsOfWriting, end_by};
+ghost use Rattle.serve_model.specs.Numbers.{IsElse};
+ghost use Rattle.serve_model.specs.Parts.{Received as Gets};
 
+use crate::ends::end_by;
 use crate::refused::refuse;
 use http_wire::{Head, Wire, WireFault, write_continue};
 use outside::{Sink, Source};
 use serve_model::{Received, Refused, SessionEnd};
 use std::alloc::Global;
-
-/// How a connection ends by this fault.
-pub(crate) fn end_by(fault: WireFault) -> SessionEnd
-    ensures is { result ≡ end_by fault }
-    ensures breaking { IsOfWriting fault → spec.Breaking result }
-    ensures untold { IsOfWriting fault → spec.IsUntold result }
-    ensures reading { result ≡ SessionEnd.ReadFault → fault ≡ WireFault.ReadFault }
-    ensures writing { result ≡ SessionEnd.WriteFault → fault ≡ WireFault.WriteFault }
-{
-    match fault {
-        WireFault::ReadFault => SessionEnd::ReadFault,
-        WireFault::WriteFault => SessionEnd::WriteFault,
-        WireFault::NoMemory => SessionEnd::NoMemory,
-        _ => SessionEnd::BadRequest(fault),
-    }
-}
 
 /// Whether the fault is one of the client's bytes.
 fn is_of_bytes(fault: WireFault) -> bool
@@ -76,6 +62,7 @@ pub(crate) fn receive<S: Source, K: Sink>(
     ensures sound { OnOk result (wire.new.fault ≡ None) }
     ensures read_cause { IfErr result (λ end. end ≡ SessionEnd.ReadFault → Rose (S.faults source.old) (S.faults source.new)) }
     ensures write_cause { IfErr result (λ end. end ≡ SessionEnd.WriteFault → Rose (K.faults sink.old) (K.faults sink.new)) }
+    ensures other { IfErr result IsElse }
     ensures reads { S.faults source.old ≤ S.faults source.new }
     ensures writes { K.faults sink.old ≤ K.faults sink.new }
     ensures gets { Gets (bytes_ahead (S.left source.old) wire.old) (bytes_ahead (S.left source.new) wire.new) (K.written sink.old) (K.written sink.new) result }

@@ -256,11 +256,12 @@ module _ (rests : CoreEvent → Type 0) where
   abbrev pub Left : ℕ → SessionEnd → SessionEnd → Option (List Step) → Option (List Step) → Type 0
   Left ticket first end a b = (tail : List Step) × Gone ticket first end tail × Did rests a b tail
 
-  pub worn_before : (ticket : ℕ) (a : Option (List Step)) → Left ticket end.Worn end.Worn a a
-  worn_before ticket a = ([], Gone.worn end.Worn, did_nothing rests a)
+  pub worn_before : (ticket : ℕ) (first : SessionEnd) (a : Option (List Step)) → Left ticket first end.Worn a a
+  worn_before ticket first a = ([], Gone.worn first, did_nothing rests a)
 
-  pub taken_before : (ticket other : ℕ) (a : Option (List Step)) → Left ticket (end.TicketTaken other) (end.TicketTaken other) a a
-  taken_before ticket other a = ([], Gone.taken other, did_nothing rests a)
+  pub taken_before : (ticket other : ℕ) (first : SessionEnd) (a : Option (List Step)) → first ≡ end.TicketTaken other → Left ticket first (end.TicketTaken other) a a
+  taken_before ticket other first a e =
+      ([], subst (λ (x : SessionEnd). Gone ticket x (end.TicketTaken other) []) (sym e) (Gone.taken other), did_nothing rests a)
 
   pub was_left : (ticket now : ℕ) (a b : Option (List Step)) (end : SessionEnd) (result : Result Outcome TurnFault) → MadeBy a b (Leave ticket) now result
       → is_worn result ≡ false → Left ticket end end a b

@@ -5,10 +5,10 @@ use Rattle.serve_model.proofs.Numbers.{asked_none, turn_asks_none}
 use Rattle.proxy_server.proofs.ask.leave.Goals as goal
 
 pub returns-in-Worn-clause-left : goal.returns-in-Worn-clause-left
-returns-in-Worn-clause-left g c = worn_before g.T.Turn.rests c.args.ticket (g.T.Turn.made c.args.turn.now)
+returns-in-Worn-clause-left g c = worn_before g.T.Turn.rests c.args.ticket c.args.end (g.T.Turn.made c.args.turn.now)
 
 pub returns-in-TicketTaken-clause-left : goal.returns-in-TicketTaken-clause-left
-returns-in-TicketTaken-clause-left g c = taken_before g.T.Turn.rests c.args.ticket c.in-TicketTaken.other (g.T.Turn.made c.args.turn.now)
+returns-in-TicketTaken-clause-left g c = taken_before g.T.Turn.rests c.args.ticket c.in-TicketTaken.other c.args.end (g.T.Turn.made c.args.turn.now) c.in-TicketTaken.is
 
 pub returns-then-is_worn-clause-left : goal.returns-then-is_worn-clause-left
 returns-then-is_worn-clause-left g c = worn_then g.T.Turn.rests c.args.ticket _ _ _ c.args.end c.turn-left.result c.turn-left.ensures.made (sym c.is_worn.ensures ∙ c.if-is_worn.true)

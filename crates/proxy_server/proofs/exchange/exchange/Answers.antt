@@ -1,8 +1,12 @@
 -- The exchange goes on, closes, or breaks off.
-use Rattle.serve_model.proofs.Exchanges.{broken_off, exchanged, closed}
+use Rattle.serve_model.proofs.Exchanges.{broken_off, exchanged, closed, unasked, bytes_kept, ahead_kept}
+use Rattle.serve_model.specs.Dialog.{IsRequest}
 use Rattle.serve_model.specs.declared.ends.SessionEnd.TheVariants.{Closed}
-use Rattle.serve_model.proofs.Numbers.{none_last, all_numbered}
+use Rattle.serve_model.proofs.Numbers.{none_last, has_tickets, all_numbered}
 use Rattle.proxy_server.proofs.exchange.exchange.Goals as goal
+
+pub returns-in-Err-clause-turned : goal.returns-in-Err-clause-turned
+returns-in-Err-clause-turned g c = unasked g.T.Turn.rests _ _ _ _ c.in-Err.end c.in-Err.ensures.gets
 
 pub returns-in-Some-clause-turned : goal.returns-in-Some-clause-turned
 returns-in-Some-clause-turned g c =
@@ -14,10 +18,12 @@ returns-then-received-clause-turned g c =
 
 pub returns-clause-turned : goal.returns-clause-turned
 returns-clause-turned g c =
-    exchanged g.T.Turn.rests _ _ _ _ _ _ _ c.in-Ok.received.head c.in-Ok.received.body c.in-Ok.ensures.gets.0 c.in-Ok.ensures.gets.1 c.in-None.ensures.responds c.if-received.false
+    exchanged g.T.Turn.rests _ _ _ _ _ _ _ c.in-Ok.received.head c.in-Ok.received.body
+    (ahead_kept (IsRequest c.in-Ok.received.head c.in-Ok.received.body) _ _ _ c.in-Ok.ensures.gets.0 (bytes_kept _ _ c.receive.new.wire c.in-None.ensures.ahead))
+    c.in-Ok.ensures.gets.1 c.in-None.ensures.responds c.if-received.false
 
 pub returns-in-Err-clause-numbered : goal.returns-in-Err-clause-numbered
-returns-in-Err-clause-numbered g c = none_last c.in-Err.end _ _ _
+returns-in-Err-clause-numbered g c = none_last c.in-Err.end _ _ _ _ (has_tickets c.in-Err.end _ _ c.in-Err.ensures.other)
 
 pub returns-then-received-clause-numbered : goal.returns-then-received-clause-numbered
-returns-then-received-clause-numbered g c = all_numbered Closed _ _ _ _ _ _ c.in-None.ensures.numbered
+returns-then-received-clause-numbered g c = all_numbered Closed _ _ _ _ _ _ _ tt c.in-None.ensures.numbered

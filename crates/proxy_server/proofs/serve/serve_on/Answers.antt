@@ -1,17 +1,24 @@
 -- The exchanges, one after the other.
-use Rattle.std.proofs.Common.{refl, ◌∙◌}
-use Rattle.serve_model.proofs.Numbers.{none_last, numbered_none, numbered_then, numbered_last}
+use Rattle.std.proofs.Common.{refl, ◌∙◌, arith}
+use Rattle.serve_model.specs.declared.ends.SessionEnd.TheVariants.{NoMemory}
+use Rattle.serve_model.proofs.Numbers.{none_last, has_tickets, numbered_none, numbered_more, numbered_end}
 use Rattle.serve_model.proofs.Serves.{at_start, goes_on, ends, no_wire}
 use Rattle.proxy_server.proofs.serve.serve_on.Goals as goal
 
-pub returns-in_default : goal.returns-in_default
-returns-in_default g c = record { home = refl; numbered = none_last _ _ _ _; dialog = no_wire g.T.Turn.rests _ _ _ }
+pub returns-in_default-clause-numbered : goal.returns-in_default-clause-numbered
+returns-in_default-clause-numbered g c = none_last NoMemory _ _ _ _ (has_tickets NoMemory _ _ tt)
+
+pub returns-in_default-clause-dialog : goal.returns-in_default-clause-dialog
+returns-in_default-clause-dialog g c = no_wire g.T.Turn.rests _ _ _
 
 pub requests-init : goal.requests-init
 requests-init g c = record {
   sound = c.in-Ok.ensures.fault;
   home = refl;
-  numbered = numbered_none _ _ _;
+  limit = refl;
+  reads = omega arith;
+  writes = omega arith;
+  numbered = numbered_none _ _ _ _;
   has = at_start g.T.Turn.rests (g.S.Source.left c.args.source.now) c.in-Ok.wire _ _ c.in-Ok.ensures.held;
 }
 
@@ -19,13 +26,17 @@ pub requests-preserved : goal.requests-preserved
 requests-preserved g c = record {
   sound = c.in-None-exchange.ensures.sound;
   home = c.in-None-exchange.ensures.home ∙ c.requests.invariant.home;
-  numbered = numbered_then _ _ _ _ _ _ _ _ _ c.requests.invariant.numbered c.in-None-exchange.ensures.numbered;
+  limit = c.in-None-exchange.ensures.limit ∙ c.requests.invariant.limit;
+  reads = omega arith;
+  writes = omega arith;
+  numbered = numbered_more _ _ _ _ _ _ _ _ _ _ _ c.requests.invariant.limit c.requests.invariant.numbered c.in-None-exchange.ensures.numbered;
   has = goes_on g.T.Turn.rests _ _ _ _ _ _ _ _ _ c.requests.invariant.has c.in-None-exchange.ensures.turned;
 }
 
-pub returns-in-Some-exchange : goal.returns-in-Some-exchange
-returns-in-Some-exchange g c = record {
-  home = c.in-Some-exchange.ensures.home ∙ c.requests.invariant.home;
-  numbered = numbered_last c.in-Some-exchange.end _ _ _ _ _ _ _ _ c.requests.invariant.numbered c.in-Some-exchange.ensures.numbered;
-  dialog = ends g.T.Turn.rests _ _ _ _ _ _ _ _ c.in-Some-exchange.end c.requests.invariant.has c.in-Some-exchange.ensures.turned;
-}
+pub returns-in-Some-exchange-clause-numbered : goal.returns-in-Some-exchange-clause-numbered
+returns-in-Some-exchange-clause-numbered g c =
+    numbered_end c.in-Some-exchange.end _ _ _ _ _ _ _ _ _ _ c.requests.invariant.limit c.requests.invariant.numbered c.in-Some-exchange.ensures.numbered
+
+pub returns-in-Some-exchange-clause-dialog : goal.returns-in-Some-exchange-clause-dialog
+returns-in-Some-exchange-clause-dialog g c =
+    ends g.T.Turn.rests _ _ _ _ _ _ _ _ c.in-Some-exchange.end c.requests.invariant.has c.in-Some-exchange.ensures.turned

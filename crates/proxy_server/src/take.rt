@@ -1,0 +1,76 @@
+ghost use Rattle.std.specs.Prelude.{◌≡◌, ◌≤◌, [], IfErr};
+ghost use Rattle.outside.specs.Faults.{Rose};
+ghost use Rattle.serve_model.specs.Numbers.{Asked};
+ghost use Rattle.serve_model.specs.Parts.{Takes, PassesOn, end_in};
+ghost use Rattle.proxy_server.specs.Causes.{IsOfTakes, IsOfAsking};
+
+use crate::ends::{end_by, end_of};
+use crate::tell::{is_cancel, tell, tell_item};
+use crate::turn::Turn;
+use core_model::{CoreEvent, Outcome};
+use etcd_types::WatchItem;
+use outside::{Clock, Sink};
+use serve_model::{SessionEnd, Stop, Taken};
+use std::alloc::Global;
+
+/// Passes a message of a watch on to the client.
+fn pass_on<K: Sink>(
+    alloc: Global,
+    sink: &mut K,
+    begun: bool,
+    item: &WatchItem,
+) -> Result<Taken, Stop>
+    ensures cause { IfErr result (λ why. end_in why ≡ SessionEnd.WriteFault → Rose (K.faults sink.old) (K.faults sink.new)) }
+    ensures kept { K.faults sink.old ≤ K.faults sink.new }
+    ensures end { IfErr result (λ why. IsOfTakes (end_in why)) }
+    ensures asking { IfErr result (λ why. IsOfAsking (end_in why)) }
+    ensures passes { PassesOn begun item.now (K.written sink.old) (K.written sink.new) result }
+{
+    let last = is_cancel(item);
+    match tell_item(alloc, sink, begun, item) {
+        Ok(()) => {
+            if last {
+                Ok(Taken::Last)
+            } else {
+                Ok(Taken::Part)
+            }
+        }
+        Err(fault) => {
+            let end = end_by(fault);
+            if last {
+                Err(Stop::Answered(end))
+            } else {
+                Err(Stop::Unanswered(end))
+            }
+        }
+    }
+}
+
+/// Takes what is there for a ticket, and tells it. `begun` says whether the head of a reply in chunks was written.
+pub(crate) fn take<T: Turn, K: Sink, C: Clock>(
+    alloc: Global,
+    turn: &mut T,
+    clock: &mut C,
+    sink: &mut K,
+    ticket: u64,
+    begun: bool,
+) -> Result<Taken, Stop>
+    ensures home { T.home turn.new ≡ T.home turn.old }
+    ensures cause { IfErr result (λ why. end_in why ≡ SessionEnd.WriteFault → Rose (K.faults sink.old) (K.faults sink.new)) }
+    ensures kept { K.faults sink.old ≤ K.faults sink.new }
+    ensures end { IfErr result (λ why. IsOfTakes (end_in why)) }
+    ensures asking { IfErr result (λ why. IsOfAsking (end_in why)) }
+    ensures quiet { Asked (T.made turn.old) (T.made turn.new) [] }
+    ensures takes { Takes T.rests ticket begun (T.made turn.old) (T.made turn.new) (K.written sink.old) (K.written sink.new) result }
+{
+    match turn.turn(CoreEvent::Take { ticket }, clock) {
+        Ok(Outcome::Pending) => Ok(Taken::Nothing),
+        Ok(Outcome::Replied(answer)) => match tell(alloc, sink, begun, &answer) {
+            Ok(()) => Ok(Taken::Last),
+            Err(fault) => Err(Stop::Answered(end_by(fault))),
+        },
+        Ok(Outcome::Item(item)) => pass_on(alloc, sink, begun, &item),
+        Ok(Outcome::Waiting | Outcome::Noted | Outcome::Job(_)) => unreachable!(),
+        Err(fault) => Err(Stop::Unanswered(end_of(fault))),
+    }
+}
