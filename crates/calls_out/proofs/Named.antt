@@ -1,8 +1,6 @@
 -- The list of the calls, seen from the rows.
-use Rattle.std.proofs.Common.{◌≡◌, ℕ, zero, suc, ◌<◌, Bool, true, false, not, cond, ◌==◌, ◌&&◌, ◌||◌, nat_lt, IsTrue, List, [], ◌∷◌, ◌++◌, map, filter, get_or, Option, None, Some, refl, sym, ◌∙◌, ap, subst, arith}
-use lib.Dec.{T}
-use Rattle.std.specs.Ordering.{nat_cmp, is_eq}
-use Rattle.std.specs.FinMap.{is_sorted}
+use Rattle.std.proofs.Common.{◌≡◌, ℕ, zero, suc, Bool, true, false, not, cond, ◌==◌, ◌&&◌, ◌||◌, nat_lt, IsTrue, List, [], ◌∷◌, ◌++◌, map, get_or, None, Some, refl, sym, ◌∙◌, ap, subst, arith}
+use Rattle.std.specs.Ordering.{nat_cmp}
 use Rattle.std.specs.FinMap.Entries.{by_order}
 use Rattle.std.specs.List.{remove, list_all, list_any}
 use Rattle.std.specs.declared.cmp.Ordering.TheVariants.{Greater}

@@ -5,6 +5,3 @@ mod calls;
 
 pub use calls::Calls;
 pub use core_model::{CallKind, OutCall, OutJob};
-
-#[cfg(test)]
-mod tests;

@@ -9,6 +9,3 @@ mod sends;
 pub use ends::{answer_group, lose_group};
 pub use joins::group_stage;
 pub use sends::send_group;
-
-#[cfg(test)]
-mod tests;

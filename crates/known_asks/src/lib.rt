@@ -14,6 +14,3 @@ pub use read_model::{Asked, Stage, Verdict};
 pub use restage::{Restage, restage_each};
 pub use rule::Rule;
 pub use stages::is_replied;
-
-#[cfg(test)]
-mod tests;

@@ -11,6 +11,3 @@ pub use decisions::{Decision, decide, under};
 pub use readers::tell_reader;
 pub use records::shown;
 pub use releases::{release, release_again};
-
-#[cfg(test)]
-mod tests;
