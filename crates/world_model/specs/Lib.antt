@@ -16,3 +16,4 @@ pub mod Transcript
 pub mod Answers
 pub mod Questions
 pub mod Generated
+pub mod Worked

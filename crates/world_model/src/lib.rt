@@ -6,7 +6,9 @@
 mod fault;
 mod floor;
 mod sent_call;
+mod worked;
 
 pub use fault::{LineRefusal, WorldFault};
 pub use floor::Floor;
 pub use sent_call::SentCall;
+pub use worked::{worked_leases, worked_scripts};
