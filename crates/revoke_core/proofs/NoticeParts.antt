@@ -1,5 +1,5 @@
 -- A message, notice by notice; and one notice, part by part.
-use Rattle.std.proofs.Common.{◌≡◌, ℕ, Bool, true, false, not, ◌&&◌, cond, nat_lt, ◌==◌, List, [], ◌∷◌, ◌++◌, Option, None, Some, is_some, refl, sym, ap, ◌∙◌}
+use Rattle.std.proofs.Common.{◌≡◌, ℕ, Bool, true, false, ◌&&◌, cond, nat_lt, ◌==◌, List, [], ◌∷◌, ◌++◌, Option, None, Some, is_some, refl, sym, ap, ◌∙◌}
 use Rattle.std.specs.Option.{option_map}
 use Rattle.etcd_types.specs.declared.watch.Event.{Event}
 use Rattle.etcd_types.specs.declared.watch.Change.{Change}
@@ -22,7 +22,7 @@ use Rattle.revoke_calls.specs.declared.notices.Notice.{Notice}
 use Rattle.revoke_calls.specs.declared.notices.Notice.TheVariants.{Revoked, Deleted}
 use Rattle.revoke_calls.specs.Messages.{notice_of, notices_of, is_unknown}
 use Rattle.revoke_core.proofs.Proper.{proper-gone}
-use Rattle.revoke_core.specs.Told.{Told, told_of, with_told, told_one, told_all, revoked_spoiled, revoked_entries, revoked_entry, is_older}
+use Rattle.revoke_core.specs.Told.{Told, told_of, with_told, told_one, told_all, revoked_entry, is_older}
 
 -- The revoking word.
 

@@ -1,5 +1,5 @@
 -- What holds of each write by itself is kept where its stage or the list changes.
-use Rattle.std.proofs.Common.{◌≡◌, ℕ, zero, suc, ◌<◌, Bool, true, false, not, cond, ◌&&◌, ◌||◌, List, [], ◌∷◌, ◌++◌, length, get_or, set, map, is_some, refl, sym, arith}
+use Rattle.std.proofs.Common.{◌≡◌, ℕ, zero, suc, ◌<◌, Bool, true, false, not, cond, ◌&&◌, ◌||◌, List, [], ◌∷◌, ◌++◌, length, get_or, set, map, is_some, refl, arith}
 use Rattle.std.specs.List.{list_any, list_all}
 use Rattle.etcd_types.proofs.Bools.{and_first, and_second, and_both}
 use Rattle.proxy_model.specs.declared.lease.Entry.{Entry}
@@ -9,14 +9,13 @@ use Rattle.wait_model.specs.declared.write.Write.{Write}
 use Rattle.wait_model.specs.declared.write.WriteStage.{WriteStage}
 use Rattle.wait_model.specs.declared.write.WriteStage.TheVariants.{Waiting, Sends, Finds}
 use Rattle.wait_model.specs.declared.sending.Sending.TheVariants as sending
-use Rattle.wait_model.specs.declared.sending.Sending.{Sending}
 use Rattle.wait_model.specs.Covers.{shares, is_by_keys, is_single}
 use Rattle.wait_model.specs.Edits.{each}
-use Rattle.wait_model.specs.Fits.{is_write, is_proper, are_proper}
+use Rattle.wait_model.specs.Fits.{is_proper, are_proper}
 use Rattle.wait_model.specs.ForeignOwnership.{stage_gone}
 use Rattle.wait_model.specs.Passes.{goes, turn, passed}
 use Rattle.wait_model.specs.Phases.{is_leaving}
-use Rattle.wait_model.specs.SessionEnd.{stage_ended, due_again}
+use Rattle.wait_model.specs.SessionEnd.{stage_ended}
 use Rattle.wait_model.specs.SeveralKeys.{any_covered, by_ranges, given_up_over, spoiled_over}
 use Rattle.wait_model.specs.SingleKeys.{Turn, any_key, keys_begun, by_keys, let_go_leased, begun_over}
 use Rattle.wait_model.specs.Stages.{staged, gone_on, is_owner, is_found_over, stage_on, is_waiting}

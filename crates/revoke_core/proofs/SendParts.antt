@@ -1,20 +1,16 @@
 -- The sending of the first due job, part by part.
-use Rattle.std.proofs.Common.{◌≡◌, ℕ, Bool, true, false, cond, List, [], ◌∷◌, ◌++◌, Option, None, Some, refl, sym, ◌∙◌, ap}
+use Rattle.std.proofs.Common.{◌≡◌, ℕ, Bool, true, false, cond, List, [], ◌∷◌, ◌++◌, Option, None, Some, refl, ◌∙◌, ap}
 use Rattle.std.specs.Option.{option_map}
 use Rattle.proxy_model.specs.declared.lease.Entry.{Entry}
-use Rattle.proxy_model.specs.Keyed.{changed_at}
-use Rattle.wait_model.specs.declared.due.Due.{Due}
 use Rattle.wait_model.specs.declared.due.DueCall.{DueCall}
-use Rattle.wait_model.specs.declared.due.JobKind.{JobKind}
 use Rattle.wait_model.specs.declared.wait.WaitJob.TheVariants as job
 use Rattle.wait_model.specs.declared.write.Write.{Write}
 use Rattle.wait_model.specs.declared.write.WriteStage.{WriteStage}
 use Rattle.wait_model.specs.declared.write.WriteStage.TheVariants.{Waiting, Sends, Finds}
 use Rattle.wait_model.specs.DueOrder.{first_call, first_rescind}
-use Rattle.wait_model.specs.Phases.{rescind_sent}
-use Rattle.wait_model.specs.Sent.{JobSent, is_revoke, stage_revoking, stage_sent, with_out, revoke_job, write_job, call_of, call_sent, job_sent_after, job_sent}
+use Rattle.wait_model.specs.Sent.{JobSent, is_revoke, stage_revoking, stage_sent, revoke_job, write_job, call_of, call_sent, job_sent_after, job_sent}
 use Rattle.wait_model.specs.Stages.{is_owner}
-use Rattle.wait_model.specs.State.{Waits, Ownership}
+use Rattle.wait_model.specs.State.{Ownership}
 use Rattle.wait_model.specs.Writes.{first_by, with_first, has_ticket}
 use Rattle.revoke_calls.specs.Jobs.{revoke_due, write_due}
 use Rattle.revoke_core.specs.Sends.{out_call, after_sending, rescind_of, with_write, due_in, first_due, stage_of_call, sent_due, sent_writes, sent_out, sent_of, rescind_sent_of}

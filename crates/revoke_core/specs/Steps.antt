@@ -5,16 +5,12 @@ use Rattle.etcd_types.specs.Keys.{same}
 use Rattle.etcd_types.specs.declared.request.Request.{Request}
 use Rattle.proxy_model.specs.declared.lease.Entry.{Entry}
 use Rattle.proxy_model.specs.Keyed.{Keyed}
-use Rattle.proxy_model.specs.LeaseTable.{unwritten, leaving}
 use Rattle.wait_model.specs.declared.wait.WaitCall.{WaitCall}
 use Rattle.wait_model.specs.declared.wait.Settled.{Settled}
 use Rattle.wait_model.specs.declared.wait.Settled.TheVariants as settled
 use Rattle.wait_model.specs.declared.write.Write.{Write}
-use Rattle.wait_model.specs.declared.write.WriteStage.{WriteStage}
 use Rattle.wait_model.specs.Covers.{shares, leased}
-use Rattle.wait_model.specs.GuardedAnswers.{change_owned}
-use Rattle.wait_model.specs.Phases.{begun, let_go, if_written}
-use Rattle.wait_model.specs.Stages.{is_due}
+use Rattle.wait_model.specs.Phases.{begun, let_go}
 use Rattle.wait_model.specs.Writes.{has_ticket, sends, asks}
 use Rattle.revoke_core.specs.declared.places.By.{By}
 use Rattle.revoke_core.specs.declared.places.By.TheVariants as by

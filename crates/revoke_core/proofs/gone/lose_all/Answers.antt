@@ -1,9 +1,7 @@
 -- One more write is done in its place.
 use Rattle.std.proofs.Common.{true, sym, ap, ◌∙◌}
 use Rattle.std.proofs.lemmas.List.Edits.{map_over_more}
-use Rattle.etcd_types.specs.Keys.{same}
 use Rattle.wait_model.specs.ForeignOwnership.{write_gone}
-use Rattle.wait_model.specs.SessionEnd.{write_ended}
 use Rattle.revoke_core.proofs.gone.lose_all.Goals as goal
 
 pub loop-write-preserved : goal.loop-write-preserved

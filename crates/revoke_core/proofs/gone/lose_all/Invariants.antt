@@ -1,8 +1,6 @@
 -- The writes so far are done, and the others as they were.
 use Rattle.std.proofs.Common.{◌≡◌, ◌++◌, true, map, take, drop}
-use Rattle.etcd_types.specs.Keys.{same}
 use Rattle.wait_model.specs.ForeignOwnership.{write_gone}
-use Rattle.wait_model.specs.SessionEnd.{write_ended}
 use Rattle.revoke_core.proofs.gone.lose_all.Given as goal
 
 abbrev pub invariant-loop-write : goal.invariant-loop-write

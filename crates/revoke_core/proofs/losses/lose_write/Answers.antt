@@ -1,6 +1,5 @@
 -- The write that was taken out is proper.
 use Rattle.std.proofs.Common.{sym, ◌∙◌}
-use Rattle.wait_model.specs.Writes.{has_ticket}
 use Rattle.revoke_core.specs.Steps.{passes}
 use Rattle.revoke_core.proofs.LossParts.{first_proper}
 use Rattle.revoke_core.proofs.losses.lose_write.Goals as goal

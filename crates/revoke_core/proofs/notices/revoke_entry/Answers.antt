@@ -1,11 +1,11 @@
 -- An entry of that create revision is given up; one that isn't known, under the live session, becomes one that leaves.
-use Rattle.std.proofs.Common.{◌≡◌, true, false, Some, sym, ◌∙◌, ap}
+use Rattle.std.proofs.Common.{sym, ◌∙◌, ap}
 use Rattle.proxy_model.specs.Keyed.{at, with_at}
 use Rattle.wait_model.specs.Notices.{revoked_turn}
 use Rattle.wait_model.specs.Phases.{is_of}
 use Rattle.revoke_calls.specs.Messages.{is_unknown}
 use Rattle.revoke_calls.proofs.TurnedKeys.{stays_at}
-use Rattle.revoke_core.proofs.NoticeParts.{revoked_of, unknown_absent, revoked_unknown, revoked_other}
+use Rattle.revoke_core.proofs.NoticeParts.{revoked_of, revoked_other}
 use Rattle.revoke_core.proofs.notices.revoke_entry.Goals as goal
 
 pub returns-then-is_of-clause-entries : goal.returns-then-is_of-clause-entries

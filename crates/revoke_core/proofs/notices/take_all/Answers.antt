@@ -1,5 +1,5 @@
 -- One notice more.
-use Rattle.std.proofs.Common.{◌≡◌, ◌<◌, [], ◌∷◌, length, sym, ◌∙◌, ap, arith}
+use Rattle.std.proofs.Common.{◌≡◌, [], ◌∷◌, sym, ◌∙◌, ap, arith}
 use Rattle.std.proofs.lemmas.List.{length_push}
 use Rattle.revoke_core.specs.Told.{Told, told_one, told_all}
 use Rattle.revoke_core.proofs.NoticeParts.{told_append}

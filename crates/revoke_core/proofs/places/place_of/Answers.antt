@@ -2,9 +2,8 @@
 use Rattle.std.proofs.Common.{◌≡◌, true, sym, ◌∙◌, ap, subst, arith}
 use Rattle.std.specs.List.{list_any}
 use Rattle.std.proofs.lemmas.List.{take_all}
-use Rattle.wait_model.specs.declared.wait.WaitCall.{WaitCall}
 use Rattle.wait_model.specs.declared.write.Write.{Write}
-use Rattle.revoke_core.specs.Steps.{passes, is_call}
+use Rattle.revoke_core.specs.Steps.{passes}
 use Rattle.revoke_core.proofs.Searches.{first_place, none_place}
 use Rattle.revoke_core.proofs.places.place_of.Goals as goal
 

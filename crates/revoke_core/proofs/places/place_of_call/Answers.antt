@@ -1,10 +1,8 @@
 -- The first that passes, or none.
-use Rattle.std.proofs.Common.{◌≡◌, true, sym, ◌∙◌, ap, subst, arith}
+use Rattle.std.proofs.Common.{sym, ◌∙◌, ap, arith}
 use Rattle.std.specs.List.{list_any}
 use Rattle.std.proofs.lemmas.List.{take_all}
-use Rattle.wait_model.specs.declared.wait.WaitCall.{WaitCall}
-use Rattle.wait_model.specs.declared.write.Write.{Write}
-use Rattle.revoke_core.specs.Steps.{passes, is_call}
+use Rattle.revoke_core.specs.Steps.{is_call}
 use Rattle.revoke_core.proofs.Searches.{first_call, none_call, equal_numbers}
 use Rattle.revoke_core.proofs.places.place_of_call.Goals as goal
 

@@ -1,5 +1,5 @@
 -- The first due call is of the write that was found.
-use Rattle.std.proofs.Common.{◌≡◌, List, Some, set, sym, ◌∙◌, ap, subst}
+use Rattle.std.proofs.Common.{List, Some, set, sym, ◌∙◌, ap, subst}
 use Rattle.wait_model.specs.declared.write.Write.{Write}
 use Rattle.wait_model.specs.DueOrder.{first_call}
 use Rattle.wait_model.specs.Fits.{is_proper}
