@@ -32,7 +32,7 @@ measure() {
     fi
     if [ "$count" -gt 0 ]; then
         cd "$copy"
-        edits=$(RT_JOBS=1 seconds "$copy.log" rt must-fail "$crate" --anew)
+        edits=$(RT_JOBS=1 seconds "$copy.log" rt must-fail "$crate" $anew)
     fi
     echo "$crate $proofs $tests $edits $count"
     rm -rf "$copy"
@@ -42,6 +42,10 @@ empty() {
     rm -rf out/incremental
     mkdir out/incremental
 }
+
+# Where the toolchain keeps edits that were refused before, it is told to try them anew.
+anew=
+if rt help 2>&1 | grep -q -e --anew; then anew=--anew; fi
 
 if [ "${1-}" = --row ]; then
     set +e
