@@ -1,0 +1,15 @@
+-- The outcome fits the event, since the history is allowed by the core.
+use Rattle.std.proofs.Common.{Ok}
+use Rattle.serve_model.specs.Steps.{FitsAnswer}
+use Rattle.serve_trial.proofs.Seats.{was_a_step, was_a_fault}
+use Rattle.serve_trial.proofs.seated.SeatedTurn.turn.Goals as goal
+
+pub returns-in-Ok-clause-fits : goal.returns-in-Ok-clause-fits
+returns-in-Ok-clause-fits g c =
+    let w = was_a_step (λ before event now answer after. FitsAnswer event answer) _ _ c.args.event _ (Ok c.in-Ok.outcome) c.in-Ok.ensures.outcome in
+    w.2
+
+pub returns-in-Err-Machine-clause-fits : goal.returns-in-Err-Machine-clause-fits
+returns-in-Err-Machine-clause-fits g c =
+    let w = was_a_fault (λ before event now answer after. FitsAnswer event answer) _ _ c.args.event _ _ c.in-Err-Machine.fault c.in-Err-Machine.field-0-is c.in-Err-Machine.ensures.fault in
+    w.2
