@@ -1,5 +1,5 @@
 -- An answer, part by part.
-use Rattle.std.proofs.Common.{◌≡◌, ℕ, zero, suc, ◌+◌, Bool, true, false, cond, ◌&&◌, List, [], ◌∷◌, Option, None, Some, Result, Ok, Err, refl, sym, ◌∙◌, ap}
+use Rattle.std.proofs.Common.{◌≡◌, ℕ, zero, suc, ◌+◌, Bool, true, false, cond, ◌&&◌, List, [], ◌∷◌, Option, None, Some, Err, refl, ◌∙◌, ap}
 use Rattle.std.specs.List.{list_all, remove}
 use Rattle.std.specs.Option.{option_map}
 use Rattle.etcd_types.proofs.Bools.{and_first, and_second, and_both}
@@ -28,7 +28,7 @@ use Rattle.wait_model.specs.Covers.{is_single}
 use Rattle.wait_model.specs.Endings.{answered, answered_job, revoke_back, revoke_answered, without_out}
 use Rattle.wait_model.specs.Edits.{without}
 use Rattle.wait_model.specs.ForeignOwnership.{stage_asked, finding}
-use Rattle.wait_model.specs.GuardedAnswers.{Ending, ended_by, staged_by, owns_at, kept_entries, failed, unwrote_entries, wrote_entries, done_if, write_answered}
+use Rattle.wait_model.specs.GuardedAnswers.{Ending, staged_by, owns_at, kept_entries, failed, unwrote_entries, wrote_entries, done_if, write_answered}
 use Rattle.wait_model.specs.Leaving.{rest, rescinded, if_read, rescind_answered}
 use Rattle.wait_model.specs.Phases.{is_of}
 use Rattle.wait_model.specs.Stages.{is_owner}

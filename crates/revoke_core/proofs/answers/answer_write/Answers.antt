@@ -1,5 +1,5 @@
 -- No write's call has this number, or the first that has it.
-use Rattle.std.proofs.Common.{◌≡◌, List, None, Ok, sym, ◌∙◌, ap, subst}
+use Rattle.std.proofs.Common.{◌≡◌, List, None, sym, ◌∙◌, ap, subst}
 use Rattle.etcd_types.specs.declared.answer.Answer.{Answer}
 use Rattle.wait_model.specs.declared.write.Write.{Write}
 use Rattle.wait_model.specs.GuardedAnswers.{write_answered}

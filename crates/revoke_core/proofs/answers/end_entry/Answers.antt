@@ -1,6 +1,6 @@
 -- The entry of this create revision is gone and its key rests; another one stays.
 use Rattle.std.proofs.Common.{◌+◌, Some, None, cond, sym, ◌∙◌, ap}
-use Rattle.proxy_model.specs.Keyed.{at, with_at}
+use Rattle.proxy_model.specs.Keyed.{with_at}
 use Rattle.proxy_model.specs.Limits.{capped}
 use Rattle.wait_model.specs.Leaving.{rest}
 use Rattle.wait_model.specs.Phases.{is_of}

@@ -1,10 +1,5 @@
 -- The parts are those of the definition; the writes stay proper.
-use Rattle.std.proofs.Common.{◌≡◌, ℕ, List, Result, Ok, Err, Option, OnErr, subst}
-use Rattle.lease_txn.specs.declared.not_shape.NotShape.{NotShape}
-use Rattle.proxy_model.specs.Keyed.{Keyed}
-use Rattle.wait_model.specs.declared.wait.Settled.{Settled}
-use Rattle.wait_model.specs.declared.wait.WaitCall.{WaitCall}
-use Rattle.wait_model.specs.declared.write.Write.{Write}
+use Rattle.std.proofs.Common.{subst}
 use Rattle.wait_model.specs.Endings.{answered}
 use Rattle.wait_model.specs.State.{Waits, owned}
 use Rattle.revoke_core.specs.Answers.{Gives}
