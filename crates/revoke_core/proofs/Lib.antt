@@ -4,3 +4,4 @@ pub mod Searches
 pub mod LossParts
 pub mod NoticeParts
 pub mod SendParts
+pub mod AnswerParts

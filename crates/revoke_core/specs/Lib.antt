@@ -2,3 +2,4 @@ pub mod Steps
 pub mod Losses
 pub mod Sends
 pub mod Told
+pub mod Answers

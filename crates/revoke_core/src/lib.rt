@@ -2,6 +2,7 @@
 //! foreign owners to give their keys up, and wait. What this proxy gives up itself is sent from here too.
 #![tactic(auto)]
 
+mod answers;
 mod gone;
 mod losses;
 mod notices;
@@ -12,5 +13,6 @@ mod turns;
 mod waits;
 
 pub use lease_table::{Entry, LeaseTable, Phase};
+pub use lease_txn::NotShape;
 pub use wait_model::{Due, DueKind, JobKind, Place, Settled};
 pub use waits::Waits;

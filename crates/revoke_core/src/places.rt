@@ -96,7 +96,7 @@ pub(crate) fn take_job(out: &mut Vec<WaitCall>, call: u64) -> Option<WaitJob>
     }
 }
 
-fn place_of_call(out: &[WaitCall], call: u64) -> Option<usize>
+pub(crate) fn place_of_call(out: &[WaitCall], call: u64) -> Option<usize>
     ensures found { IfSome result (IsCall call out.now) }
     ensures in_range { IfSome result (λ at. at < length out.now) }
     ensures none { IfNone result (job_of call out.now ≡ None) }

@@ -4,7 +4,7 @@ ghost use Rattle.std.specs.Option.{option_copied, option_map};
 ghost use Rattle.wait_model.specs.Asked.{submitted, acquire_begun, acquire_spoiled, acquire_ended, is_spoiled, is_true};
 ghost use Rattle.wait_model.specs.Covers.{covers};
 ghost use Rattle.wait_model.specs.DueOrder.{first_place};
-ghost use Rattle.wait_model.specs.Endings.{lost, forgotten};
+ghost use Rattle.wait_model.specs.Endings.{answered, lost, forgotten};
 ghost use Rattle.wait_model.specs.Fits.{is_write};
 ghost use Rattle.wait_model.specs.Leaving.{quiet_of, moment_or_zero};
 ghost use Rattle.wait_model.specs.LeasingStream.{resynced, all_given_up};
@@ -13,17 +13,20 @@ ghost use Rattle.wait_model.specs.Passes.{proceeded};
 ghost use Rattle.wait_model.specs.Sent.{job_sent};
 ghost use Rattle.wait_model.specs.SessionEnd.{session_ended};
 ghost use Rattle.wait_model.specs.State.{first_waits, owned, step_begun};
+ghost use Rattle.revoke_core.specs.Answers.{Gives};
 ghost use Rattle.revoke_core.specs.Sends.{after_sending};
 
+use crate::answers::{Told, answer_call};
 use crate::gone::{end_all, lose_all};
 use crate::losses::{forget_write, lose_job};
 use crate::notices::take_all;
 use crate::passes::{is_covered, pass};
 use crate::places::take_job;
 use crate::sends::{first_rescind, send_call, send_rescind};
-use etcd_types::{Bytes, Event, List, NoMemory, Request};
+use etcd_types::{Answer, Bytes, Event, List, NoMemory, Request};
 use keyed_rows::Rows;
 use lease_table::LeaseTable;
+use lease_txn::NotShape;
 use revoke_calls::{first_place, new_write, notices_of};
 use std::alloc::Global;
 use std::marker::Model;
@@ -137,6 +140,39 @@ impl Waits {
         ensures entries { table.new.entries ≡ (proceeded (owned table.old.entries self.old)).entries }
     {
         pass(&mut self.writes, &mut self.spoiled, table, self.step);
+    }
+
+    /// The call of this number was answered, under the live session of this number, at this reading of the clock in milliseconds.
+    /// `Shape` comes exactly where the answer can't be one to the call, which then counts as lost; then, and where memory was wanting,
+    /// all is as before.
+    pub fn answered(
+        &mut self,
+        call: u64,
+        answer: Answer,
+        session: Option<u64>,
+        now: u64,
+        table: &mut LeaseTable,
+    ) -> Result<Settled, NotShape>
+        ensures ending { Gives result (owned table.new.entries self.new) (answered call answer session now (owned table.old.entries self.old)) }
+        ensures err { OnErr result (self.new ≡ self.old) }
+        ensures err_entries { OnErr result (table.new.entries ≡ table.old.entries) }
+    {
+        let told = Told {
+            call,
+            answer,
+            session,
+            now,
+        };
+        answer_call(
+            self.alloc,
+            &self.prefix,
+            self.step,
+            told,
+            &mut self.writes,
+            &mut self.quiet,
+            &mut self.out,
+            table,
+        )
     }
 
     /// The call of this number was lost.
