@@ -1,5 +1,5 @@
 -- A proxy's life: the part of a transcript since it was started last. What a transcript tells of one proxy is told of its life.
-use Rattle.std.specs.Prelude.{ℕ, Bool, true, false, ◌==◌, ◌&&◌, if◌then◌else◌, List, [], ◌∷◌, ◌++◌, length, slice_get, filter, Option, None, Some}
+use Rattle.std.specs.Prelude.{ℕ, Bool, false, ◌==◌, ◌&&◌, if◌then◌else◌, List, [], ◌∷◌, ◌++◌, length, slice_get, filter, Option, None, Some}
 use Rattle.std.specs.List.{list_any}
 use Rattle.etcd_types.specs.declared.answer.Answer.{Answer}
 use Rattle.etcd_types.specs.declared.request.Request.{Request}
