@@ -66,7 +66,12 @@ CountsBehind number (Err why) = Unit {0}
 counted_by : (number : ℕ) (w : World) (l : Line) (r : Result (List Item) LineRefusal) → (done w l).gained ≡ r → Counts number w
     → CountsBehind number (counted_as (done w l).world r)
 counted_by number w l (Ok items) e h =
-    let k = taken_keeps w l items e in record { lines = ap (λ (n : ℕ). n + 1) (k.lines ∙ h.lines); watches = k.watches h.watches; lives = lives_on w (done w l).world k.members k.store h.lives }
+    let k = taken_keeps w l items e in
+    let v = lives_on w (done w l).world k.members k.store h.lives in record {
+      lines = ap (λ (n : ℕ). n + 1) (k.lines ∙ h.lines);
+      watches = k.watches h.watches;
+      lives = record { steps = v.steps; store = v.store };
+    }
 counted_by number w l (Err why) e h = tt
 
 taken_counts : (number : ℕ) (w : World) (l : Line) → Counts number w → CountsBehind number (taken w l)
