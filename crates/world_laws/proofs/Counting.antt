@@ -1,7 +1,13 @@
 -- Lines are counted as they are taken, and their items follow one another.
-use Rattle.std.proofs.Common.{◌≡◌, ℕ, ◌+◌, ◌-◌, subst, List, [], ◌∷◌, ◌++◌, length, Option, None, Some, Result, Ok, Err, refl, sym, ◌∙◌, ap, arith, append_assoc}
+use Rattle.std.proofs.Common.{◌≡◌, ℕ, ◌+◌, ◌-◌, subst, List, [], ◌∷◌, ◌++◌, length, Option, None, Some, Result, Ok, Err, refl, sym, ◌∙◌, ap, arith, append_assoc, inl, inr}
 use Rattle.script_text.specs.declared.item.Item.{Item}
 use Rattle.script_text.specs.declared.line.Line.{Line}
+use Rattle.store_model.specs.State.{State, starting}
+use Rattle.store_sound.specs.Lives.{StoreStep, stepped, lived}
+use Rattle.store_sound.specs.Sound.{Sound}
+use Rattle.store_sound.proofs.LifeProofs.{lives_are_sound}
+use Rattle.world_laws.specs.Laws.{HasLived}
+use Rattle.world_laws.proofs.Watches.{Moves}
 use Rattle.script_text.specs.declared.line.Line.TheVariants as line
 use Rattle.world_laws.proofs.Lines.{taken_keeps}
 use Rattle.world_model.specs.declared.fault.LineRefusal.{LineRefusal}
@@ -35,10 +41,23 @@ goes_on (l ∷ lines) more v e = goes_on_by (begun l) lines more v (λ u. goes_o
 
 -- ---- lines
 
+lived-append : (s : State) (es : List StoreStep) (e : StoreStep) → lived s (es ++ e ∷ []) ≡ stepped (lived s es) e
+lived-append s [] e = refl
+lived-append s (f ∷ es) e = lived-append (stepped s f) es e
+
+-- the life of a world's store goes on by at most one step
+lives_on : (w after : World) → after.members ≡ w.members → Moves w.store after.store → HasLived w → HasLived after
+lives_on w after m (inl e) h = record { steps = h.steps; store = e ∙ h.store ∙ ap (λ (n : ℕ). lived (starting n) h.steps) (sym m) }
+lives_on w after m (inr v) h = record {
+  steps = h.steps ++ v.0 ∷ [];
+  store = v.1 ∙ ap (λ (s : State). stepped s v.0) (h.store ∙ ap (λ (n : ℕ). lived (starting n) h.steps) (sym m)) ∙ sym (lived-append (starting after.members) h.steps v.0);
+}
+
 -- what is kept from line to line behind the first, where so many were taken
 pub record Counts (number : ℕ) (w : World) : Type 0 where
   pub lines : w.lines ≡ number
   pub watches : length w.store.watches ≡ length w.streams
+  pub lives : HasLived w
 
 abbrev CountsBehind : ℕ → Taken → Type 0
 CountsBehind number (Ok gained) = Counts (number + 1) gained.0
@@ -47,7 +66,12 @@ CountsBehind number (Err why) = Unit {0}
 counted_by : (number : ℕ) (w : World) (l : Line) (r : Result (List Item) LineRefusal) → (done w l).gained ≡ r → Counts number w
     → CountsBehind number (counted_as (done w l).world r)
 counted_by number w l (Ok items) e h =
-    let k = taken_keeps w l items e in record { lines = ap (λ (n : ℕ). n + 1) (k.lines ∙ h.lines); watches = k.watches h.watches }
+    let k = taken_keeps w l items e in
+    let v = lives_on w (done w l).world k.members k.store h.lives in record {
+      lines = ap (λ (n : ℕ). n + 1) (k.lines ∙ h.lines);
+      watches = k.watches h.watches;
+      lives = record { steps = v.steps; store = v.store };
+    }
 counted_by number w l (Err why) e h = tt
 
 taken_counts : (number : ℕ) (w : World) (l : Line) → Counts number w → CountsBehind number (taken w l)
@@ -69,7 +93,7 @@ behind_by number lines (Ok gained) g h = h gained.0 g
 behind_by number lines (Err why) g h = tt
 
 counts_from : (number : ℕ) (w : World) (lines : List Line) → Counts number w → CountsAll (number + length lines) (world_from (Some w) lines)
-counts_from number w [] h = record { lines = omega (arith, h.lines); watches = h.watches }
+counts_from number w [] h = record { lines = omega (arith, h.lines); watches = h.watches; lives = h.lives }
 counts_from number w (l ∷ lines) h =
     let more : number + 1 + length lines ≡ number + length (l ∷ lines) = omega arith in
     subst (λ (n : ℕ). CountsAll n (world_from (Some w) (l ∷ lines))) more
@@ -82,7 +106,7 @@ first_by lines (Ok gained) g =
 first_by lines (Err why) g = tt
 
 begun_counts : (l : Line) → FirstCounts (begun l)
-begun_counts (line.World members namespace leasing) = record { lines = refl; watches = refl }
+begun_counts (line.World members namespace leasing) = record { lines = refl; watches = refl; lives = record { steps = []; store = refl } }
 begun_counts _ = tt
 
 -- behind the first line, one less than the lines taken
@@ -109,3 +133,10 @@ words_are (l ∷ lines) w e = omega (arith, (are_counted (l ∷ lines) w e).line
 
 pub streams_are : (lines : List Line) (w : World) → world_behind lines ≡ Ok (Some w) → length w.store.watches ≡ length w.streams
 streams_are lines w e = (are_counted lines w e).watches
+
+pub stores_live : (lines : List Line) (w : World) → world_behind lines ≡ Ok (Some w) → HasLived w
+stores_live lines w e = (are_counted lines w e).lives
+
+pub stores_are_sound : (lines : List Line) (w : World) → world_behind lines ≡ Ok (Some w) → Sound w.store
+stores_are_sound lines w e =
+    let h = stores_live lines w e in subst Sound (sym h.store) (lives_are_sound w.members h.steps)

@@ -42,23 +42,32 @@ use Rattle.world_model.specs.Streams.{pushed_as, pushed_at, pushed_of, open_plac
 use Rattle.world_model.specs.Takes.{is_watch, took, taken_if, taken_at, message_taken, has_left, left_if, left_at, left}
 use Rattle.world_model.specs.Transcript.{Done, step, done}
 use Rattle.store_laws.proofs.RequestProofs.{whole-exec}
-use Rattle.world_laws.proofs.Watches.{KeepsWatches, pushes_keep, progress_keeps, LeavesWatches, expiries_leave, applies_leave}
+use Rattle.store_sound.specs.Lives.{executes, opens}
+use Rattle.world_laws.proofs.Watches.{Moves, KeepsStore, pushes_keep, progress_keeps, LeavesStore, expiries_leave, applies_leave}
 use Rattle.world_laws.specs.Laws.{OneStepped, IsOwn, GainsItsOwn}
 
 -- the world as it was, or with a step of one proxy
 abbrev Left : World → World → Type 0
 Left w after = (after ≡ w) ⊎ OneStepped w after
 
--- The lines are counted behind a line, and each of the store's watches is a stream.
+-- The lines are counted behind a line, each of the store's watches is a stream, and the store makes one step at most.
 pub record Keeps (w after : World) : Type 0 where
   pub lines : after.lines ≡ w.lines
+  pub members : after.members ≡ w.members
   pub watches : length w.store.watches ≡ length w.streams → length after.store.watches ≡ length after.streams
+  pub store : Moves w.store after.store
 
-kept : (w after : World) → after.lines ≡ w.lines → length after.store.watches ≡ length w.store.watches → length after.streams ≡ length w.streams → Keeps w after
-kept w after l a b = record { lines = l; watches = λ h. a ∙ h ∙ sym b }
+-- the store as it was, and as many streams
+kept : (w after : World) → after.lines ≡ w.lines → after.members ≡ w.members → after.store ≡ w.store → length after.streams ≡ length w.streams → Keeps w after
+kept w after l m a b = record { lines = l; members = m; watches = λ h. ap (λ (store : State). length store.watches) a ∙ h ∙ sym b; store = inl a }
+
+-- a step of the store that leaves its watches, or as many
+moved : (w after : World) → after.lines ≡ w.lines → after.members ≡ w.members → length after.store.watches ≡ length w.store.watches → Moves w.store after.store
+    → length after.streams ≡ length w.streams → Keeps w after
+moved w after l m a v b = record { lines = l; members = m; watches = λ h. a ∙ h ∙ sym b; store = v }
 
 same : (w : World) → Keeps w w
-same w = kept w w refl refl refl
+same w = kept w w refl refl refl refl
 
 -- what a line did to the world `w`: its own item was gained first, or the world was left
 abbrev Did : World → Line → World → Result (List Item) WorldFault → Type 0
@@ -77,7 +86,7 @@ stepped_world w p x event = with_place w p (with_core x (stepped x.core event x.
 gained_does : (w v : World) (l : Line) (p : ℕ) (x : Place) (own : Item) (rest : List Item) (told : List (ℕ × Answer)) → Keeps w v → IsOwn l own
     → Does w l (gained v p x (own ∷ rest) told)
 gained_does w v l p x own rest told k is =
-    (record { own = own; rest = _; gained = refl; repeats = is }, record { lines = k.lines; watches = k.watches })
+    (record { own = own; rest = _; gained = refl; repeats = is }, record { lines = k.lines; members = k.members; watches = k.watches; store = k.store })
 
 -- the world that the step left is what is left where the line can't be taken
 outcome_does : (w : World) (l : Line) (p : ℕ) (x : Place) (why : WorldFault) (next : Place → Outcome → Step) (r : Result Outcome StepFault)
@@ -105,13 +114,13 @@ choice w l false x y f g = g
 -- ---- line by line
 
 started_does : (w : World) (p : ℕ) (o : Option Place) → Does w (line.Start p) (started_over w p o)
-started_does w p None = (record { own = item.Started p; rest = []; gained = refl; repeats = refl }, kept w _ refl refl refl)
-started_does w p (Some x) = (record { own = item.Restarted p; rest = []; gained = refl; repeats = refl }, kept w _ refl refl refl)
+started_does w p None = (record { own = item.Started p; rest = []; gained = refl; repeats = refl }, kept w _ refl refl refl refl)
+started_does w p (Some x) = (record { own = item.Restarted p; rest = []; gained = refl; repeats = refl }, kept w _ refl refl refl refl)
 
 clock_does : (w : World) (p millis : ℕ) → Does w (line.Clock p millis) (clock_set w p millis)
 clock_does w p millis =
     at_does w (line.Clock p millis) p (place_at w p) (clock_set_at w p millis) refl
-    (λ x e. choice w (line.Clock p millis) (nat_lt millis x.clock) _ _ (inl refl) ((record { own = item.Clock p millis; rest = []; gained = refl; repeats = (refl, refl) }, kept w _ refl refl refl)))
+    (λ x e. choice w (line.Clock p millis) (nat_lt millis x.clock) _ _ (inl refl) ((record { own = item.Clock p millis; rest = []; gained = refl; repeats = (refl, refl) }, kept w _ refl refl refl refl)))
 
 ticked_does : (w : World) (p : ℕ) → Does w (line.Tick p) (ticked w p)
 ticked_does w p =
@@ -131,7 +140,7 @@ posted_by w p ticket path body x (Ok q) e =
     steps_does w (line.Post p ticket path body) p x _ _ (was_asked w p ticket q (item.Posted p ticket path body ∷ []) (with_posted ticket)) e
     (λ y o k. gained_does w w (line.Post p ticket path body) p (with_posted ticket y) (item.Posted p ticket path body) (item.Asked p ticket q ∷ []) (told_at_once ticket o) (same w) (refl, refl, refl, refl))
 posted_by w p ticket path body x (Err why) e =
-    (record { own = item.Posted p ticket path body; rest = _; gained = refl; repeats = (refl, refl, refl, refl) }, kept w _ refl refl refl)
+    (record { own = item.Posted p ticket path body; rest = _; gained = refl; repeats = (refl, refl, refl, refl) }, kept w _ refl refl refl refl)
 
 posted_does : (w : World) (p ticket : ℕ) (path body : List ℕ) → Does w (line.Post p ticket path body) (posted w p ticket path body)
 posted_does w p ticket path body =
@@ -144,11 +153,11 @@ one_longer xs ys x y e = omega (arith, length-append xs (x ∷ []), length-appen
 
 closed_keeps : (w : World) (number : ℕ) (o : Option OpenedStream) → Keeps w (closed_in w number o)
 closed_keeps w number None = same w
-closed_keeps w number (Some s) = kept w _ refl refl (length-set w.streams (number - 1) (ended s))
+closed_keeps w number (Some s) = kept w _ refl refl refl (length-set w.streams (number - 1) (ended s))
 
 -- a proxy that has nothing to send made a step all the same
 opened_does : (w : World) (p : ℕ) (x : Place) (own member : ℕ) (q : Request) → Left w (with_place w p x) → Does w (line.Send p) (stream_opened w p x own member q)
-opened_does w p x own member (request.Watch ask) h = gained_does w _ (line.Send p) p (record x { streams = with_kept x.streams own (next_stream w) }) (item.Opened p (next_stream w) member (request.Watch ask)) [] [] (record { lines = refl; watches = λ h. one_longer w.store.watches w.streams _ _ h }) refl
+opened_does w p x own member (request.Watch ask) h = gained_does w _ (line.Send p) p (record x { streams = with_kept x.streams own (next_stream w) }) (item.Opened p (next_stream w) member (request.Watch ask)) [] [] (record { lines = refl; members = refl; watches = λ h. one_longer w.store.watches w.streams _ _ h; store = inr (opens member ask, refl) }) refl
 opened_does w p x own member (request.Range ask) h = h
 opened_does w p x own member (request.Put ask) h = h
 opened_does w p x own member (request.Delete ask) h = h
@@ -165,7 +174,7 @@ closed_does w p x None h = h
 closed_does w p x (Some number) h = gained_does w _ (line.Send p) p x (item.Closed p number) [] [] (closed_keeps w number (nth w.streams number)) refl
 
 job_does : (w : World) (p : ℕ) (x : Place) (j : Job) → Left w (with_place w p x) → Does w (line.Send p) (job_done w p x j)
-job_does w p x (job.Call own member ticket q) h = gained_does w _ (line.Send p) p (record x { calls = x.calls ++ next_call w ∷ [] }) (item.Sent p (next_call w) member ticket q) [] [] (kept w _ refl refl refl) refl
+job_does w p x (job.Call own member ticket q) h = gained_does w _ (line.Send p) p (record x { calls = x.calls ++ next_call w ∷ [] }) (item.Sent p (next_call w) member ticket q) [] [] (kept w _ refl refl refl refl) refl
 job_does w p x (job.Begin own member q) h = opened_does w p x own member q h
 job_does w p x (job.Close own) h = closed_does w p x (kept_at x.streams own) h
 
@@ -188,7 +197,7 @@ sent_does w p =
 executed_by : (w : World) (number : ℕ) (call : SentCall) (o : Option Answer) → Does w (line.Exec number) (executed_if w number call o)
 executed_by w number call (Some a) = inl refl
 executed_by w number call None =
-    (record { own = item.Executed number _; rest = []; gained = refl; repeats = refl }, kept w _ refl (ap length (whole-exec w.store call.member call.request).watches) refl)
+    (record { own = item.Executed number _; rest = []; gained = refl; repeats = refl }, moved w _ refl refl (ap length (whole-exec w.store call.member call.request).watches) (inr (executes call.member call.request, refl)) refl)
 
 executed_does : (w : World) (number : ℕ) (o : Option SentCall) → Does w (line.Exec number) (executed_of w number o)
 executed_does w number None = inl refl
@@ -218,7 +227,7 @@ answered_by : (w : World) (number : ℕ) (call : SentCall) (x : Place) (o : Opti
 answered_by w number call x None e = inl refl
 answered_by w number call x (Some a) e =
     steps_does w (line.Answer number) call.proxy x _ _ (was_answered w number call) e
-    (λ y o k. gained_does w _ (line.Answer number) call.proxy y (item.Answered number) [] [] (kept w _ refl refl refl) refl)
+    (λ y o k. gained_does w _ (line.Answer number) call.proxy y (item.Answered number) [] [] (kept w _ refl refl refl refl) refl)
 
 answered_in : (w : World) (number : ℕ) (call : SentCall) (o : Option Place) → call_place w call ≡ o → Does w (line.Answer number) (answered_at w number call o)
 answered_in w number call None e = inl refl
@@ -232,7 +241,7 @@ lost_in : (w : World) (number : ℕ) (call : SentCall) (o : Option Place) → ca
 lost_in w number call None e = inl refl
 lost_in w number call (Some x) e =
     steps_does w (line.Lose number) call.proxy x _ _ (was_lost w number call) (call_is w call x e)
-    (λ y o k. gained_does w _ (line.Lose number) call.proxy y (item.Lost number) [] [] (kept w _ refl refl refl) refl)
+    (λ y o k. gained_does w _ (line.Lose number) call.proxy y (item.Lost number) [] [] (kept w _ refl refl refl refl) refl)
 
 lost_does : (w : World) (number : ℕ) (o : Option SentCall) → Does w (line.Lose number) (lost_of w number o)
 lost_does w number None = inl refl
@@ -240,18 +249,18 @@ lost_does w number (Some call) = lost_in w number call (call_place w call) refl
 
 -- ---- streams
 
-pushed_by : (w : World) (l : Line) (number : ℕ) (s : OpenedStream) (k : Pushed) → KeepsWatches w.store k → ((i : WatchItem) → IsOwn l (item.Pushed number i))
+pushed_by : (w : World) (l : Line) (number : ℕ) (s : OpenedStream) (k : Pushed) → KeepsStore w.store k → ((i : WatchItem) → IsOwn l (item.Pushed number i))
     → Does w l (pushed_as w number s k)
 pushed_by w l number s (Err why) m is = inl refl
 pushed_by w l number s (Ok p) m is =
-    (record { own = item.Pushed number p.1; rest = []; gained = refl; repeats = is p.1 }, kept w _ refl m (length-set w.streams (number - 1) _))
+    (record { own = item.Pushed number p.1; rest = []; gained = refl; repeats = is p.1 }, moved w _ refl refl m.0 m.1 (length-set w.streams (number - 1) _))
 
-pushed_in : (w : World) (l : Line) (number : ℕ) (message : ℕ → Pushed) (s : OpenedStream) (o : Option Place) → KeepsWatches w.store (message number) → ((i : WatchItem) → IsOwn l (item.Pushed number i))
+pushed_in : (w : World) (l : Line) (number : ℕ) (message : ℕ → Pushed) (s : OpenedStream) (o : Option Place) → KeepsStore w.store (message number) → ((i : WatchItem) → IsOwn l (item.Pushed number i))
     → Does w l (pushed_at w number message s o)
 pushed_in w l number message s None m is = inl refl
 pushed_in w l number message s (Some x) m is = pushed_by w l number s (message number) m is
 
-pushed_does : (w : World) (l : Line) (number : ℕ) (message : ℕ → Pushed) (o : Option OpenedStream) → KeepsWatches w.store (message number) → ((i : WatchItem) → IsOwn l (item.Pushed number i))
+pushed_does : (w : World) (l : Line) (number : ℕ) (message : ℕ → Pushed) (o : Option OpenedStream) → KeepsStore w.store (message number) → ((i : WatchItem) → IsOwn l (item.Pushed number i))
     → Does w l (pushed_of w number message o)
 pushed_does w l number message None m is = inl refl
 pushed_does w l number message (Some s) m is = pushed_in w l number message s (open_place w s) m is
@@ -261,7 +270,7 @@ delivered_by : (w : World) (number : ℕ) (s : OpenedStream) (x : Place) (waitin
 delivered_by w number s x [] e = inl refl
 delivered_by w number s x (i ∷ rest) e =
     steps_does w (line.Deliver number) s.proxy x _ _ (was_delivered w number s rest) e
-    (λ y o k. gained_does w _ (line.Deliver number) s.proxy y (item.Delivered number) [] [] (kept w _ refl refl (length-set w.streams (number - 1) _)) refl)
+    (λ y o k. gained_does w _ (line.Deliver number) s.proxy y (item.Delivered number) [] [] (kept w _ refl refl refl (length-set w.streams (number - 1) _)) refl)
 
 delivered_in : (w : World) (number : ℕ) (s : OpenedStream) (o : Option Place) → stream_place w s ≡ o → Does w (line.Deliver number) (delivered_at w number s o)
 delivered_in w number s None e = inl refl
@@ -275,7 +284,7 @@ cut_in : (w : World) (number : ℕ) (s : OpenedStream) (o : Option Place) → op
 cut_in w number s None e = inl refl
 cut_in w number s (Some x) e =
     steps_does w (line.Cut number) s.proxy x _ _ (was_cut w number s) (stream_is w s x (unless_is s.cancelled _ x e))
-    (λ y o k. gained_does w _ (line.Cut number) s.proxy y (item.Cut number) [] [] (kept w _ refl refl (length-set w.streams (number - 1) _)) refl)
+    (λ y o k. gained_does w _ (line.Cut number) s.proxy y (item.Cut number) [] [] (kept w _ refl refl refl (length-set w.streams (number - 1) _)) refl)
 
 cut_does : (w : World) (number : ℕ) (o : Option OpenedStream) → Does w (line.Cut number) (cut_of w number o)
 cut_does w number None = inl refl
@@ -314,20 +323,20 @@ left_does w p ticket = at_does w (line.Leave p ticket) p (place_at w p) (left_at
 
 -- ---- lines of the store
 
-due_does : (w : World) (lease : ℕ) (o : Option WorldFault) (after : State) → after.watches ≡ w.store.watches → Does w (line.Expire lease) (expired_if w lease o after)
+due_does : (w : World) (lease : ℕ) (o : Option WorldFault) (after : State) → (after.watches ≡ w.store.watches) × Moves w.store after → Does w (line.Expire lease) (expired_if w lease o after)
 due_does w lease (Some why) after e = inl refl
 due_does w lease None after e =
-    (record { own = item.Expired lease; rest = []; gained = refl; repeats = refl }, kept w _ refl (ap length e) refl)
+    (record { own = item.Expired lease; rest = []; gained = refl; repeats = refl }, moved w _ refl refl (ap length e.0) e.1 refl)
 
-expired_does : (w : World) (lease : ℕ) (r : Result State StoreFault) → LeavesWatches w.store r → Does w (line.Expire lease) (expired_by w lease r)
+expired_does : (w : World) (lease : ℕ) (r : Result State StoreFault) → LeavesStore w.store r → Does w (line.Expire lease) (expired_by w lease r)
 expired_does w lease (Err why) e = inl refl
 expired_does w lease (Ok after) e = due_does w lease (not_due w lease) after e
 
-applied_does : (w : World) (member revision : ℕ) (r : Result State StoreFault) → LeavesWatches w.store r
+applied_does : (w : World) (member revision : ℕ) (r : Result State StoreFault) → LeavesStore w.store r
     → Does w (line.Apply member revision) (store_stepped w (item.Applied member revision) r)
 applied_does w member revision (Err why) e = inl refl
 applied_does w member revision (Ok after) e =
-    (record { own = item.Applied member revision; rest = []; gained = refl; repeats = (refl, refl) }, kept w _ refl (ap length e) refl)
+    (record { own = item.Applied member revision; rest = []; gained = refl; repeats = (refl, refl) }, moved w _ refl refl (ap length e.0) e.1 refl)
 
 -- ---- all lines
 

@@ -6,6 +6,9 @@ use Rattle.script_text.specs.declared.item.Item.{Item}
 use Rattle.script_text.specs.declared.item.Item.TheVariants as item
 use Rattle.script_text.specs.declared.line.Line.{Line}
 use Rattle.script_text.specs.declared.line.Line.TheVariants as line
+use Rattle.store_model.specs.State.{starting}
+use Rattle.store_sound.specs.Lives.{StoreStep, lived}
+use Rattle.store_sound.specs.Sound.{Sound}
 use Rattle.world_model.specs.Answers.{AnswersAreTheStores, MessagesAreTheStores}
 use Rattle.world_model.specs.declared.fault.LineRefusal.{LineRefusal}
 use Rattle.world_model.specs.Places.{place_at, with_place, with_core}
@@ -22,6 +25,17 @@ EachTranscriptHasTheStoresMessages = (lines : List Line) → MessagesAreTheStore
 abbrev pub StreamsAreWatches : Type 0
 StreamsAreWatches =
     (lines : List Line) (w : World) → world_behind lines ≡ Ok (Some w) → length w.store.watches ≡ length w.streams
+
+-- The world's store is what began empty and had steps done to it, so it is sound.
+pub record HasLived (w : World) : Type 0 where
+  pub steps : List StoreStep
+  pub store : w.store ≡ lived (starting w.members) steps
+
+abbrev pub StoresLive : Type 0
+StoresLive = (lines : List Line) (w : World) → world_behind lines ≡ Ok (Some w) → HasLived w
+
+abbrev pub StoresAreSound : Type 0
+StoresAreSound = (lines : List Line) (w : World) → world_behind lines ≡ Ok (Some w) → Sound w.store
 
 -- One of the proxies made a step, and nothing else happened.
 pub record OneStepped (w after : World) : Type 0 where

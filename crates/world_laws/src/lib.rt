@@ -2,7 +2,7 @@
 //! program's clauses cite.
 #![tactic(auto)]
 
-ghost use Rattle.world_laws.specs.Laws.{EachTranscriptHasTheStoresAnswers, EachTranscriptHasTheStoresMessages, RefusedLinesLeaveTheWorld, WordsAreLineNumbers, TranscriptsGoOn, EachLineGainsItsOwn, StreamsAreWatches};
+ghost use Rattle.world_laws.specs.Laws.{EachTranscriptHasTheStoresAnswers, EachTranscriptHasTheStoresMessages, RefusedLinesLeaveTheWorld, WordsAreLineNumbers, TranscriptsGoOn, EachLineGainsItsOwn, StreamsAreWatches, StoresLive, StoresAreSound};
 
 /// For every script and any number of proxies, each answer of its transcript is the store's, and so is each message of a stream.
 pub fn answers_are_the_stores()
@@ -13,6 +13,12 @@ pub fn answers_are_the_stores()
 /// The store numbers its watches as the world its streams.
 pub fn streams_are_watches()
     ensures { StreamsAreWatches }
+{}
+
+/// The store of a world is one that began empty and had steps done to it, and so it is sound.
+pub fn stores_are_sound()
+    ensures live { StoresLive }
+    ensures sound { StoresAreSound }
 {}
 
 /// A line that can't be taken leaves the world, but for the step of the one proxy that made one.

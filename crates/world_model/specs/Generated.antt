@@ -1,16 +1,20 @@
 -- The generated script of a number: three proxies before a store of two members, and for each number up to that one a read, a put or
 -- a deletion of one of eight keys at one of the proxies, each followed by all that it makes due. Which one it is comes from a
 -- linear congruential generator: its multiplier and increment are those of Knuth's MMIX.
-use Rattle.std.specs.Prelude.{ℕ, zero, suc, ◌+◌, ◌*◌, ◌/◌, ◌%◌, ◌^◌, ◌==◌, Bool, true, false, if◌then◌else◌, List, [], ◌∷◌, ◌++◌, length, codes, Option, None, Some, Ok, Err}
+use Rattle.std.specs.Prelude.{ℕ, zero, suc, ◌+◌, ◌*◌, ◌/◌, ◌%◌, ◌^◌, ◌==◌, Bool, true, false, ◌&&◌, not, if◌then◌else◌, List, [], ◌∷◌, ◌++◌, length, filter, codes, Option, None, Some, Ok, Err}
 use Rattle.std.specs.Fmt.{decimal}
 use Rattle.etcd_types.specs.declared.request.Request.{Request}
 use Rattle.etcd_types.specs.declared.request.Request.TheVariants as request
 use Rattle.proxy_model.specs.Asks.{range_ask}
 use Rattle.proxy_model.specs.Prefixes.{only}
+use Rattle.proxy_model.specs.Snapshot.{is_plain}
 use Rattle.script_text.specs.declared.item.Item.{Item}
 use Rattle.script_text.specs.declared.item.Item.TheVariants as item
 use Rattle.script_text.specs.declared.line.Line.{Line}
 use Rattle.script_text.specs.declared.line.Line.TheVariants as line
+use Rattle.store_model.specs.History.{newest}
+use Rattle.world_model.specs.Answers.{seen}
+use Rattle.world_model.specs.Lives.{asked_as, is_named}
 use Rattle.world_model.specs.Questions.{has_due, streams, can_push}
 use Rattle.world_model.specs.State.{World}
 use Rattle.world_model.specs.Transcript.{Taken, next}
@@ -165,3 +169,37 @@ made n =
 -- the script, for numbers from 1 to 20,000
 abbrev pub generated : ℕ → List Line
 generated n = (made n).lines
+
+-- What is told of a generated script: how much was asked and replied, how many plain reads were replied with no call that names
+-- them, and the newest revision.
+
+pub record Summary : Type 0 where
+  pub asked : ℕ
+  pub replied : ℕ
+  pub unsent : ℕ
+  pub revision : ℕ
+
+abbrev pub is_asked : Item → Bool
+is_asked (item.Asked p ticket q) = true
+is_asked _ = false
+
+abbrev pub is_reply : Item → Bool
+is_reply (item.Reply p ticket a) = true
+is_reply _ = false
+
+abbrev pub is_plain_read : Option Request → Bool
+is_plain_read (Some (request.Range ask)) = is_plain ask
+is_plain_read _ = false
+
+abbrev pub is_unsent : List Item → Item → Bool
+is_unsent items (item.Reply p ticket a) = is_plain_read (asked_as p ticket items) && not (is_named p ticket items)
+is_unsent items _ = false
+
+abbrev pub summary : List Item → Summary
+summary items =
+    record {
+      asked = length (filter is_asked items);
+      replied = length (filter is_reply items);
+      unsent = length (filter (is_unsent items) items);
+      revision = newest (seen items).store.history;
+    }

@@ -16,4 +16,8 @@ pub mod Transcript
 pub mod Answers
 pub mod Questions
 pub mod Generated
+pub mod Lives
+pub mod Reads
+pub mod Received
+pub mod LiveSessions
 pub mod Worked

@@ -11,4 +11,4 @@ mod worked;
 pub use fault::{LineRefusal, WorldFault};
 pub use floor::Floor;
 pub use sent_call::SentCall;
-pub use worked::{worked_leases, worked_scripts};
+pub use worked::{worked_generation, worked_leases, worked_scripts, worked_tellings};

@@ -1,4 +1,4 @@
-ghost use Rattle.world_model.specs.Worked.{PutIsPassedOn, LostCallIsExecuted, CallIsExecutedOnce, RestartedTakesNoAnswer, TicketsAreAProxys, WatchIsCreated, CutDropsMessages, SecondReadIsCached, SessionIsNotDue, SessionExpires, ClocksOutliveStarts};
+ghost use Rattle.world_model.specs.Worked.{PutIsPassedOn, LostCallIsExecuted, CallIsExecutedOnce, RestartedTakesNoAnswer, TicketsAreAProxys, WatchIsCreated, CutDropsMessages, SecondReadIsCached, SessionIsNotDue, SessionExpires, ClocksOutliveStarts, SessionIsTold, LiveBelowDeadline, NotLiveAtDeadline, EndsByStep, CachedReadIsUnsent, CachedReadShowsStore, RevisionsAreGiven, OneIsGenerated, OneIsSummed};
 
 /// Worked scripts without leasing: the definitions give these by computation.
 pub fn worked_scripts()
@@ -17,4 +17,21 @@ pub fn worked_leases()
     ensures session_is_not_due { SessionIsNotDue }
     ensures session_expires { SessionExpires }
     ensures clocks_outlive_starts { ClocksOutliveStarts }
+{}
+
+/// What worked transcripts tell: the definitions give these by computation.
+pub fn worked_tellings()
+    ensures session_is_told { SessionIsTold }
+    ensures live_below_deadline { LiveBelowDeadline }
+    ensures not_live_at_deadline { NotLiveAtDeadline }
+    ensures ends_by_step { EndsByStep }
+    ensures cached_read_is_unsent { CachedReadIsUnsent }
+    ensures cached_read_shows_store { CachedReadShowsStore }
+    ensures revisions_are_given { RevisionsAreGiven }
+{}
+
+/// The generated script of 1, and what is told of it: the definitions give these by computation.
+pub fn worked_generation()
+    ensures one_is_generated { OneIsGenerated }
+    ensures one_is_summed { OneIsSummed }
 {}
