@@ -4,6 +4,7 @@ use Rattle.std.specs.Prelude.{ℕ, ◌+◌, ◌*◌, Bool, true, ◌&&◌, nat_l
 use Rattle.etcd_types.specs.declared.answer.Answer.{Answer}
 use Rattle.etcd_types.specs.declared.answer.Answer.TheVariants.{Done, Refused}
 use Rattle.etcd_types.specs.declared.answer.Reply.{Reply}
+use Rattle.proxy_model.specs.Limits.{capped}
 use Rattle.proxy_model.specs.Members.{failed, is_stale}
 use Rattle.read_model.specs.declared.asked.Asked.{Asked}
 use Rattle.read_model.specs.declared.asked.Stage.TheVariants as stage
@@ -59,7 +60,7 @@ stales_limit members = 5 * members
 -- one reply of it is stale: it is due again, until there were five for each member
 abbrev pub stale_once : ℕ → ℕ → Asked → Asked
 stale_once members step a =
-    record a { stales = a.stales + 1; stage = (if nat_le (stales_limit members) (a.stales + 1) then stage.Replied verdict.Stale else called step) }
+    record a { stales = capped (a.stales + 1); stage = (if nat_le (stales_limit members) (capped (a.stales + 1)) then stage.Replied verdict.Stale else called step) }
 
 abbrev pub said : Answer → Asked → Asked
 said a x = in_stage (stage.Replied (verdict.Said a)) x

@@ -25,6 +25,3 @@ pub use proxy_model::{Claim, Owned, Owner, Written};
 pub use revoke::{ask_revoke, read_guard, rescind};
 pub use snapshot_reads::{Records, read_only};
 pub use written::read_write;
-
-#[cfg(test)]
-mod tests;

@@ -16,6 +16,3 @@ pub use laws::{
 };
 pub use namespace::Namespace;
 pub use prefix::{key_under, prefix_end, range_under};
-
-#[cfg(test)]
-mod tests;

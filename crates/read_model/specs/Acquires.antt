@@ -15,6 +15,7 @@ use Rattle.proxy_model.specs.declared.ownership.Claim.TheVariants.{Acquired, Own
 use Rattle.proxy_model.specs.declared.ownership.Owner.{Owner}
 use Rattle.proxy_model.specs.Acquire.{claimed}
 use Rattle.proxy_model.specs.Keyed.{at, with_at, changed_at}
+use Rattle.proxy_model.specs.Limits.{capped}
 use Rattle.wait_model.specs.declared.sending.Sending.TheVariants as sending
 use Rattle.wait_model.specs.Asked.{acquire_ended, is_spoiled}
 use Rattle.wait_model.specs.Phases.{own_entry, is_session}
@@ -115,7 +116,7 @@ acquire_answered m k a r = answered_acquire m k (at r.acquires k) a r
 -- one call of a read is lost: it is due again, until there was one for each member
 abbrev pub lost_once : ℕ → ℕ → Asked → Asked
 lost_once members step a =
-    record a { losses = a.losses + 1; stage = (if nat_le members (a.losses + 1) then stage.Replied verdict.Lost else called step) }
+    record a { losses = capped (a.losses + 1); stage = (if nat_le members (capped (a.losses + 1)) then stage.Replied verdict.Lost else called step) }
 
 abbrev pub told_lost : ℕ → ℕ → List ℕ → Asked → Asked
 told_lost members step k a = if acquires_at k a then lost_once members step a else a

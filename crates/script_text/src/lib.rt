@@ -16,6 +16,3 @@ pub use texts::{
     each_item_has_one_text, each_line_has_one_text, places_are_of_first_wrong_words, read_item,
     read_line, write_item,
 };
-
-#[cfg(test)]
-mod tests;
