@@ -158,3 +158,13 @@ all_more first low high o (s ∷ ss) below n =
 -- the first due stream comes first among all
 pub streams_first : (first : Option Placed) (high : ℕ) (ss : List Stream) → numbered 0 high ss ≡ true → earliest first (flat_map due_stream ss) ≡ with_first_stream first (first_due ss)
 streams_first first high ss n = all_more first 0 high None ss tt n
+
+-- the first of all, part by part
+pub all_parts : (ws as' qs os : List Placed) (ss : List Stream) (high : ℕ) (w a q o : Option Placed) → w ≡ earliest None ws → a ≡ earliest w as' → q ≡ earliest a qs → o ≡ earliest q os → numbered 0 high ss ≡ true → with_first_stream o (first_due ss) ≡ earliest None (ws ++ as' ++ qs ++ os ++ flat_map due_stream ss)
+all_parts ws as' qs os ss high w a q o ew ea eq eo n =
+    let last = flat_map due_stream ss in
+    let parts : o ≡ earliest (earliest (earliest (earliest None ws) as') qs) os =
+            eo ∙ ap (λ x. earliest x os) (eq ∙ ap (λ x. earliest x qs) (ea ∙ ap (λ x. earliest x as') ew)) in
+    let whole : earliest None (ws ++ as' ++ qs ++ os) ≡ earliest (earliest (earliest (earliest None ws) as') qs) os =
+            earliest_append None (ws ++ as' ++ qs) os ∙ ap (λ x. earliest x os) (earliest_append None (ws ++ as') qs ∙ ap (λ x. earliest x qs) (earliest_append None ws as')) in
+    sym (streams_first o high ss n) ∙ ap (λ x. earliest x last) (parts ∙ sym whole) ∙ sym (earliest_append None (ws ++ as' ++ qs ++ os) last)
