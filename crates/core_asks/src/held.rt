@@ -10,6 +10,7 @@ use snapshot_reads::{Records, read_only};
 use std::alloc::Global;
 
 /// The records that the lease table holds.
+#[derive(Drop)]
 struct HeldRecords<'a> {
     table: &'a LeaseTable,
 }

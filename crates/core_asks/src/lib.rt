@@ -5,11 +5,12 @@
 mod asking;
 mod held;
 mod refusals;
-mod touches;
+mod reserved;
+
 mod writes;
 
 pub use asking::{asked_at, call_stage, is_leased_read};
 pub use held::held_body;
 pub use refusals::refusal_of;
-pub use touches::touches;
+pub use reserved::touches;
 pub use writes::{writes_keys, writes_too_much};

@@ -2,7 +2,7 @@ ghost use Rattle.std.specs.Prelude.{◌≡◌, IfOk};
 ghost use Rattle.proxy_model.specs.Prefixes.{leasing_range};
 ghost use Rattle.core_model.specs.Refusals.{refusal_of, reserved_range};
 
-use crate::touches::touches;
+use crate::reserved::touches;
 use crate::writes::writes_too_much;
 use client_requests::{lacks_key, names_session, reserved_lease, unserved, unsupported};
 use etcd_types::code::PERMISSION_DENIED;

@@ -164,7 +164,7 @@ pub all_parts : (ws as' qs os : List Placed) (ss : List Stream) (high : ℕ) (w 
 all_parts ws as' qs os ss high w a q o ew ea eq eo n =
     let last = flat_map due_stream ss in
     let parts : o ≡ earliest (earliest (earliest (earliest None ws) as') qs) os =
-            eo ∙ ap (λ x. earliest x os) (eq ∙ ap (λ x. earliest x qs) (ea ∙ ap (λ x. earliest x as') ew)) in
+    eo ∙ ap (λ x. earliest x os) (eq ∙ ap (λ x. earliest x qs) (ea ∙ ap (λ x. earliest x as') ew)) in
     let whole : earliest None (ws ++ as' ++ qs ++ os) ≡ earliest (earliest (earliest (earliest None ws) as') qs) os =
-            earliest_append None (ws ++ as' ++ qs) os ∙ ap (λ x. earliest x os) (earliest_append None (ws ++ as') qs ∙ ap (λ x. earliest x qs) (earliest_append None ws as')) in
+    earliest_append None (ws ++ as' ++ qs) os ∙ ap (λ x. earliest x os) (earliest_append None (ws ++ as') qs ∙ ap (λ x. earliest x qs) (earliest_append None ws as')) in
     sym (streams_first o high ss n) ∙ ap (λ x. earliest x last) (parts ∙ sym whole) ∙ sym (earliest_append None (ws ++ as' ++ qs ++ os) last)

@@ -26,7 +26,10 @@ pub enum DueJob<'a> {
     /// The request's own call.
     Ask(&'a Asked),
     /// The keepalives of this lease, for the one of least ticket.
-    Group { lease: u64, ticket: u64 },
+    Group {
+        lease: u64,
+        ticket: u64,
+    },
     /// The leasing stream's opening.
     Open(&'a Opening),
     /// A client stream's opening or closing.

@@ -67,3 +67,15 @@ writes_found ops i o all l e n h =
     ∙ ap (λ (p : Op). has_some (with_all_written rest (with_written p []))) e
     ∙ ap (λ (os : List Op). has_some (with_all_written os [])) (sym (drop_more ops i o l))
     ∙ h
+
+-- A transaction whose success branch writes, or of whose branches it is the failure's to say.
+
+pub txn_then : (t : TxnAsk) (r : Bool) → r ≡ has_some (with_all_written t.success []) → r ≡ true → r ≡ has_some (with_written (op.Txn t) [])
+txn_then t r h e = e ∙ sym (txn_writes t ∙ ap (λ b. b || has_some (with_all_written t.failure [])) (sym h ∙ e))
+
+pub txn_else : (t : TxnAsk) (s r : Bool) → s ≡ has_some (with_all_written t.success []) → s ≡ false → r ≡ has_some (with_all_written t.failure []) → r ≡ has_some (with_written (op.Txn t) [])
+txn_else t s r h e i = i ∙ sym (txn_writes t ∙ ap (λ b. b || has_some (with_all_written t.failure [])) (sym h ∙ e))
+
+pub request_then : (t : TxnAsk) (r : Bool) → r ≡ has_some (with_all_written t.success []) → r ≡ true → r ≡ has_some (with_all_written t.failure (with_all_written t.success []))
+request_then t r h e =
+    e ∙ sym (one_writes t.failure (with_all_written t.success []) ∙ ap (λ b. b || has_some (with_all_written t.failure [])) (sym h ∙ e))
