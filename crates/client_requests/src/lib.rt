@@ -5,4 +5,6 @@ mod passing_on;
 mod refusals;
 
 pub use passing_on::{passed_on, replied};
-pub use refusals::refusal_of;
+pub use refusals::{
+    lacks_key, names_session, refusal_of, reserved_lease, unserved, unsupported,
+};

@@ -27,7 +27,8 @@ pub fn refusal_of(alloc: Global, request: &Request) -> Result<Option<Refusal>, N
     Ok(None)
 }
 
-fn unsupported(alloc: Global, field: Unserved) -> Result<Refusal, NoMemory>
+/// The refusal of a request with such a field. `NoMemory` where memory was wanting.
+pub fn unsupported(alloc: Global, field: Unserved) -> Result<Refusal, NoMemory>
     ensures { IfOk result (λ refusal. refusal ≡ unsupported field) }
 {
     let text: &[u8] = match field {
@@ -40,7 +41,8 @@ fn unsupported(alloc: Global, field: Unserved) -> Result<Refusal, NoMemory>
     })
 }
 
-fn reserved_lease(alloc: Global) -> Result<Refusal, NoMemory>
+/// The refusal of a request that names a lease number of the sessions. `NoMemory` where memory was wanting.
+pub fn reserved_lease(alloc: Global) -> Result<Refusal, NoMemory>
     ensures { IfOk result (λ refusal. refusal ≡ reserved_lease) }
 {
     Ok(Refusal {
@@ -49,7 +51,8 @@ fn reserved_lease(alloc: Global) -> Result<Refusal, NoMemory>
     })
 }
 
-fn unserved(request: &Request) -> Option<Unserved>
+/// The first field of the request, in the order of its text, that isn't served.
+pub fn unserved(request: &Request) -> Option<Unserved>
     ensures { result ≡ unserved request.now }
 {
     match request {
@@ -97,7 +100,8 @@ fn unserved_of_operations(operations: &[Op]) -> Option<Unserved>
     None
 }
 
-fn lacks_key(request: &Request) -> bool
+/// Whether a key of a range, a put, a delete or a compare is empty.
+pub fn lacks_key(request: &Request) -> bool
     ensures { result ≡ request_lacks_key request.now }
 {
     match request {
@@ -136,7 +140,8 @@ fn operation_lacks_key(operation: &Op) -> bool
     }
 }
 
-fn names_session(request: &Request) -> bool
+/// Whether it names a lease number of the sessions: in a put, or as the lease that it is about.
+pub fn names_session(request: &Request) -> bool
     ensures { result ≡ names_session request.now }
 {
     match request {

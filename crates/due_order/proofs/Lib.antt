@@ -1,1 +1,3 @@
 pub mod Earliest
+pub mod PlaceOrder
+pub mod Streams

@@ -1,9 +1,11 @@
-//! The order of a proxy's due jobs: where the first due call of its requests, and of its acquires, stands among all of them. What is
-//! due longer is sent first; of one step, calls by ticket.
+//! The order of a proxy's due jobs, and which one is first: its session's call, then rescinds; then what is due longest, and of one
+//! step calls that ask owners, the calls of requests by ticket, closings and openings of streams.
 #![tactic(auto)]
 
-mod firsts;
+mod first;
+mod jobs;
+mod parts;
 mod places;
 
-pub use firsts::{first_acquire, first_ask};
-pub use places::earlier;
+pub use first::{first_job, has_job};
+pub use jobs::DueJob;

@@ -1,26 +1,10 @@
 ghost use Rattle.std.specs.Prelude.{◌≡◌};
-ghost use Rattle.wait_model.specs.DueOrder.{less_then, kind_rank, is_earlier, earlier};
+ghost use Rattle.wait_model.specs.DueOrder.{less_then, kind_rank, is_earlier};
 
 use wait_model::{JobKind, Place};
 
-/// The earlier one of two places; the first one, where there is none yet, is the other.
-pub fn earlier(first: Option<Place>, place: Place) -> Place
-    ensures { result ≡ earlier first place }
-{
-    match first {
-        None => place,
-        Some(other) => {
-            if is_earlier(&place, &other) {
-                place
-            } else {
-                other
-            }
-        }
-    }
-}
-
 /// Whether a job of this place is sent before one of that place.
-fn is_earlier(place: &Place, other: &Place) -> bool
+pub(crate) fn is_earlier(place: &Place, other: &Place) -> bool
     ensures { result ≡ is_earlier place.now other.now }
 {
     let rank = kind_rank(place.kind);

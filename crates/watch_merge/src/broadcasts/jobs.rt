@@ -1,12 +1,22 @@
-ghost use Rattle.std.specs.Prelude.{◌≡◌, IfOk, OnErr};
+ghost use Rattle.std.specs.Prelude.{◌≡◌, true, IfOk, OnErr};
+ghost use Rattle.std.specs.Option.{option_copied};
 ghost use Rattle.watch_model.specs.Due.{first_due, next_job};
+ghost use Rattle.watch_model.specs.Lookups.{numbered};
 
 use super::Broadcasts;
 use etcd_types::NoMemory;
-use watch_model::{StreamJob, StreamPhase};
+use watch_model::{Stream, StreamJob, StreamPhase};
 use watch_streams::{begin, copy_range, drop_stream, first_due, next_of};
 
 impl Broadcasts {
+    /// The stream whose closing or opening is due first, or none where none is due.
+    pub fn first_due(&self) -> Option<&Stream>
+        ensures due { option_copied result ≡ first_due self.now.streams }
+        ensures in_order { numbered 0 self.now.given self.now.streams ≡ true }
+    {
+        first_due(&self.streams)
+    }
+
     /// The first due closing or opening, which is then sent, or none where none is due. Where memory was wanting it is
     /// still due.
     pub fn next_job(&mut self) -> Result<Option<StreamJob>, NoMemory>

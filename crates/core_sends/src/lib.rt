@@ -1,0 +1,9 @@
+//! What is sent for a proxy's due job: its request under the namespace, made before anything of the proxy changes.
+#![tactic(auto)]
+
+mod calls;
+mod streams;
+mod to_send;
+
+pub use due_order::{DueJob, first_job, has_job};
+pub use to_send::{ToSend, to_send};
