@@ -119,11 +119,13 @@ impl Reads {
         ensures ok { OnOk result (self.new ≡ acquire_done m.now key.now held header (Acquired create kv) self.old) }
         ensures err { OnErr result (self.new ≡ self.old) }
     {
+        let record = kv.as_ref();
+        let joined = if held { Some(m.header) } else { None };
         let readers = Readers {
             key,
             header,
-            kv: kv.as_ref(),
-            held: if held { Some(m.header) } else { None },
+            kv: record,
+            held: joined,
             step: self.waits.step(),
         };
         let changes = reader_changes(self.alloc, &self.asks, &readers)?;
@@ -154,10 +156,11 @@ impl Reads {
         ensures ok { OnOk result ((held : Bool) → self.new ≡ acquire_done m.now key.now held header (OwnedBy kv owner) self.old) }
         ensures err { OnErr result (self.new ≡ self.old) }
     {
+        let record = kv.as_ref();
         let readers = Readers {
             key,
             header,
-            kv: kv.as_ref(),
+            kv: record,
             held: None,
             step: self.waits.step(),
         };
