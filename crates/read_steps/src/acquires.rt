@@ -1,4 +1,4 @@
-ghost use Rattle.std.specs.Prelude.{◌≡◌, ◌≤◌, Bool, true, [], None, Some, is_some, OnOk, OnErr};
+ghost use Rattle.std.specs.Prelude.{◌≡◌, ◌≤◌, if◌then◌else◌, Bool, true, [], None, Some, is_some, OnOk, OnErr};
 ghost use Rattle.std.specs.Option.{option_copied};
 ghost use Rattle.proxy_model.specs.Keyed.{at, with_at};
 ghost use Rattle.proxy_model.specs.declared.ownership.Claim.TheVariants.{Acquired, OwnedBy};
@@ -120,7 +120,7 @@ impl Reads {
         ensures err { OnErr result (self.new ≡ self.old) }
     {
         let record = kv.as_ref();
-        let joined = if held { Some(m.header) } else { None };
+        let joined = header_if(held, m.header);
         let readers = Readers {
             key,
             header,
@@ -176,6 +176,12 @@ impl Reads {
             &mut self.asks,
         )
     }
+}
+
+fn header_if(held: bool, header: Header) -> Option<Header>
+    ensures { result ≡ (if held then Some header else None) }
+{
+    if held { Some(header) } else { None }
 }
 
 fn entry_won(held: bool, create: u64, kv: Option<Kv>) -> Entry

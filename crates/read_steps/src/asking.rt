@@ -82,6 +82,7 @@ impl Reads {
 }
 
 /// What the plain read comes to.
+#[tactic(auto, using(crate::proofs::Asking::not_leasing))]
 fn decide_read(
     alloc: Global,
     m: &Moment,
@@ -129,6 +130,7 @@ fn decide_free(
 }
 
 /// The session under which this key may be acquired, which has neither entry nor acquire and is no ownership key.
+#[tactic(auto, using(crate::proofs::Asking::ownable, crate::proofs::Asking::zero_or))]
 fn session_for(m: &Moment, key: &Bytes, waits: &Waits) -> Option<u64>
     requires { contains (leasing_range waits.now.prefix) key.now ≡ false }
     ensures { result ≡ acquirable m.now (owned [] waits.now) key.now }
@@ -177,6 +179,7 @@ fn keep_read(
 }
 
 /// The read waits for an acquire of its key, which is due under this session. Where memory was wanting all is as before.
+#[tactic(auto, using(crate::proofs::Asking::taken_back))]
 fn keep_acquiring(
     alloc: Global,
     ask: Asked,
@@ -209,6 +212,7 @@ fn keep_acquiring(
 }
 
 /// An acquire of the key is due. Where memory was wanting all is as before.
+#[tactic(auto, using(crate::proofs::Asking::put_back))]
 fn begin_acquire(
     alloc: Global,
     key: &Bytes,
@@ -242,6 +246,7 @@ fn begin_acquire(
 }
 
 /// The write waits behind all others. Where memory was wanting all is as before.
+#[tactic(auto, using(crate::proofs::Asking::taken_back))]
 fn keep_write(
     alloc: Global,
     ask: Asked,
