@@ -4,4 +4,4 @@ pub mod Standing
 pub mod Ending
 pub mod Winning
 pub mod Rests
-pub mod Asking
+pub mod TakenBack

@@ -1,4 +1,4 @@
-ghost use Rattle.std.specs.Prelude.{◌≡◌, ◌&&◌, map};
+ghost use Rattle.std.specs.Prelude.{◌≡◌, ◌&&◌, ◌||◌, map};
 ghost use Rattle.std.specs.Option.{option_copied};
 ghost use Rattle.core_model.specs.ClockWork.{times_out};
 ghost use Rattle.proxy_model.specs.Keyed.{at};
@@ -29,7 +29,7 @@ impl Reads {
     /// time. It takes no memory.
     pub fn time_out(&mut self, m: &Moment)
         requires { FitTogether self.old }
-        ensures { self.new ≡ timed_out m.now self.old }
+        ensures { self.new ≡ timed_out m.entry.now self.old }
     {
         if self.asks.may_time_out(m.now) {
             end_late(
@@ -55,11 +55,11 @@ impl Reads {
     /// leaves nothing else to be looked at. It takes no memory.
     pub fn leave(&mut self, m: &Moment, ticket: u64)
         requires { FitTogether self.old }
-        ensures { self.new ≡ left_by m.now ticket self.old }
+        ensures { self.new ≡ left_by m.entry.now ticket self.old }
     {
         let _rows = self.asks.rows();
         if let Some(ask) = self.asks.remove(ticket) {
-            if is_acquiring(&ask.stage) || is_writes(&ask.stage) {
+            if ends_more(&ask.stage) {
                 end_one(
                     self.alloc,
                     &ask,
@@ -80,7 +80,7 @@ impl Reads {
 
     /// The session ended: all entries are gone, due acquires fall, and the reads that waited for either become calls. It takes no memory.
     pub fn end_session(&mut self, m: &Moment)
-        ensures { self.new ≡ session_over m.now self.old }
+        ensures { self.new ≡ session_over m.entry.now self.old }
     {
         self.waits.end_session(&mut self.table);
         end_due(&mut self.waits, &mut self.acquires);
@@ -258,6 +258,13 @@ fn is_due(sending: Sending) -> bool
     ensures { result ≡ is_due sending }
 {
     matches!(sending, Sending::Due { .. })
+}
+
+/// Whether something else ends with a request at this stage.
+fn ends_more(stage: &Stage) -> bool
+    ensures { result ≡ (is_acquiring stage.now || is_writes stage.now) }
+{
+    is_acquiring(stage) || is_writes(stage)
 }
 
 fn is_acquiring(stage: &Stage) -> bool
