@@ -119,7 +119,7 @@ won_reads standing m k held h create kv r ok t =
 
 -- It is owned already.
 
-absent_stays : {A : Type 0} (k : List ℕ) (es : Keyed A) → at es k ≡ None → with_at es k None ≡ es
+pub absent_stays : {A : Type 0} (k : List ℕ) (es : Keyed A) → at es k ≡ None → with_at es k None ≡ es
 absent_stays k [] n = refl
 absent_stays k (e ∷ es) n = one (same k e.0) n (absent_stays k es)
   where

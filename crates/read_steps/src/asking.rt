@@ -130,7 +130,7 @@ fn decide_free(
 }
 
 /// The session under which this key may be acquired, which has neither entry nor acquire and is no ownership key.
-#[tactic(auto, using(crate::proofs::TakenBack::ownable, crate::proofs::Asking::zero_or))]
+#[tactic(auto, using(crate::proofs::TakenBack::ownable, crate::proofs::TakenBack::zero_or))]
 fn session_for(m: &Moment, key: &Bytes, waits: &Waits) -> Option<u64>
     requires { contains (leasing_range waits.now.prefix) key.now ≡ false }
     ensures { result ≡ acquirable m.entry.now (owned [] waits.now) key.now }

@@ -13,8 +13,8 @@ returns-then-acquires_due c =
       acquires = c.remove.ensures ∙ due_falls c.args.ask.now c.args.acquires.now c.args.acquires.now c.key_of-key.result.now c.key_of-key.ensures t;
     }
 
-pub returns-else-acquires_due : goal.returns-else-acquires_due
-returns-else-acquires_due c =
+pub returns : goal.returns
+returns c =
     let f = sym c.acquires_due.ensures ∙ c.if-acquires_due.false in
     record {
       waits = ap (λ (s : Keyed Bool). record c.args.waits.now { spoiled = s }) (none_falls c.args.ask.now c.args.acquires.now c.args.waits.now.spoiled f);

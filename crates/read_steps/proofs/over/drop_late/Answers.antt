@@ -7,8 +7,8 @@ use Rattle.read_model.specs.declared.asked.Asked.{Asked}
 use Rattle.wait_model.specs.Edits.{without}
 use Rattle.wait_model.specs.State.{Waits}
 use Rattle.read_steps.specs.Over.{falls_in}
-use Rattle.read_steps.proofs.Falling.{falls_more}
-use Rattle.read_steps.proofs.Rests.{rest_at}
+use Rattle.read_steps.proofs.Falling.{falls_more, falls_done}
+use Rattle.read_steps.proofs.Rests.{rest_at, none_left}
 use Rattle.read_steps.proofs.over.drop_late.Goals as goal
 
 pub loop-row-preserved : goal.loop-row-preserved
@@ -29,3 +29,18 @@ loop-row-preserved c =
         ∙ falls_more p item rest acquires acquires ∙ sym (ap (λ (rs : List (ℕ × Asked)). without (falls_in p (map (λ r. r.1) rs) acquires) acquires) at_item)
         ∙ c.loop-row.invariant.acquires;
     }
+
+pub returns-clause-waits : goal.returns-clause-waits
+returns-clause-waits c =
+    let p = times_out c.args.now in
+    let acquires = c.loop-row.acquires in
+    let waits = c.loop-row.waits in
+    sym (ap (λ (s : Keyed Bool). record waits { spoiled = s }) (ap (λ (rs : List (ℕ × Asked)). without (falls_in p (map (λ r. r.1) rs) acquires) waits.spoiled) (none_left c.args.rows.now c.loop-row.row-index c.loop-row-test.false) ∙ falls_done p acquires waits.spoiled))
+    ∙ c.loop-row.invariant.marks
+
+pub returns-clause-acquires : goal.returns-clause-acquires
+returns-clause-acquires c =
+    let p = times_out c.args.now in
+    let acquires = c.loop-row.acquires in
+    sym (ap (λ (rs : List (ℕ × Asked)). without (falls_in p (map (λ r. r.1) rs) acquires) acquires) (none_left c.args.rows.now c.loop-row.row-index c.loop-row-test.false) ∙ falls_done p acquires acquires)
+    ∙ c.loop-row.invariant.acquires

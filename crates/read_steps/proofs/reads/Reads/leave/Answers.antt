@@ -22,7 +22,7 @@ returns-then-ends_more c =
     let a = c.in-Some.ask in
     released_parts m (ended_with a r) (without_ask t r.asks) _ _ _ _ _ _
     c.end_one.ensures.entries c.end_one.ensures.waits c.end_one.ensures.acquires c.in-Some.ensures.rest c.step.ensures c.release.ensures
-    ∙ sym (ap (λ (g : Ground). released false m (on g (without_ask t r.asks))) (one_ended t a r c.rows-_rows.ensures.once (sym c.in-Some.ensures.found)))
+    ∙ sym (ap (λ (g : Ground). released false m (on g (without_ask t r.asks))) (one_ended t a r c.rows-rows.ensures.once (sym c.in-Some.ensures.found)))
     ∙ ap (left_by m t) c.self.view_is
 
 pub returns-else-ends_more : goal.returns-else-ends_more
@@ -32,11 +32,11 @@ returns-else-ends_more c =
     let stand = subst (λ (x : Reads). AllStand (ground_of x) x.asks) (sym c.self.view_is) c.requires.1.asks in
     let f = sym c.ends_more.ensures ∙ c.if-ends_more.false in
     ap (λ (xs : List Asked). on (ground_of r) xs) c.in-Some.ensures.rest
-    ∙ just_left c.args.m.now c.args.ticket a r c.rows-_rows.ensures.once stand (sym c.in-Some.ensures.found) (or_first (is_acquiring a.stage) (is_writes a.stage) f) (or_second (is_acquiring a.stage) (is_writes a.stage) f)
+    ∙ just_left c.args.m.now c.args.ticket a r c.rows-rows.ensures.once stand (sym c.in-Some.ensures.found) (or_first (is_acquiring a.stage) (is_writes a.stage) f) (or_second (is_acquiring a.stage) (is_writes a.stage) f)
     ∙ ap (left_by c.args.m.now c.args.ticket) c.self.view_is
 
-pub returns-in_default : goal.returns-in_default
-returns-in_default c =
+pub returns : goal.returns
+returns c =
     let r = reads c.self.inside.table.entries c.self.inside.waits c.self.inside.acquires c.self.inside.asks in
     let stand = subst (λ (x : Reads). AllStand (ground_of x) x.asks) (sym c.self.view_is) c.requires.1.asks in
     ap (λ (xs : List Asked). on (ground_of r) xs) c.in_default.ensures.rest

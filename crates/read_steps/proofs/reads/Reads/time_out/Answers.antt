@@ -18,8 +18,8 @@ returns-then-may_time_out c =
     c.end_late.ensures.entries c.end_late.ensures.waits c.end_late.ensures.acquires c.time_out.ensures c.step.ensures c.release.ensures
     ∙ ap (timed_out m) c.self.view_is
 
-pub returns-else-may_time_out : goal.returns-else-may_time_out
-returns-else-may_time_out c =
+pub returns : goal.returns-else-may_time_out
+returns c =
     let r = reads c.self.inside.table.entries c.self.inside.waits c.self.inside.acquires c.self.inside.asks in
     let stand = subst (λ (x : Reads). AllStand (ground_of x) x.asks) (sym c.self.view_is) c.requires.1.asks in
     none_late c.args.m.now r (c.may_time_out.ensures c.if-may_time_out.false) stand ∙ ap (timed_out c.args.m.now) c.self.view_is
