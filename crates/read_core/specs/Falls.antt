@@ -1,5 +1,5 @@
 -- Reads whose acquire or owner write is no more, by what stands in the lease table and among the acquires.
-use Rattle.std.specs.Prelude.{◌≡◌, ℕ, Bool, true, false, cond, if◌then◌else◌, List, [], Option, None, Some, refl}
+use Rattle.std.specs.Prelude.{◌≡◌, ℕ, Bool, true, false, cond, if◌then◌else◌, [], Option, None, Some, refl}
 use Rattle.etcd_types.specs.declared.record.Header.{Header}
 use Rattle.proxy_model.specs.declared.lease.Entry.{Entry}
 use Rattle.proxy_model.specs.Keyed.{Keyed, at}

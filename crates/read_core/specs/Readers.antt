@@ -11,12 +11,12 @@ use Rattle.read_model.specs.PlainRead.{ask_key, shown, called}
 
 -- the one that it was for, and one that joined
 abbrev pub reading_stage : Stage → Stage → Stage → Option Stage
-reading_stage own joined stage.Acquiring = Some own
-reading_stage own joined stage.Joined = Some joined
-reading_stage own joined _ = None
+reading_stage own other stage.Acquiring = Some own
+reading_stage own other stage.Joined = Some other
+reading_stage own other _ = None
 
 abbrev pub readers_stage : List ℕ → Stage → Stage → Asked → Option Stage
-readers_stage k own joined a = if same (ask_key a) k then reading_stage own joined a.stage else None
+readers_stage k own other a = if same (ask_key a) k then reading_stage own other a.stage else None
 
 -- where the key is held, by this header, one that joined is answered with the record; else it becomes a call
 abbrev pub joined_stage : Option Header → Option Kv → ℕ → Stage

@@ -14,16 +14,12 @@ use std::alloc::Global;
 
 /// What the reads of a key come to when its acquire is answered.
 #[derive(Drop)]
-pub struct Readers<'a> {
-    pub key: &'a Bytes,
-    /// The header that came with the answer.
-    pub header: Header,
-    /// The record that came with it.
-    pub kv: Option<&'a Kv>,
-    /// The header with which the reads that joined are answered where the key is held now; where it isn't, each becomes a call.
-    pub held: Option<Header>,
-    /// Since which step those calls are due.
-    pub step: u64,
+struct Readers<'a> {
+    key: &'a Bytes,
+    header: Header,
+    kv: Option<&'a Kv>,
+    held: Option<Header>,
+    step: u64,
 }
 
 impl<'a> Restage for Readers<'a> {
@@ -54,16 +50,28 @@ impl<'a> Readers<'a> {
     }
 }
 
-/// What the reads of the key come to, by ticket: the read for which it was acquired is replied with the record that came, or that there
-/// is none; the others as `readers` says. Nothing is changed yet.
+/// What the reads of the key come to when its acquire is answered, by ticket: the read that it was for is replied with the record that
+/// came with this header, or that there is none. The reads that joined are answered with the header `held` where there is one, as the key
+/// is held then; else each becomes a call, due since this step. Nothing is changed yet.
 pub fn reader_changes(
     alloc: Global,
     asks: &Asks,
-    readers: &Readers,
+    key: &Bytes,
+    header: Header,
+    kv: Option<&Kv>,
+    held: Option<Header>,
+    step: u64,
 ) -> Result<Vec<(u64, Stage)>, NoMemory>
-    ensures { IfOk result (λ changes. restaged changes.items asks.now ≡ map (staged_by (readers_stage readers.now.key.now (shown readers.now.header (option_copied readers.now.kv)) (joined_stage readers.now.held (option_copied readers.now.kv) readers.now.step))) asks.now) }
+    ensures { IfOk result (λ changes. restaged changes.items asks.now ≡ map (staged_by (readers_stage key.now (shown header (option_copied kv.entry)) (joined_stage held (option_copied kv.entry) step))) asks.now) }
 {
-    Ok(stage_changes(alloc, asks, readers)?)
+    let readers = Readers {
+        key,
+        header,
+        kv,
+        held,
+        step,
+    };
+    Ok(stage_changes(alloc, asks, &readers)?)
 }
 
 /// The acquire of the key was lost, and with it a call of the read that it was for.

@@ -20,7 +20,7 @@ use known_asks::{Asks, Stage, set_stages};
 use lease_table::{Entry, LeaseTable, Phase};
 use lease_txn::{NotShape, read_acquire};
 use proxy_model::{Claim, Owner};
-use read_core::{Readers, reader_changes, release};
+use read_core::{reader_changes, release};
 use revoke_calls::{is_session, own_entry};
 use revoke_core::Waits;
 use std::alloc::Global;
@@ -119,16 +119,15 @@ impl Reads {
         ensures ok { OnOk result (self.new ≡ acquire_done m.entry.now key.now held header (Acquired create kv) self.old) }
         ensures err { OnErr result (self.new ≡ self.old) }
     {
-        let record = kv.as_ref();
-        let joined = header_if(held, m.header);
-        let readers = Readers {
+        let changes = reader_changes(
+            self.alloc,
+            &self.asks,
             key,
             header,
-            kv: record,
-            held: joined,
-            step: self.waits.step(),
-        };
-        let changes = reader_changes(self.alloc, &self.asks, &readers)?;
+            kv.as_ref(),
+            header_if(held, m.header),
+            self.waits.step(),
+        )?;
         let entry = entry_won(held, create, kv);
         end_acquire(
             self.alloc,
@@ -157,15 +156,15 @@ impl Reads {
         ensures ok { OnOk result ((held : Bool) → self.new ≡ acquire_done m.entry.now key.now held header (OwnedBy kv owner) self.old) }
         ensures err { OnErr result (self.new ≡ self.old) }
     {
-        let record = kv.as_ref();
-        let readers = Readers {
+        let changes = reader_changes(
+            self.alloc,
+            &self.asks,
             key,
             header,
-            kv: record,
-            held: None,
-            step: self.waits.step(),
-        };
-        let changes = reader_changes(self.alloc, &self.asks, &readers)?;
+            kv.as_ref(),
+            None,
+            self.waits.step(),
+        )?;
         end_acquire(
             self.alloc,
             key,
