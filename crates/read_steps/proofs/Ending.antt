@@ -3,7 +3,7 @@ use Rattle.std.proofs.Common.{◌≡◌, ℕ, Bool, true, false, not, cond, ◌&
 use Rattle.std.specs.List.{list_any, list_all}
 use Rattle.std.proofs.lemmas.Bool.Decides.{nat_tests}
 use Rattle.etcd_types.specs.Keys.{same}
-use Rattle.etcd_types.proofs.Bools.{and_first, and_second}
+use Rattle.etcd_types.proofs.Bools.{and_first, and_second, or_first, or_second}
 use Rattle.proxy_model.specs.Keyed.{Keyed, at}
 use Rattle.wait_model.specs.Edits.{without}
 use Rattle.wait_model.specs.Endings.{forgotten}
@@ -24,7 +24,7 @@ use Rattle.core_model.specs.ClockWork.{times_out, timed_out_ask}
 use Rattle.core_model.specs.Fits.{once, has_number, ask_tickets}
 use Rattle.core_model.specs.Lookups.{has_ticket, ask_at, without_ask}
 use Rattle.known_asks.specs.Asks.{none_times_out}
-use Rattle.read_steps.specs.Over.{forgot, falls_with, ended}
+use Rattle.read_steps.specs.Over.{forgot, falls_with, ended, ended_with}
 use Rattle.read_steps.proofs.Standing.{none_released, fewer_stand}
 use Rattle.read_steps.proofs.Without.{without_none, without_same}
 
@@ -136,33 +136,30 @@ alone t a (x ∷ rest) o h = one (has_ticket t x) refl h (alone t a rest (and_se
           acquires = λ j. ap (λ b. (b && acquires_at j x) || list_any (λ b. has_ticket t b && acquires_at j b) rest) e ∙ r.acquires j;
         }
 
--- what reads wait on once this request has ended
-abbrev pub ended_with : Asked → Reads → Ground
-ended_with a r = dropped (falls_with a r.acquires) (record (ground_of r) { own = forgot a r.own })
-
-pub one_ended : (t : ℕ) (a : Asked) (r : Reads) → once (ask_tickets r.asks) ≡ true → ask_at t r.asks ≡ Some a → ended (has_ticket t) r ≡ ended_with a r
+pub one_ended : (t : ℕ) (a : Asked) (r : Reads) → once (ask_tickets r.asks) ≡ true → ask_at t r.asks ≡ Some a → ended (has_ticket t) r ≡ ended_with a (ground_of r)
 one_ended t a r o h =
     let x = alone t a r.asks o h in
     ap (λ (own : Ownership). dropped (falls (has_ticket t) r) (record (ground_of r) { own = own })) (x.forgets r.own) ∙ same_dropped x
   where
-    same_dropped : IsAlone t a r.asks → dropped (falls (has_ticket t) r) (record (ground_of r) { own = forgot a r.own }) ≡ ended_with a r
+    same_dropped : IsAlone t a r.asks → dropped (falls (has_ticket t) r) (record (ground_of r) { own = forgot a r.own }) ≡ ended_with a (ground_of r)
     same_dropped x = λ i. record {
       own = record (forgot a r.own) { waits = record (forgot a r.own).waits { spoiled = without_same (falls (has_ticket t) r) (falls_with a r.acquires) (forgot a r.own).waits.spoiled (λ k. ap (λ b. b && is_due_acquire (at r.acquires k)) (x.acquires k)) i } };
       acquires = without_same (falls (has_ticket t) r) (falls_with a r.acquires) r.acquires (λ k. ap (λ b. b && is_due_acquire (at r.acquires k)) (x.acquires k)) i;
     }
 
 -- one that neither writes nor acquires ends nothing else
-pub nothing_ended : (a : Asked) (r : Reads) → is_acquiring a.stage ≡ false → is_writes a.stage ≡ false → ended_with a r ≡ ground_of r
-nothing_ended a r s w =
-    ap (λ b. dropped (falls_with a r.acquires) (record (ground_of r) { own = cond b (forgotten a.ticket r.own) r.own })) w
-    ∙ none_dropped (falls_with a r.acquires) (ground_of r) (λ k. ap (λ b. (b && same (ask_key a) k) && is_due_acquire (at r.acquires k)) s)
+pub nothing_ended : (a : Asked) (g : Ground) → is_acquiring a.stage || is_writes a.stage ≡ false → ended_with a g ≡ g
+nothing_ended a g n =
+    ap (λ b. dropped (falls_with a g.acquires) (record g { own = cond b (forgotten a.ticket g.own) g.own })) (or_second (is_acquiring a.stage) (is_writes a.stage) n)
+    ∙ none_dropped (falls_with a g.acquires) g (λ k. ap (λ b. (b && same (ask_key a) k) && is_due_acquire (at g.acquires k)) (or_first (is_acquiring a.stage) (is_writes a.stage) n))
 
-pub just_left : (m : Moment) (t : ℕ) (a : Asked) (r : Reads) → once (ask_tickets r.asks) ≡ true → AllStand (ground_of r) r.asks → ask_at t r.asks ≡ Some a → is_acquiring a.stage ≡ false → is_writes a.stage ≡ false → on (ground_of r) (without_ask t r.asks) ≡ taken_off m (has_ticket t) (without_ask t r.asks) r
-just_left m t a r o s h c w =
-    sym (ap (λ (g : Ground). released false m (on g (without_ask t r.asks))) (one_ended t a r o h ∙ nothing_ended a r c w) ∙ none_released m (ground_of r) (without_ask t r.asks) (fewer_stand (ground_of r) (λ b. not (has_ticket t b)) r.asks s))
+-- one that isn't known ends nothing
+pub nobody_ended : (t : ℕ) (r : Reads) → ask_at t r.asks ≡ None → ended (has_ticket t) r ≡ ground_of r
+nobody_ended t r h = none_ended (has_ticket t) r (none_has t r.asks h)
 
--- one that isn't known
-pub nobody_left : (m : Moment) (t : ℕ) (r : Reads) → AllStand (ground_of r) r.asks → ask_at t r.asks ≡ None → on (ground_of r) (without_ask t r.asks) ≡ taken_off m (has_ticket t) (without_ask t r.asks) r
-nobody_left m t r s h =
-    let n = none_has t r.asks h in
-    sym (ap (λ (g : Ground). released false m (on g (without_ask t r.asks))) (none_ended (has_ticket t) r n) ∙ none_released m (ground_of r) (without_ask t r.asks) (fewer_stand (ground_of r) (λ b. not (has_ticket t b)) r.asks s))
+-- where nothing ended but its own row, that is all
+pub just_left : (m : Moment) (t : ℕ) (r : Reads) → AllStand (ground_of r) r.asks → ended (has_ticket t) r ≡ ground_of r → on (ended (has_ticket t) r) (without_ask t r.asks) ≡ taken_off m (has_ticket t) (without_ask t r.asks) r
+just_left m t r s n =
+    ap (λ (g : Ground). on g (without_ask t r.asks)) n
+    ∙ sym (none_released m (ground_of r) (without_ask t r.asks) (fewer_stand (ground_of r) (λ b. not (has_ticket t b)) r.asks s))
+    ∙ ap (λ (g : Ground). released false m (on g (without_ask t r.asks))) (sym n)

@@ -32,3 +32,7 @@ falls_with a acquires k = falls_if true a acquires k
 -- what reads wait on then, where those that pass end
 abbrev pub ended : (Asked → Bool) → Reads → Ground
 ended p r = dropped (falls p r) (record (ground_of r) { own = forgotten_all p r.asks r.own })
+
+-- and where this request ends
+abbrev pub ended_with : Asked → Ground → Ground
+ended_with a g = dropped (falls_with a g.acquires) (record g { own = forgot a g.own })

@@ -1,6 +1,7 @@
-ghost use Rattle.std.specs.Prelude.{◌≡◌, ◌&&◌, ◌||◌, map};
+ghost use Rattle.std.specs.Prelude.{◌≡◌, ◌&&◌, ◌||◌, false, map};
 ghost use Rattle.std.specs.Option.{option_copied};
 ghost use Rattle.core_model.specs.ClockWork.{times_out};
+ghost use Rattle.core_model.specs.Lookups.{has_ticket};
 ghost use Rattle.proxy_model.specs.Keyed.{at};
 ghost use Rattle.read_model.specs.Acquires.{is_acquiring};
 ghost use Rattle.read_model.specs.SessionEnd.{is_due, is_due_acquire, session_over};
@@ -8,8 +9,8 @@ ghost use Rattle.read_model.specs.TakingOff.{forgotten_all, is_writes};
 ghost use Rattle.wait_model.specs.Edits.{without};
 ghost use Rattle.wait_model.specs.State.{owned};
 ghost use Rattle.read_model.specs.PlainRead.{ask_key};
-ghost use Rattle.read_steps.specs.Over.{forgot_if, forgot, falls_if, falls_in, falls_with, ended};
-ghost use Rattle.read_steps.specs.Parts.{reads};
+ghost use Rattle.read_steps.specs.Over.{forgot_if, forgot, falls_if, falls_in, falls_with, ended, ended_with};
+ghost use Rattle.read_steps.specs.Parts.{ground, reads};
 ghost use Rattle.read_steps.specs.Steps.{FitTogether, timed_out, left_by};
 
 use crate::moment::Moment;
@@ -57,24 +58,23 @@ impl Reads {
         requires { FitTogether self.old }
         ensures { self.new ≡ left_by m.entry.now ticket self.old }
     {
-        let _rows = self.asks.rows();
-        if let Some(ask) = self.asks.remove(ticket) {
-            if ends_more(&ask.stage) {
-                end_one(
-                    self.alloc,
-                    &ask,
-                    &mut self.waits,
-                    &mut self.table,
-                    &mut self.acquires,
-                );
-                release(
-                    self.alloc,
-                    &mut self.asks,
-                    &self.table,
-                    &self.acquires,
-                    self.waits.step(),
-                );
-            }
+        let ended = end_by_ticket(
+            self.alloc,
+            ticket,
+            &self.asks,
+            &mut self.waits,
+            &mut self.table,
+            &mut self.acquires,
+        );
+        drop(self.asks.remove(ticket));
+        if ended {
+            release(
+                self.alloc,
+                &mut self.asks,
+                &self.table,
+                &self.acquires,
+                self.waits.step(),
+            );
         }
     }
 
@@ -193,20 +193,48 @@ fn acquires_due(ask: &Asked, key: &Bytes, acquires: &Rows<Acquire>) -> bool
     is_acquiring(&ask.stage) && is_due_acquire(acquires.find(key))
 }
 
-/// What ends with this request: its write is forgotten, or its due acquire falls.
-fn end_one(
+/// What ends with the request of this ticket; whether there may be more than the request itself.
+fn end_by_ticket(
+    alloc: Global,
+    ticket: u64,
+    asks: &Asks,
+    waits: &mut Waits,
+    table: &mut LeaseTable,
+    acquires: &mut Rows<Acquire>,
+) -> bool
+    ensures waits { waits.new ≡ (ended (has_ticket ticket) (reads table.old.entries waits.old acquires.old asks.now)).own.waits }
+    ensures entries { table.new.entries ≡ (ended (has_ticket ticket) (reads table.old.entries waits.old acquires.old asks.now)).own.entries }
+    ensures acquires { acquires.new ≡ (ended (has_ticket ticket) (reads table.old.entries waits.old acquires.old asks.now)).acquires }
+    ensures nothing { result ≡ false → ended (has_ticket ticket) (reads table.old.entries waits.old acquires.old asks.now) ≡ ground table.old.entries waits.old acquires.old }
+{
+    let _rows = asks.rows();
+    match asks.find(ticket) {
+        Some(ask) => end_if_more(alloc, ask, waits, table, acquires),
+        None => false,
+    }
+}
+
+/// What ends with this request; whether there may be more than the request itself.
+fn end_if_more(
     alloc: Global,
     ask: &Asked,
     waits: &mut Waits,
     table: &mut LeaseTable,
     acquires: &mut Rows<Acquire>,
-)
-    ensures waits { waits.new ≡ record (forgot ask.now (owned table.old.entries waits.old)).waits { spoiled = without (falls_with ask.now acquires.old) (forgot ask.now (owned table.old.entries waits.old)).waits.spoiled } }
-    ensures entries { table.new.entries ≡ (forgot ask.now (owned table.old.entries waits.old)).entries }
-    ensures acquires { acquires.new ≡ without (falls_with ask.now acquires.old) acquires.old }
+) -> bool
+    ensures waits { waits.new ≡ (ended_with ask.now (ground table.old.entries waits.old acquires.old)).own.waits }
+    ensures entries { table.new.entries ≡ (ended_with ask.now (ground table.old.entries waits.old acquires.old)).own.entries }
+    ensures acquires { acquires.new ≡ (ended_with ask.now (ground table.old.entries waits.old acquires.old)).acquires }
+    ensures nothing { result ≡ false → ended_with ask.now (ground table.old.entries waits.old acquires.old) ≡ ground table.old.entries waits.old acquires.old }
 {
-    forget(ask, waits, table);
-    drop_due(alloc, ask, waits, acquires);
+    let more = ends_more(&ask.stage);
+    if more {
+        forget(ask, waits, table);
+        drop_due(alloc, ask, waits, acquires);
+        true
+    } else {
+        false
+    }
 }
 
 /// All due acquires fall.

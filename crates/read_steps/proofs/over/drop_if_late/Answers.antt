@@ -15,8 +15,8 @@ returns-then-times_out c =
       acquires = c.drop_due.ensures.acquires ∙ ap (λ b. without (falls_if b c.args.ask.now c.args.acquires.now) c.args.acquires.now) (sym t);
     }
 
-pub returns : goal.returns
-returns c =
+pub returns-else-times_out : goal.returns-else-times_out
+returns-else-times_out c =
     let f = sym c.times_out.ensures ∙ c.if-times_out.false in
     let p = times_out c.args.now c.args.ask.now in
     record {
