@@ -11,3 +11,4 @@ pub use decisions::{Decision, decide, under};
 pub use readers::tell_reader;
 pub use records::shown;
 pub use releases::{release, release_again};
+pub use standing::key_of;

@@ -74,7 +74,7 @@ rescinded_parts k create now own = of (is_of create (at own.entries k))
     of true = refl
     of false = refl
 
-rescind_parts : (a : Answer) (k : List ℕ) (create now : ℕ) (own : Ownership) → rescind_answered a (rescinded k create now own) ≡ option_map (λ held. record { own = after_rescind k create now own; settled = settled.Nothing }) (guard_told a)
+pub rescind_parts : (a : Answer) (k : List ℕ) (create now : ℕ) (own : Ownership) → rescind_answered a (rescinded k create now own) ≡ option_map (λ held. record { own = after_rescind k create now own; settled = settled.Nothing }) (guard_told a)
 rescind_parts a k create now own = ap (λ (o : Ownership). rescind_answered a o) (rescinded_parts k create now own) ∙ told_gives a (after_rescind k create now own)
 
 pub rescind_unread : (a : Answer) (k : List ℕ) (create now : ℕ) (own : Ownership) → guard_told a ≡ None → rescind_answered a (rescinded k create now own) ≡ None
