@@ -1,4 +1,4 @@
-ghost use Rattle.std.specs.Prelude.{◌≡◌, ℕ, Option, true, IfOk, OnOk, OnErr, []};
+ghost use Rattle.std.specs.Prelude.{◌≡◌, ℕ, Option, true, not, filter, IfOk, OnOk, OnErr, []};
 ghost use Rattle.std.specs.List.{list_any};
 ghost use Rattle.std.specs.Option.{option_copied, option_map};
 ghost use Rattle.wait_model.specs.Asked.{submitted, acquire_begun, acquire_spoiled, acquire_ended, is_spoiled, is_true};
@@ -26,7 +26,7 @@ use crate::places::{By, place_of, take_job};
 use crate::sends::{first_rescind, send_call, send_rescind};
 use crate::takes::{When, take_read};
 use etcd_types::{Answer, Bytes, Event, List, NoMemory, Request};
-use keyed_rows::Rows;
+use keyed_rows::{RowTest, Rows};
 use lease_table::LeaseTable;
 use lease_txn::NotShape;
 use revoke_calls::{first_place, new_write, notices_of};
@@ -113,6 +113,34 @@ impl Waits {
         let spoiled = is_true(self.spoiled.find(key));
         self.spoiled.remove(key);
         spoiled
+    }
+
+    /// The acquires are over whose keys pass the test, as it is of their marks.
+    pub fn end_acquires<T: RowTest<bool>>(&mut self, test: &T)
+        ensures { self.new ≡ record self.old { spoiled = filter (λ e. not (T.passes test.now e.0 e.1)) self.old.spoiled } }
+    {
+        self.spoiled.remove_where(test);
+    }
+
+    /// Whether the acquire of the key is spoiled.
+    pub fn is_spoiled(&self, key: &Bytes) -> bool
+        ensures { result ≡ is_spoiled key.now (owned [] self.now) }
+    {
+        is_true(self.spoiled.find(key))
+    }
+
+    /// The leasing prefix.
+    pub fn prefix(&self) -> &Bytes
+        ensures { result.now ≡ self.now.prefix }
+    {
+        &self.prefix
+    }
+
+    /// What becomes due now is due since this step.
+    pub fn step(&self) -> u64
+        ensures { result ≡ self.now.step }
+    {
+        self.step
     }
 
     /// The acquire of the key is spoiled, where one is due or out: it holds nothing when it is answered.
