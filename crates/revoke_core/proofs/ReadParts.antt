@@ -1,6 +1,7 @@
 -- What an answer does is what is done by that which was read of it.
-use Rattle.std.proofs.Common.{◌≡◌, ℕ, Bool, true, IsTrue, List, Option, None, Some, Result, Ok, Err, refl, sym, ◌∙◌, ap}
+use Rattle.std.proofs.Common.{◌≡◌, ℕ, Bool, true, false, cond, IsTrue, List, [], ◌∷◌, Option, None, Some, Result, Ok, Err, refl, sym, ◌∙◌, ap, subst}
 use Rattle.std.specs.Option.{option_map}
+use Rattle.etcd_types.proofs.Bools.{and_first, and_second, and_both}
 use Rattle.etcd_types.specs.declared.answer.Answer.{Answer}
 use Rattle.etcd_types.specs.declared.answer.Answer.TheVariants as answer
 use Rattle.etcd_types.specs.declared.answer.Reply.{Reply}
@@ -18,6 +19,8 @@ use Rattle.wait_model.specs.declared.wait.Settled.TheVariants as settled
 use Rattle.wait_model.specs.declared.wait.WaitJob.{WaitJob}
 use Rattle.wait_model.specs.declared.wait.WaitJob.TheVariants as job
 use Rattle.wait_model.specs.declared.write.Write.{Write}
+use Rattle.wait_model.specs.declared.write.WriteStage.{WriteStage}
+use Rattle.wait_model.specs.Stages.{staged, is_owner}
 use Rattle.wait_model.specs.Endings.{answered, answered_job, revoke_back, revoke_answered, without_out}
 use Rattle.wait_model.specs.Fits.{is_proper, are_proper}
 use Rattle.wait_model.specs.ForeignOwnership.{stage_asked}
@@ -28,14 +31,16 @@ use Rattle.wait_model.specs.Writes.{first_by, without_first, with_first, sends, 
 use Rattle.revoke_calls.specs.declared.entries.Fate.TheVariants.{Back}
 use Rattle.revoke_calls.specs.Ends.{lefts_of, all_wrote}
 use Rattle.revoke_calls.specs.Failed.{failed_stage, failed_entries}
+use Rattle.revoke_calls.proofs.ProperWrite.{proper-restaged}
 use Rattle.revoke_calls.proofs.TurnedKeys.{wrote_is}
 use Rattle.revoke_core.specs.declared.answers.ReadAnswer.{ReadAnswer}
 use Rattle.revoke_core.specs.declared.answers.ReadAnswer.TheVariants as read
 use Rattle.revoke_core.specs.Answers.{guard_told}
-use Rattle.revoke_core.specs.Readings.{asked_read, revoke_read, own_read, write_read, job_read, done_read, replied, asked_writes, failed_writes, failed_if, taken, IsRead}
+use Rattle.revoke_core.specs.Readings.{asked_read, revoke_read, own_read, write_read, job_read, done_read, replied, asked_writes, failed_writes, failed_if, read_writes, taken, IsRead}
 use Rattle.revoke_core.specs.Steps.{settled_if}
-use Rattle.revoke_core.proofs.AnswerParts.{rescind_parts, after_rescind, failed_parts}
-use Rattle.revoke_core.proofs.LossParts.{first_proper}
+use Rattle.revoke_core.proofs.AnswerParts.{rescind_parts, after_rescind, failed_parts, asked_owner, failed_owner}
+use Rattle.revoke_core.proofs.LossParts.{first_proper, proper-without}
+use Rattle.revoke_core.proofs.Searches.{cond_true, cond_false}
 
 -- A rescind.
 
@@ -96,3 +101,40 @@ pub is_read : (result : Result ReadAnswer NotShape) (o : Option ReadAnswer) (doe
 is_read (Ok r) o does e h f = f ∙ ap (λ (x : Option ReadAnswer). option_map does x) h
 is_read (Err Shape) o does e h f = f ∙ ap (λ (x : Option ReadAnswer). option_map does x) h
 is_read (Err NoMemory) o does e h f = tt
+
+pub mapped_err : {A B : Type 0} (fault : NotShape) (f : A → B) (o : Option A) → Reads {A = A} (Err fault) o → Reads {A = B} (Err fault) (option_map f o)
+mapped_err Shape f o h = ap (λ x. option_map f x) h
+mapped_err NoMemory f o h = tt
+
+-- The writes stay proper.
+
+abbrev is_owner_of : Option Write → Bool
+is_owner_of None = false
+is_owner_of (Some w) = is_owner w.stage
+
+proper-with : (p : Write → Bool) (s : WriteStage) (ws : List Write) → are_proper ws ≡ true → ((w : Write) → first_by p ws ≡ Some w → is_owner s ≡ true → is_owner w.stage ≡ true) → are_proper (with_first p s ws) ≡ true
+proper-with p s [] h f = h
+proper-with p s (v ∷ vs) h f =
+    elim (p v) as (λ b. p v ≡ b → are_proper (cond b (staged v s ∷ vs) (v ∷ with_first p s vs)) ≡ true) [
+      | true ↦ λ t. and_both (is_proper (staged v s)) (are_proper vs) (proper-restaged v s (and_first (is_proper v) (are_proper vs) h) (f v (cond_true (p v) (Some v) (first_by p vs) t))) (and_second (is_proper v) (are_proper vs) h)
+      | false ↦ λ t. and_both (is_proper v) (are_proper (with_first p s vs)) (and_first (is_proper v) (are_proper vs) h) (proper-with p s vs (and_second (is_proper v) (are_proper vs) h) (λ w e. f w (cond_false (p v) (Some v) (first_by p vs) t ∙ e)))
+    ] refl
+
+proper-asked : (call : ℕ) (held : Bool) (o : Option Write) (ws : List Write) → first_by (asks call) ws ≡ o → are_proper ws ≡ true → are_proper (asked_writes call held o ws) ≡ true
+proper-asked call held None ws e h = h
+proper-asked call held (Some w) ws e h =
+    proper-with (asks call) (stage_asked call held w.stage) ws h (λ v f t. subst (λ (x : Option Write). is_owner_of x ≡ true) (sym e ∙ f) (asked_owner call held w.stage t))
+
+proper-failed : (session : Option ℕ) (step call : ℕ) (os : List Owner) (es : Keyed Entry) (o : Option Write) (ws : List Write) → first_by (sends call) ws ≡ o → are_proper ws ≡ true → are_proper (failed_writes session step call os es o ws) ≡ true
+proper-failed session step call os es None ws e h = h
+proper-failed session step call os es (Some w) ws e h =
+    proper-with (sends call) (failed_stage session step w os es) ws h (λ v f t. subst (λ (x : Option Write). is_owner_of x ≡ true) (sym e ∙ f) (failed_owner session step w os es t))
+
+pub proper-read : (session : Option ℕ) (step call : ℕ) (r : ReadAnswer) (es : Keyed Entry) (ws : List Write) → are_proper ws ≡ true → are_proper (read_writes session step call r es ws) ≡ true
+proper-read session step call read.Nothing es ws h = h
+proper-read session step call (read.Rescinded k create) es ws h = h
+proper-read session step call (read.Asked held) es ws h = proper-asked call held (first_by (asks call) ws) ws refl h
+proper-read session step call (read.AskRefused r) es ws h = proper-without (asks call) ws h
+proper-read session step call (read.Refused r) es ws h = proper-without (sends call) ws h
+proper-read session step call (read.Wrote reply lefts) es ws h = proper-without (sends call) ws h
+proper-read session step call (read.Blocked os) es ws h = proper-failed session step call os es (first_by (sends call) ws) ws refl h

@@ -114,8 +114,9 @@ fn end_entry(
 fn take_asked(writes: &mut Vec<Write>, call: u64, held: bool)
     ensures { writes.new.items ≡ asked_writes call held (first_by (asks call) writes.old.items) writes.old.items }
 {
-    if let Some(at) = place_of(writes, By::Asks(call)) {
-        take_back(&mut writes[at].stage, call, held);
+    match place_of(writes, By::Asks(call)) {
+        None => {}
+        Some(at) => take_back(&mut writes[at].stage, call, held),
     }
 }
 

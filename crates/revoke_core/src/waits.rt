@@ -23,13 +23,13 @@ use crate::losses::{forget_write, lose_job};
 use crate::notices::take_all;
 use crate::passes::{is_covered, pass};
 use crate::places::{By, place_of, take_job};
-use crate::sends::{first_rescind, send_call, send_rescind};
+use crate::sends::{call_due, first_rescind, send_call, send_rescind};
 use crate::takes::{When, take_read};
 use etcd_types::{Answer, Bytes, Event, List, NoMemory, Request};
 use keyed_rows::{RowTest, Rows};
 use lease_table::LeaseTable;
 use lease_txn::NotShape;
-use revoke_calls::{first_place, new_write, notices_of};
+use revoke_calls::{first_place, new_write, notices_of, rescind_due};
 use std::alloc::Global;
 use std::marker::Model;
 use wait_model::{Due, Place, Settled, WaitCall, Write};
@@ -272,6 +272,22 @@ impl Waits {
                     call,
                     table,
                 )?;
+                Ok(due)
+            }
+        }
+    }
+
+    /// What the first due job will send; nothing exactly where none is due. Nothing is sent yet.
+    pub fn first_job(&self, table: &LeaseTable) -> Result<Option<Due>, NoMemory>
+        ensures { IfOk result (λ due. (call : ℕ) → due ≡ option_map (λ sent. sent.due) (job_sent call (owned table.now.entries self.now))) }
+    {
+        match first_rescind(self.alloc, table)? {
+            Some((key, create)) => {
+                let due = rescind_due(self.alloc, &self.prefix, &key, create)?;
+                Ok(Some(due))
+            }
+            None => {
+                let due = call_due(self.alloc, &self.prefix, &self.writes, table)?;
                 Ok(due)
             }
         }

@@ -8,6 +8,7 @@ use Rattle.proxy_model.specs.Keyed.{Keyed}
 use Rattle.read_core.specs.Falls.{again_stage}
 use Rattle.read_model.specs.declared.acquire.Acquire.{Acquire}
 use Rattle.read_model.specs.declared.asked.Asked.{Asked}
+use Rattle.read_model.specs.declared.asked.Stage.{Stage}
 use Rattle.read_model.specs.State.{Reads, Moment}
 use Rattle.read_model.specs.WriteAnswers.{settled_ask}
 use Rattle.revoke_core.specs.declared.answers.ReadAnswer.{ReadAnswer}
@@ -21,11 +22,13 @@ parts es waits acquires asks = record { own = owned es waits; acquires = acquire
 abbrev pub moment : Bool → When → Moment
 moment created w = record { now = w.now; session = w.session; created = created; header = w.header }
 
--- the requests once what was read of the answer is taken
+-- the stage that a request comes into once what was read of the answer is taken, before what is settled is replied
+abbrev pub stage_after : When → ℕ → ReadAnswer → Ownership → Keyed Acquire → Asked → Option Stage
+stage_after w call read own acquires = again_stage w.header w.step (taken call read w.session w.now own).own.entries acquires
+
 abbrev pub after_asks : When → ℕ → ReadAnswer → Reads → List Asked
 after_asks w call read r =
-    let x = taken call read w.session w.now r.own in
-    map (settled_ask x.settled) (map (staged_by (again_stage w.header w.step x.own.entries r.acquires)) r.asks)
+    map (settled_ask (taken call read w.session w.now r.own).settled) (map (staged_by (stage_after w call read r.own r.acquires)) r.asks)
 
 -- this is left; `Shape` exactly where the answer can't be one to the call; or memory was wanting
 abbrev pub Leaves : Result (Unit {0}) NotShape → Reads → Option Reads → Type 0

@@ -1,9 +1,11 @@
-ghost use Rattle.std.specs.Prelude.{◌≡◌, ℕ, Option, Some};
+ghost use Rattle.std.specs.Prelude.{◌≡◌, ℕ, ◌&&◌, Option, Some};
 ghost use Rattle.std.specs.Option.{option_copied, option_map};
+ghost use Rattle.etcd_types.specs.Keys.{same};
 ghost use Rattle.proxy_model.specs.Keyed.{at};
 ghost use Rattle.proxy_model.specs.LeaseTable.{unwritten, phase_after_write};
 ghost use Rattle.revoke_calls.specs.Ends.{all_wrote, wrote_turn};
 ghost use Rattle.revoke_calls.specs.Failed.{failed_entries};
+ghost use Rattle.wait_model.specs.Phases.{is_of};
 ghost use Rattle.revoke_calls.specs.declared.entries.Fate.TheVariants.{Back};
 ghost use Rattle.revoke_core.specs.Answers.{rescinded_entries};
 ghost use Rattle.revoke_core.specs.Readings.{read_entries, failed_if};
@@ -58,11 +60,18 @@ pub(crate) fn seen_after<'a>(
 fn seen_rescinded<'a>(own: &Bytes, create: u64, key: &Bytes, table: &'a LeaseTable) -> Seen<'a>
     ensures { what result ≡ what_of (at (rescinded_entries own.now create table.now.entries) key.now) }
 {
-    if own == key && is_of(table.find(own), create) {
+    if is_rescinded(own, create, key, table) {
         neither()
     } else {
         seen_in(table.find(key))
     }
+}
+
+/// Whether the key is the one that was given up, and its entry of this create revision.
+fn is_rescinded(own: &Bytes, create: u64, key: &Bytes, table: &LeaseTable) -> bool
+    ensures { result ≡ (same own.now key.now && is_of create (at table.now.entries own.now)) }
+{
+    own == key && is_of(table.find(own), create)
 }
 
 fn seen_refused<'a>(write: Option<&Write>, key: &Bytes, table: &'a LeaseTable) -> Seen<'a>

@@ -1,11 +1,12 @@
-ghost use Rattle.std.specs.Prelude.{◌≡◌, Bool, map, OnOk, OnErr};
+ghost use Rattle.std.specs.Prelude.{◌≡◌, Bool, map, IfOk, OnOk, OnErr};
+ghost use Rattle.known_asks.specs.Changes.{restaged, staged_by};
 ghost use Rattle.read_laws.specs.InPlace.{placed_by};
 ghost use Rattle.read_model.specs.Fits.{ReadsOk};
 ghost use Rattle.read_model.specs.WriteAnswers.{settled_ask, wait_answered};
 ghost use Rattle.wait_model.specs.Endings.{answered};
 ghost use Rattle.wait_model.specs.State.{owned};
 ghost use Rattle.revoke_core.specs.Readings.{taken};
-ghost use Rattle.write_answers.specs.Answered.{parts, moment, after_asks, Leaves};
+ghost use Rattle.write_answers.specs.Answered.{parts, moment, stage_after, after_asks, Leaves};
 
 use crate::release::After;
 use core_model::Acquire;
@@ -83,20 +84,36 @@ fn take(
     ensures err_waits { OnErr result (waits.new ≡ waits.old) }
     ensures err_entries { OnErr result (table.new.entries ≡ table.old.entries) }
 {
-    let rule = After {
-        header: when.header,
-        step: when.step,
-        session: when.session,
-        read: &read,
-        write: waits.sender(call),
-        table,
-        acquires,
-    };
-    let changes = stage_changes(alloc, asks, &rule)?;
+    let changes = changes_after(alloc, call, &read, when, asks, waits, table, acquires)?;
     let settled = waits.take_answer(call, read, when.session, when.now, table)?;
     set_stages(asks, changes);
     reply(asks, settled);
     Ok(())
+}
+
+/// The stages that reads come into once what was read is taken, by ticket. Nothing is changed yet.
+fn changes_after(
+    alloc: Global,
+    call: u64,
+    read: &ReadAnswer,
+    when: When,
+    asks: &Asks,
+    waits: &Waits,
+    table: &LeaseTable,
+    acquires: &Rows<Acquire>,
+) -> Result<Vec<(u64, Stage)>, NoMemory>
+    ensures { IfOk result (λ changes. restaged changes.items asks.now ≡ map (staged_by (stage_after when call read.now (owned table.now.entries waits.now) acquires.now)) asks.now) }
+{
+    let rule = After {
+        header: when.header,
+        step: when.step,
+        session: when.session,
+        read,
+        write: waits.sender(call),
+        table,
+        acquires,
+    };
+    Ok(stage_changes(alloc, asks, &rule)?)
 }
 
 /// What is settled is replied. It takes no memory.

@@ -4,4 +4,4 @@ use Rattle.revoke_calls.specs.Ends.{left_at}
 use Rattle.revoke_calls.proofs.left.find_in.Given as goal
 
 abbrev pub invariant-loop-left : goal.invariant-loop-left
-invariant-loop-left l = left_at l.key.now (drop l.left-index l.lefts) ≡ left_at l.key.now l.lefts
+invariant-loop-left l = left_at l.key (drop l.left-index l.lefts) ≡ left_at l.key l.lefts
