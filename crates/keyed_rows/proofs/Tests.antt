@@ -8,7 +8,7 @@ use Rattle.etcd_types.proofs.KeyOrder.{same-itself}
 use Rattle.proxy_model.specs.Keyed.{Keyed, at, is_in_order}
 use Rattle.proxy_model.proofs.KeyedLaws.{to_T, from_T}
 use Rattle.wait_model.specs.Edits.{without}
-use Rattle.keyed_rows.proofs.Places.{order, NoKey, first_T, second_part, less, turned, first_part}
+use Rattle.keyed_rows.proofs.Places.{order, first_T, second_part, less, turned, first_part}
 
 both_T : (a b : Bool) → T a → T b → T (a && b)
 both_T true b x y = y

@@ -1,4 +1,4 @@
-ghost use Rattle.std.specs.Prelude.{◌≡◌, ◌≤◌, Bool, true, [], None, Some, is_some, OnOk, OnErr};
+ghost use Rattle.std.specs.Prelude.{◌≡◌, ◌≤◌, if◌then◌else◌, Bool, true, [], None, Some, is_some, OnOk, OnErr};
 ghost use Rattle.std.specs.Option.{option_copied};
 ghost use Rattle.proxy_model.specs.Keyed.{at, with_at};
 ghost use Rattle.proxy_model.specs.declared.ownership.Claim.TheVariants.{Acquired, OwnedBy};
@@ -37,7 +37,7 @@ impl Reads {
         answer: Answer,
     ) -> Result<bool, NotShape>
         requires { FitTogether self.old }
-        ensures after { GivesReads result self.new (acquire_answered m.now key.now answer self.old) }
+        ensures after { GivesReads result self.new (acquire_answered m.entry.now key.now answer self.old) }
         ensures err { OnErr result (self.new ≡ self.old) }
     {
         let session = match self.acquires.find(key) {
@@ -60,7 +60,7 @@ impl Reads {
 
     /// The acquire of the key was refused, and the session ends by it or doesn't.
     fn refuse_acquire(&mut self, m: &Moment, key: &Bytes, ends: bool)
-        ensures { self.new ≡ (acquire_refused m.now key.now ends self.old).reads }
+        ensures { self.new ≡ (acquire_refused m.entry.now key.now ends self.old).reads }
     {
         self.waits.end_acquire(key);
         self.acquires.remove(key);
@@ -87,7 +87,7 @@ impl Reads {
     ) -> Result<(), NotShape>
         requires fit { FitTogether self.old }
         requires acquire { is_some (at self.old.acquires key.now) ≡ true }
-        ensures after { Claims result self.new (done_by m.now key.now held reply.header (claimed self.old.own.waits.prefix key.now reply) self.old) }
+        ensures after { Claims result self.new (done_by m.entry.now key.now held reply.header (claimed self.old.own.waits.prefix key.now reply) self.old) }
         ensures err { OnErr result (self.new ≡ self.old) }
     {
         let header = reply.header;
@@ -116,14 +116,16 @@ impl Reads {
     ) -> Result<(), NoMemory>
         requires fit { FitTogether self.old }
         requires acquire { is_some (at self.old.acquires key.now) ≡ true }
-        ensures ok { OnOk result (self.new ≡ acquire_done m.now key.now held header (Acquired create kv) self.old) }
+        ensures ok { OnOk result (self.new ≡ acquire_done m.entry.now key.now held header (Acquired create kv) self.old) }
         ensures err { OnErr result (self.new ≡ self.old) }
     {
+        let record = kv.as_ref();
+        let joined = header_if(held, m.header);
         let readers = Readers {
             key,
             header,
-            kv: kv.as_ref(),
-            held: if held { Some(m.header) } else { None },
+            kv: record,
+            held: joined,
             step: self.waits.step(),
         };
         let changes = reader_changes(self.alloc, &self.asks, &readers)?;
@@ -137,7 +139,8 @@ impl Reads {
             &mut self.table,
             &mut self.acquires,
             &mut self.asks,
-        )
+        )?;
+        Ok(())
     }
 
     /// The key is owned by another, or by this proxy's session, which then gives it up.
@@ -151,13 +154,14 @@ impl Reads {
     ) -> Result<(), NoMemory>
         requires fit { FitTogether self.old }
         requires acquire { is_some (at self.old.acquires key.now) ≡ true }
-        ensures ok { OnOk result ((held : Bool) → self.new ≡ acquire_done m.now key.now held header (OwnedBy kv owner) self.old) }
+        ensures ok { OnOk result ((held : Bool) → self.new ≡ acquire_done m.entry.now key.now held header (OwnedBy kv owner) self.old) }
         ensures err { OnErr result (self.new ≡ self.old) }
     {
+        let record = kv.as_ref();
         let readers = Readers {
             key,
             header,
-            kv: kv.as_ref(),
+            kv: record,
             held: None,
             step: self.waits.step(),
         };
@@ -171,8 +175,15 @@ impl Reads {
             &mut self.table,
             &mut self.acquires,
             &mut self.asks,
-        )
+        )?;
+        Ok(())
     }
+}
+
+fn header_if(held: bool, header: Header) -> Option<Header>
+    ensures { result ≡ (if held then Some header else None) }
+{
+    if held { Some(header) } else { None }
 }
 
 fn entry_won(held: bool, create: u64, kv: Option<Kv>) -> Entry

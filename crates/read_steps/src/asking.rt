@@ -32,8 +32,8 @@ impl Reads {
     pub fn ask_read(&mut self, m: &Moment, ask: Asked) -> Result<Option<Verdict>, NoMemory>
         requires unknown { ask_at ask.ticket self.old.asks ≡ None }
         requires leased { is_leased_read self.old.own.waits.prefix ask.request ≡ true }
-        ensures reply { IfOk result (λ reply. reply ≡ at_once (decided_ask m.now (ground_of self.old) ask).stage) }
-        ensures reads { IfOk result (λ reply. self.new ≡ after_read reply m.now ask self.old) }
+        ensures reply { IfOk result (λ reply. reply ≡ at_once (decided_ask m.entry.now (ground_of self.old) ask).stage) }
+        ensures reads { IfOk result (λ reply. self.new ≡ after_read reply m.entry.now ask self.old) }
         ensures err { OnErr result (self.new ≡ self.old) }
     {
         let Decision { stage, under } = decide_read(
@@ -82,6 +82,7 @@ impl Reads {
 }
 
 /// What the plain read comes to.
+#[tactic(auto, using(crate::proofs::TakenBack::not_leasing))]
 fn decide_read(
     alloc: Global,
     m: &Moment,
@@ -91,8 +92,8 @@ fn decide_read(
     acquires: &Rows<Acquire>,
 ) -> Result<Decision, NoMemory>
     requires { is_leased_read waits.now.prefix ask.now.request ≡ true }
-    ensures stage { IfOk result (λ d. d.stage ≡ (decision m.now (ground table.now.entries waits.now acquires.now) (ask_key ask.now)).stage) }
-    ensures under { IfOk result (λ d. d.under ≡ (decision m.now (ground table.now.entries waits.now acquires.now) (ask_key ask.now)).under) }
+    ensures stage { IfOk result (λ d. d.stage ≡ (decision m.entry.now (ground table.now.entries waits.now acquires.now) (ask_key ask.now)).stage) }
+    ensures under { IfOk result (λ d. d.under ≡ (decision m.entry.now (ground table.now.entries waits.now acquires.now) (ask_key ask.now)).under) }
 {
     let empty = Bytes::new(alloc);
     let key = key_of(&ask.request, &empty);
@@ -118,8 +119,8 @@ fn decide_free(
     acquires: &Rows<Acquire>,
 ) -> Result<Decision, NoMemory>
     requires { contains (leasing_range waits.now.prefix) key.now ≡ false }
-    ensures stage { IfOk result (λ d. d.stage ≡ (read_turn m.now.header waits.now.step None (is_some (at acquires.now key.now)) (acquirable m.now (owned [] waits.now) key.now)).stage) }
-    ensures under { IfOk result (λ d. d.under ≡ (read_turn m.now.header waits.now.step None (is_some (at acquires.now key.now)) (acquirable m.now (owned [] waits.now) key.now)).under) }
+    ensures stage { IfOk result (λ d. d.stage ≡ (read_turn m.entry.now.header waits.now.step None (is_some (at acquires.now key.now)) (acquirable m.entry.now (owned [] waits.now) key.now)).stage) }
+    ensures under { IfOk result (λ d. d.under ≡ (read_turn m.entry.now.header waits.now.step None (is_some (at acquires.now key.now)) (acquirable m.entry.now (owned [] waits.now) key.now)).under) }
 {
     if acquires.find(key).is_some() {
         return Ok(decide(alloc, m.header, waits.step(), None, true, None)?);
@@ -129,9 +130,10 @@ fn decide_free(
 }
 
 /// The session under which this key may be acquired, which has neither entry nor acquire and is no ownership key.
+#[tactic(auto, using(crate::proofs::TakenBack::ownable, crate::proofs::Asking::zero_or))]
 fn session_for(m: &Moment, key: &Bytes, waits: &Waits) -> Option<u64>
     requires { contains (leasing_range waits.now.prefix) key.now ≡ false }
-    ensures { result ≡ acquirable m.now (owned [] waits.now) key.now }
+    ensures { result ≡ acquirable m.entry.now (owned [] waits.now) key.now }
 {
     let ownable = !waits.prefix().is_empty() && !key.is_empty();
     let rested = waits.quiet(key) <= m.now;
@@ -177,6 +179,7 @@ fn keep_read(
 }
 
 /// The read waits for an acquire of its key, which is due under this session. Where memory was wanting all is as before.
+#[tactic(auto, using(crate::proofs::TakenBack::taken_back))]
 fn keep_acquiring(
     alloc: Global,
     ask: Asked,
@@ -209,6 +212,7 @@ fn keep_acquiring(
 }
 
 /// An acquire of the key is due. Where memory was wanting all is as before.
+#[tactic(auto, using(crate::proofs::TakenBack::put_back))]
 fn begin_acquire(
     alloc: Global,
     key: &Bytes,
@@ -242,6 +246,7 @@ fn begin_acquire(
 }
 
 /// The write waits behind all others. Where memory was wanting all is as before.
+#[tactic(auto, using(crate::proofs::TakenBack::taken_back))]
 fn keep_write(
     alloc: Global,
     ask: Asked,

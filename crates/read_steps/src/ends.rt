@@ -72,7 +72,7 @@ impl Reads {
 
     /// The acquire of the key was lost: its reader's call is due, or ends, and each read that joined becomes a call. It takes no memory.
     pub fn lose_acquire(&mut self, m: &Moment, key: &Bytes, members: u32)
-        ensures { self.new ≡ acquire_lost members m.now key.now self.old }
+        ensures { self.new ≡ acquire_lost members m.entry.now key.now self.old }
     {
         self.waits.end_acquire(key);
         self.acquires.remove(key);
@@ -89,7 +89,7 @@ impl Reads {
 
     /// The call of this number, of a write or of an entry, was lost. It takes no memory.
     pub fn lose_write(&mut self, m: &Moment, call: u64)
-        ensures { self.new ≡ wait_lost m.now call self.old }
+        ensures { self.new ≡ wait_lost m.entry.now call self.old }
     {
         let settled = self.waits.lost(call, &mut self.table);
         settle(settled, &mut self.asks);

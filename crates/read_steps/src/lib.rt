@@ -5,6 +5,7 @@
 mod acquires;
 mod asking;
 mod ends;
+mod lemmas;
 mod moment;
 mod over;
 mod reads;

@@ -1,4 +1,4 @@
-ghost use Rattle.std.specs.Prelude.{◌≡◌, map};
+ghost use Rattle.std.specs.Prelude.{◌≡◌, ◌&&◌, ◌||◌, map};
 ghost use Rattle.std.specs.Option.{option_copied};
 ghost use Rattle.core_model.specs.ClockWork.{times_out};
 ghost use Rattle.proxy_model.specs.Keyed.{at};
@@ -7,7 +7,8 @@ ghost use Rattle.read_model.specs.SessionEnd.{is_due, is_due_acquire, session_ov
 ghost use Rattle.read_model.specs.TakingOff.{forgotten_all, is_writes};
 ghost use Rattle.wait_model.specs.Edits.{without};
 ghost use Rattle.wait_model.specs.State.{owned};
-ghost use Rattle.read_steps.specs.Over.{forgot, falls_in, falls_with, ended};
+ghost use Rattle.read_model.specs.PlainRead.{ask_key};
+ghost use Rattle.read_steps.specs.Over.{forgot_if, forgot, falls_if, falls_in, falls_with, ended};
 ghost use Rattle.read_steps.specs.Parts.{reads};
 ghost use Rattle.read_steps.specs.Steps.{FitTogether, timed_out, left_by};
 
@@ -28,7 +29,7 @@ impl Reads {
     /// time. It takes no memory.
     pub fn time_out(&mut self, m: &Moment)
         requires { FitTogether self.old }
-        ensures { self.new ≡ timed_out m.now self.old }
+        ensures { self.new ≡ timed_out m.entry.now self.old }
     {
         if self.asks.may_time_out(m.now) {
             end_late(
@@ -54,11 +55,11 @@ impl Reads {
     /// leaves nothing else to be looked at. It takes no memory.
     pub fn leave(&mut self, m: &Moment, ticket: u64)
         requires { FitTogether self.old }
-        ensures { self.new ≡ left_by m.now ticket self.old }
+        ensures { self.new ≡ left_by m.entry.now ticket self.old }
     {
         let _rows = self.asks.rows();
         if let Some(ask) = self.asks.remove(ticket) {
-            if is_acquiring(&ask.stage) || is_writes(&ask.stage) {
+            if ends_more(&ask.stage) {
                 end_one(
                     self.alloc,
                     &ask,
@@ -79,7 +80,7 @@ impl Reads {
 
     /// The session ended: all entries are gone, due acquires fall, and the reads that waited for either become calls. It takes no memory.
     pub fn end_session(&mut self, m: &Moment)
-        ensures { self.new ≡ session_over m.now self.old }
+        ensures { self.new ≡ session_over m.entry.now self.old }
     {
         self.waits.end_session(&mut self.table);
         end_due(&mut self.waits, &mut self.acquires);
@@ -117,9 +118,16 @@ fn forget_late(now: u64, rows: &[(u64, Asked)], waits: &mut Waits, table: &mut L
     ensures entries { table.new.entries ≡ (forgotten_all (times_out now) (map (λ r. r.1) rows.now) (owned table.old.entries waits.old)).entries }
 {
     for row in rows {
-        if times_out(&row.1, now) {
-            forget(&row.1, waits, table);
-        }
+        forget_if_late(now, &row.1, waits, table);
+    }
+}
+
+fn forget_if_late(now: u64, ask: &Asked, waits: &mut Waits, table: &mut LeaseTable)
+    ensures waits { waits.new ≡ (forgot_if (times_out now ask.now) ask.now (owned table.old.entries waits.old)).waits }
+    ensures entries { table.new.entries ≡ (forgot_if (times_out now ask.now) ask.now (owned table.old.entries waits.old)).entries }
+{
+    if times_out(ask, now) && is_writes(&ask.stage) {
+        waits.forget(ask.ticket, table);
     }
 }
 
@@ -145,9 +153,22 @@ fn drop_late(
     ensures acquires { acquires.new ≡ without (falls_in (times_out now) (map (λ r. r.1) rows.now) acquires.old) acquires.old }
 {
     for row in rows {
-        if times_out(&row.1, now) {
-            drop_due(alloc, &row.1, waits, acquires);
-        }
+        drop_if_late(alloc, now, &row.1, waits, acquires);
+    }
+}
+
+fn drop_if_late(
+    alloc: Global,
+    now: u64,
+    ask: &Asked,
+    waits: &mut Waits,
+    acquires: &mut Rows<Acquire>,
+)
+    ensures waits { waits.new ≡ record waits.old { spoiled = without (falls_if (times_out now ask.now) ask.now acquires.old) waits.old.spoiled } }
+    ensures acquires { acquires.new ≡ without (falls_if (times_out now ask.now) ask.now acquires.old) acquires.old }
+{
+    if times_out(ask, now) {
+        drop_due(alloc, ask, waits, acquires);
     }
 }
 
@@ -158,10 +179,18 @@ fn drop_due(alloc: Global, ask: &Asked, waits: &mut Waits, acquires: &mut Rows<A
 {
     let empty = Bytes::new(alloc);
     let key = key_of(&ask.request, &empty);
-    if is_acquiring(&ask.stage) && is_due_acquire(acquires.find(key)) {
+    if acquires_due(ask, key, acquires) {
         waits.end_acquire(key);
         acquires.remove(key);
     }
+}
+
+/// Whether the request acquires this key, which is its own, and that acquire is due.
+fn acquires_due(ask: &Asked, key: &Bytes, acquires: &Rows<Acquire>) -> bool
+    requires { key.now ≡ ask_key ask.now }
+    ensures { result ≡ (is_acquiring ask.now.stage && is_due_acquire (at acquires.now (ask_key ask.now))) }
+{
+    is_acquiring(&ask.stage) && is_due_acquire(acquires.find(key))
 }
 
 /// What ends with this request: its write is forgotten, or its due acquire falls.
@@ -229,6 +258,13 @@ fn is_due(sending: Sending) -> bool
     ensures { result ≡ is_due sending }
 {
     matches!(sending, Sending::Due { .. })
+}
+
+/// Whether something else ends with a request at this stage.
+fn ends_more(stage: &Stage) -> bool
+    ensures { result ≡ (is_acquiring stage.now || is_writes stage.now) }
+{
+    is_acquiring(stage) || is_writes(stage)
 }
 
 fn is_acquiring(stage: &Stage) -> bool
