@@ -12,5 +12,5 @@ returns-in-None c = ap (λ o. revoke_read c.args.answer o) c.in-None.ensures.non
 
 pub returns-in-Some : goal.returns-in-Some
 returns-in-Some c =
-    let first = first_is (asks c.args.call) c.args.writes.now c.in-Some.at c.in-Some.ensures.found in
+    let first = first_is (asks c.args.call) c.args.writes.now c.in-Some.field-0 c.in-Some.ensures.found in
     subst (λ (o : Option Write). Reads c.read_asked.result (revoke_read c.args.answer o)) (sym first.1) c.read_asked.ensures
