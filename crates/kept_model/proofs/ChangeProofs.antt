@@ -11,7 +11,7 @@ use Rattle.kept_model.specs.KeyLaws.{KeptGrowByChange}
 use Rattle.kept_model.proofs.VersionProofs.{other_key, last_left-append, last_in}
 use Rattle.kept_model.proofs.KeptProofs.{kept_grow}
 
-versions_in-append : (revision : ℕ) (k : List ℕ) (cs ds : List KeyChange) (old : Option Kv)
+pub versions_in-append : (revision : ℕ) (k : List ℕ) (cs ds : List KeyChange) (old : Option Kv)
     → versions_in revision k (cs ++ ds) old ≡ versions_in revision k cs old ++ versions_in revision k ds (after_changes revision k cs old)
 versions_in-append revision k [] ds old = refl
 versions_in-append revision k (c ∷ cs) ds old = by_key (λ o. versions_in-append revision k cs ds o) (same (changed_key c) k) refl

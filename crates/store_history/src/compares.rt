@@ -29,7 +29,7 @@ pub fn all_hold(
 
 /// Whether the compare holds of every one of these records, which are those of its range.
 #[tactic(auto, using(crate::proofs::CompareLemmas::of_compares))]
-fn holds_of(compare: &Compare, records: &[Kv]) -> bool
+pub fn holds_of(compare: &Compare, records: &[Kv]) -> bool
     ensures { result ≡ holds_of compare.now records.now }
 {
     if records.is_empty() {

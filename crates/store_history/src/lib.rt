@@ -11,7 +11,7 @@ mod keys;
 mod reads;
 mod records;
 
-pub use compares::all_hold;
+pub use compares::{all_hold, holds_of};
 pub use events::{Batch, watch_events};
-pub use reads::read;
-pub use records::{record_now, records_now, up_to_revision};
+pub use reads::{is_unsupported, range_body, read};
+pub use records::{after_changes, record_now, records_now, up_to_revision};

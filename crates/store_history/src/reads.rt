@@ -33,7 +33,8 @@ pub fn read(
     Ok(Ok(range_body(alloc, ask, records)?))
 }
 
-fn is_unsupported(sort: &Sort) -> bool
+/// Whether the range asks for an order or for a filter that is not supported.
+pub fn is_unsupported(sort: &Sort) -> bool
     ensures { result ≡ is_unsupported sort.now }
 {
     sort.order == 2
@@ -61,7 +62,8 @@ fn asked_records(
     }
 }
 
-fn range_body(alloc: Global, ask: &RangeAsk, records: List<Kv>) -> Result<Body, NoMemory>
+/// What a range that these are the records of is answered.
+pub fn range_body(alloc: Global, ask: &RangeAsk, records: List<Kv>) -> Result<Body, NoMemory>
     ensures { IfOk result (λ body. body ≡ range_body ask.now records) }
 {
     let count = records.len() as u64;

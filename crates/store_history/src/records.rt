@@ -58,7 +58,8 @@ pub fn records_now(
     Ok(records)
 }
 
-fn after_changes(
+/// The record of the key behind these changes of one revision, where `old` is the one before them.
+pub fn after_changes(
     alloc: Global,
     changes: &[KeyChange],
     key: &Bytes,

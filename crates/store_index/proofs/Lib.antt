@@ -7,3 +7,4 @@ pub mod ReadLemmas
 pub mod ListingLemmas
 pub mod AddingLemmas
 pub mod IndexLemmas
+pub mod SeenLemmas

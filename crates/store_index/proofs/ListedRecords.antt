@@ -37,9 +37,9 @@ Entry = List ℕ × List Version
 abbrev Read : Type 0
 Read = List Version → Option Kv
 
--- an entry is read as the history has its key
-abbrev IsRead : Read → History → Entry → Type 0
-IsRead read h e = read e.1 ≡ record_now h e.0
+-- an entry of the range is read as the history has its key
+abbrev IsRead : Read → History → KeyRange → Entry → Type 0
+IsRead read h range e = contains range e.0 ≡ true → read e.1 ≡ record_now h e.0
 
 abbrev IsBefore : List ℕ → List ℕ → Type 0
 IsBefore k q = slice_cmp nat_cmp k q ≡ Less
@@ -58,35 +58,35 @@ shown-cons read range e es = by_test (contains range e.0)
 less_before : (a b : List ℕ) → IsBefore a b → before a b ≡ true
 less_before a b e = ap (λ (o : Ordering). not (is_le o)) (nat_list_cmp_total.antisymm b a ∙ ap ordering_reverse e)
 
-passed : (p : List ℕ → Bool) (h : History) (k : List ℕ) (b : Bool) (o : Option Kv) (rest : List Kv) → o ≡ record_now h k → p k ≡ true
+passed : (p : List ℕ → Bool) (h : History) (k : List ℕ) (b : Bool) (o : Option Kv) (rest : List Kv) → (b ≡ true → o ≡ record_now h k) → p k ≡ true
     → list_all p (map record_key rest) ≡ true → list_all p (map record_key (cond b (cons_option o rest) rest)) ≡ true
 passed p h k false o rest e t a = a
 passed p h k true None rest e t a = a
-passed p h k true (Some kv) rest e t a = and_both (p kv.key) _ (ap p (keyed-now h k kv (sym e)) ∙ t) a
+passed p h k true (Some kv) rest e t a = and_both (p kv.key) _ (ap p (keyed-now h k kv (sym (e refl))) ∙ t) a
 
-all_behind : (read : Read) (h : History) (range : KeyRange) (k : List ℕ) (es : Entries) → AllByRecursion (IsBefore k) (keys_of es) → All (IsRead read h) es
+all_behind : (read : Read) (h : History) (range : KeyRange) (k : List ℕ) (es : Entries) → AllByRecursion (IsBefore k) (keys_of es) → All (IsRead read h range) es
     → list_all (before k) (map record_key (shown_by read range es)) ≡ true
 all_behind read h range k [] a r = refl
 all_behind read h range k (e ∷ es) a r =
     subst (λ (kvs : List Kv). list_all (before k) (map record_key kvs) ≡ true) (sym (shown-cons read range e es))
-    (passed (before k) h e.0 (contains range e.0) (read e.1) (shown_by read range es) (All-head (IsRead read h) e es r) (less_before k e.0 a.0)
-    (all_behind read h range k es a.1 (All-tail (IsRead read h) e es r)))
+    (passed (before k) h e.0 (contains range e.0) (read e.1) (shown_by read range es) (All-head (IsRead read h range) e es r) (less_before k e.0 a.0)
+    (all_behind read h range k es a.1 (All-tail (IsRead read h range) e es r)))
 
-rise_on : (h : History) (k : List ℕ) (b : Bool) (o : Option Kv) (rest : List Kv) → o ≡ record_now h k → list_all (before k) (map record_key rest) ≡ true
+rise_on : (h : History) (k : List ℕ) (b : Bool) (o : Option Kv) (rest : List Kv) → (b ≡ true → o ≡ record_now h k) → list_all (before k) (map record_key rest) ≡ true
     → AreRising (map record_key rest) → AreRising (map record_key (cond b (cons_option o rest) rest))
 rise_on h k false o rest e a r = r
 rise_on h k true None rest e a r = r
 rise_on h k true (Some kv) rest e a r =
-    (subst (λ (j : List ℕ). list_all (before j) (map record_key rest) ≡ true) (sym (keyed-now h k kv (sym e))) a, r)
+    (subst (λ (j : List ℕ). list_all (before j) (map record_key rest) ≡ true) (sym (keyed-now h k kv (sym (e refl)))) a, r)
 
-shown_rise : (read : Read) (h : History) (range : KeyRange) (es : Entries) → IsStrictlySortedBy (slice_cmp nat_cmp) (keys_of es) → All (IsRead read h) es
+shown_rise : (read : Read) (h : History) (range : KeyRange) (es : Entries) → IsStrictlySortedBy (slice_cmp nat_cmp) (keys_of es) → All (IsRead read h range) es
     → AreRising (map record_key (shown_by read range es))
 unfolding IsStrictlySortedBy
 shown_rise read h range [] s r = tt
 shown_rise read h range (e ∷ es) s r =
     subst (λ (kvs : List Kv). AreRising (map record_key kvs)) (sym (shown-cons read range e es))
-    (rise_on h e.0 (contains range e.0) (read e.1) (shown_by read range es) (All-head (IsRead read h) e es r)
-    (all_behind read h range e.0 es s.0 (All-tail (IsRead read h) e es r)) (shown_rise read h range es s.1 (All-tail (IsRead read h) e es r)))
+    (rise_on h e.0 (contains range e.0) (read e.1) (shown_by read range es) (All-head (IsRead read h range) e es r)
+    (all_behind read h range e.0 es s.0 (All-tail (IsRead read h range) e es r)) (shown_rise read h range es s.1 (All-tail (IsRead read h range) e es r)))
 
 -- what is shown is a record of the range
 
@@ -101,25 +101,25 @@ first_or_later (Some other) rest kv c =
       | inr d ↦ inr d
     ]
 
-was_shown : (h : History) (range : KeyRange) (k : List ℕ) (b : Bool) (o : Option Kv) (rest : List Kv) (kv : Kv) → contains range k ≡ b → o ≡ record_now h k
+was_shown : (h : History) (range : KeyRange) (k : List ℕ) (b : Bool) (o : Option Kv) (rest : List Kv) (kv : Kv) → contains range k ≡ b → (b ≡ true → o ≡ record_now h k)
     → (Contains rest kv → (record_now h kv.key ≡ Some kv) × (contains range kv.key ≡ true)) → Contains (cond b (cons_option o rest) rest) kv
     → (record_now h kv.key ≡ Some kv) × (contains range kv.key ≡ true)
 was_shown h range k false o rest kv t e later c = later c
 was_shown h range k true o rest kv t e later c =
     elim (first_or_later o rest kv c) [
       | inl f ↦
-          let found : record_now h k ≡ Some kv = sym e ∙ f in
+          let found : record_now h k ≡ Some kv = sym (e refl) ∙ f in
           let key : kv.key ≡ k = keyed-now h k kv found in
           (ap (record_now h) key ∙ found, ap (contains range) key ∙ t)
       | inr d ↦ later d
     ]
 
-shown_are : (read : Read) (h : History) (range : KeyRange) (es : Entries) (kv : Kv) → All (IsRead read h) es → Contains (shown_by read range es) kv
+shown_are : (read : Read) (h : History) (range : KeyRange) (es : Entries) (kv : Kv) → All (IsRead read h range) es → Contains (shown_by read range es) kv
     → (record_now h kv.key ≡ Some kv) × (contains range kv.key ≡ true)
 shown_are read h range [] kv r c = absurd (none_in kv c)
 shown_are read h range (e ∷ es) kv r c =
-    was_shown h range e.0 (contains range e.0) (read e.1) (shown_by read range es) kv refl (All-head (IsRead read h) e es r)
-    (λ d. shown_are read h range es kv (All-tail (IsRead read h) e es r) d)
+    was_shown h range e.0 (contains range e.0) (read e.1) (shown_by read range es) kv refl (All-head (IsRead read h range) e es r)
+    (λ d. shown_are read h range es kv (All-tail (IsRead read h range) e es r) d)
     (subst (λ (kvs : List Kv). Contains kvs kv) (shown-cons read range e es) c)
 
 -- and every record of the range is shown
@@ -153,10 +153,10 @@ there es ordered e c =
     (IsDistinct-from_sorted (slice_cmp nat_cmp) (keys_of es) ordered) c
 
 pub listings_are_ranges : ListingsAreRanges
-listings_are_ranges es read h ordered n reads range =
-    let all : All (IsRead read h) es =
-    All-weaker (Contains es) (IsRead read h) (λ e f. ap (λ (o : Option (List Version)). read (unwrap_or o [])) (sym (there es ordered e f)) ∙ reads e.0) es
+listings_are_ranges es read h range ordered n reads =
+    let all : All (IsRead read h range) es =
+    All-weaker (Contains es) (IsRead read h range) (λ e f within. ap (λ (o : Option (List Version)). read (unwrap_or o [])) (sym (there es ordered e f)) ∙ reads e.0 within) es
     (All-contains_itself es) in
     rising_same (shown_by read range es) (records_now h range) (shown_rise read h range es ordered all) (ranges_rise h range)
     (λ kv c. (ranges_are_exact h range kv).1 (shown_are read h range es kv all c))
-    (λ kv c. let is = (ranges_are_exact h range kv).0 c in found_shown read range kv.key kv es is.1 n (reads kv.key ∙ is.0))
+    (λ kv c. let is = (ranges_are_exact h range kv).0 c in found_shown read range kv.key kv es is.1 n (reads kv.key is.1 ∙ is.0))

@@ -1,14 +1,18 @@
-ghost use Rattle.std.specs.Prelude.{◌≡◌, ◌≤◌, ◌<◌, ◌^◌, [], IfOk, OnOk, OnErr};
+ghost use Rattle.std.specs.Prelude.{◌≡◌, ◌≤◌, ◌<◌, ◌^◌, ◌-◌, [], get_or, IfOk, OnOk, OnErr};
 ghost use Rattle.std.specs.Option.{option_copied};
 ghost use Rattle.store_model.specs.History.{History, newest, with_revision};
 ghost use Rattle.store_model.specs.Records.{record_now};
 ghost use Rattle.store_model.specs.Ranges.{records_now, records_in};
+ghost use Rattle.kept_model.specs.Versions.{kept_versions};
+ghost use Rattle.kept_model.specs.Places.{changed_keys};
 ghost use Rattle.store_index.specs.Maps.{HaveVersions};
+ghost use Rattle.store_index.specs.Kept.{KeepsSome};
 
 use crate::places::{Places, changed_keys};
 use crate::reading::left_now;
 use crate::versions::Versions;
 use etcd_types::{Bytes, KeyRange, Kv, List, NoMemory};
+use kept_model::Version;
 use std::alloc::Global;
 use store_model::KeyChange;
 
@@ -24,6 +28,9 @@ pub struct Index {
     /// The newest revision, from 1.
     pub newest: u64,
     ghost have_versions: { HaveVersions versions },
+    ghost of_a_history: { KeepsSome newest compacted versions places },
+    ghost past: { compacted ≤ newest },
+    ghost room: { newest ≤ 2 ^ 63 },
 }
 
 impl Index {
@@ -64,10 +71,45 @@ impl Index {
         Ok(self.versions.records(range, Some(revision))?)
     }
 
+    /// The records of the range in the order of the keys, as a request sees them that made these changes so far.
+    pub fn records_with(
+        &self,
+        range: &KeyRange,
+        made: &[KeyChange],
+    ) -> Result<List<Kv>, NoMemory>
+        ensures { IfOk result (λ kvs. (h : History) → HoldsKept self.now h → kvs ≡ records_now (with_revision h made.now) range.now) }
+    {
+        let records = self.versions.records(range, None)?;
+        if made.is_empty() {
+            return Ok(records);
+        }
+        let mut seen = Versions::of_records(self.alloc, records.as_slice())?;
+        seen.add_changes(self.newest + 1, made)?;
+        Ok(seen.records(range, None)?)
+    }
+
+    /// The versions of the key that are kept, by rising revisions.
+    pub fn kept_versions(&self, key: &Bytes) -> &[Version]
+        ensures { (h : History) → HoldsKept self.now h → result.now ≡ kept_versions h self.now.compacted key.now }
+    {
+        self.versions.of(key)
+    }
+
+    /// The keys that a revision changed, in the order of its changes. The first revision that changes keys is 2.
+    pub fn changed_at(&self, revision: u64) -> &[Bytes]
+        requires first { 2 ≤ revision }
+        requires from { self.now.compacted ≤ revision }
+        requires last { revision ≤ self.now.newest }
+        ensures { (h : History) → HoldsKept self.now h → result.now ≡ changed_keys (get_or h (revision - 2) []) }
+    {
+        self.places.at((revision - self.compacted.max(2)) as usize)
+    }
+
     /// Adds the changes as one revision, where there are any. Where memory was wanting all is as before.
     pub fn add(&mut self, changes: &[KeyChange]) -> Result<(), NoMemory>
         requires { self.old.newest < 2 ^ 63 }
         ensures ok { OnOk result ((h : History) → HoldsKept self.old h → HoldsKept self.new (with_revision h changes.now)) }
+        ensures compacted { OnOk result (self.new.compacted ≡ self.old.compacted) }
         ensures err { OnErr result (self.new ≡ self.old) }
     {
         if changes.is_empty() {

@@ -11,6 +11,7 @@ mod versions;
 
 pub use index::Index;
 pub use laws::listings_are_ranges;
+pub use reading::left_now;
 
 #[cfg(test)]
 mod tests;

@@ -1,4 +1,4 @@
-ghost use Rattle.std.specs.Prelude.{◌≡◌, ◌-◌, [], ◌∷◌, ◌++◌, length, take, drop, slice_get, IfOk, OnOk, OnErr};
+ghost use Rattle.std.specs.Prelude.{◌≡◌, ◌-◌, ◌<◌, [], ◌∷◌, ◌++◌, length, take, drop, get_or, IfOk, OnOk, OnErr};
 ghost use Rattle.std.specs.Option.{option_copied};
 ghost use Rattle.kept_model.specs.Places.{changed_keys};
 ghost use Rattle.store_model.specs.History.{changed_key};
@@ -38,6 +38,14 @@ impl Places {
         ensures { result ≡ length self.now }
     {
         self.revisions.len()
+    }
+
+    /// The keys at this place.
+    pub fn at(&self, place: usize) -> &[Bytes]
+        requires { place < length self.now }
+        ensures { result.now ≡ get_or self.now place [] }
+    {
+        self.revisions[place].as_slice()
     }
 
     /// Adds the keys that a further revision changed. Where memory was wanting all is as before.

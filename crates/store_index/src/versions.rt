@@ -2,6 +2,7 @@ ghost use Rattle.std.specs.Prelude.{◌≡◌, ℕ, List as Values, [], IfOk, On
 ghost use Rattle.kept_model.specs.Versions.{kept};
 ghost use Rattle.store_index.specs.Maps.{versions_of, added, taken, HaveVersions, AreOrdered, left_by, shown_by};
 ghost use Rattle.store_index.specs.Adding.{version_of, with_change, added_all, taken_all};
+ghost use Rattle.store_index.specs.Seen.{with_record, with_records};
 
 use crate::key_versions::KeyVersions;
 use crate::listing::records_in;
@@ -39,6 +40,28 @@ impl Versions {
             alloc,
             map: BTreeMap::new(alloc),
         }
+    }
+
+    /// Of each of these records one version, which left it. Where a key has several, they come in their order.
+    pub fn of_records(alloc: Global, records: &[Kv]) -> Result<Versions, NoMemory>
+        ensures held { IfOk result (λ versions. versions ≡ with_records records.now []) }
+        ensures there { IfOk result (λ versions. HaveVersions versions) }
+    {
+        let mut versions = Versions::new(alloc);
+        for record in records {
+            versions.add_record(record)?;
+        }
+        Ok(versions)
+    }
+
+    fn add_record(&mut self, record: &Kv) -> Result<(), NoMemory>
+        ensures { OnOk result (self.new ≡ with_record «record».now self.old) }
+    {
+        let version = Version {
+            revision: record.modified,
+            left: Some(record.copy(self.alloc)?),
+        };
+        self.add(&record.key, version)
     }
 
     /// The versions of a key.

@@ -1,0 +1,3 @@
+pub mod SplitProofs
+pub mod EventProofs
+pub mod TellingProofs

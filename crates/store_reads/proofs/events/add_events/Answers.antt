@@ -1,0 +1,13 @@
+use Rattle.std.proofs.Common.{◌≤◌, List, ◌++◌, length, sym, ◌∙◌, ap, arith}
+use Rattle.std.proofs.lemmas.List.{append-nil}
+use Rattle.etcd_types.specs.declared.watch.Event.{Event}
+use Rattle.store_reads.proofs.TellingProofs.{nothing_left}
+use Rattle.store_reads.proofs.events.add_events.Goals as goal
+
+pub returns-clause-events : goal.returns-clause-events
+returns-clause-events c = λ h holds.
+    let le : length c.changed_at-keys.result.now ≤ c.loop-place.place = omega arith in
+    sym (append-nil c.loop-place.batch.events)
+    ∙ ap (λ (es : List Event). c.loop-place.batch.events ++ es)
+    (sym (nothing_left c.args.index.now.compacted c.args.ask.now h c.args.revision c.loop-place.place c.changed_at-keys.result.now (c.changed_at-keys.ensures h holds) le))
+    ∙ c.loop-place.invariant.telling h holds
