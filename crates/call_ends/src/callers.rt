@@ -30,7 +30,8 @@ fn caller_of(rows: &[(u64, Asked)], call: u64) -> Option<u64>
     None
 }
 
-fn calls_as(stage: &Stage, call: u64) -> bool
+/// Whether a request at this stage waits for this call of its own.
+pub(crate) fn calls_as(stage: &Stage, call: u64) -> bool
     ensures { result ≡ stage_calls call stage.now }
 {
     match stage {

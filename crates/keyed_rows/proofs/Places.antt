@@ -18,25 +18,25 @@ use Rattle.std.specs.Option.{option_map}
 use Rattle.proxy_model.proofs.KeyedLaws.{to_T, in_order-with_at}
 use Rattle.keyed_rows.specs.Places.{IsPlace, IsGap}
 
-abbrev order : List ℕ → List ℕ → Ordering
+abbrev pub order : List ℕ → List ℕ → Ordering
 order = slice_cmp nat_cmp
 
-turned : (a b : List ℕ) (o : Ordering) → order a b ≡ o → order b a ≡ ordering_reverse o
+pub turned : (a b : List ℕ) (o : Ordering) → order a b ≡ o → order b a ≡ ordering_reverse o
 turned a b o e = nat_list_cmp_total.antisymm b a ∙ ap ordering_reverse e
 
-first_part : (a b : Bool) → T (a && b) → a ≡ true
+pub first_part : (a b : Bool) → T (a && b) → a ≡ true
 first_part true b h = refl
 first_part false b h = absurd h
 
-first_T : (a b : Bool) → T (a && b) → T a
+pub first_T : (a b : Bool) → T (a && b) → T a
 first_T true b h = tt
 first_T false b h = absurd h
 
-second_part : (a b : Bool) → T (a && b) → T b
+pub second_part : (a b : Bool) → T (a && b) → T b
 second_part true b h = h
 second_part false b h = absurd h
 
-less : (o : Ordering) → is_lt o ≡ true → o ≡ Less
+pub less : (o : Ordering) → is_lt o ≡ true → o ≡ Less
 less Less e = refl
 less Equal e = absurd (cc)
 less Greater e = absurd (cc)

@@ -1,7 +1,7 @@
 //! What is kept by key, in the order of the keys, and found in logarithmic time.
 #![tactic(auto)]
 
-ghost use Rattle.std.specs.Prelude.{◌≡◌, ◌<◌, ◌≤◌, IsTrue, ◌||◌, true, None, Some, OnOk, OnErr, length, [], IfOk, IfErr};
+ghost use Rattle.std.specs.Prelude.{◌≡◌, ℕ, ◌<◌, ◌≤◌, Bool, IsTrue, ◌||◌, true, not, List, filter, None, Some, OnOk, OnErr, length, [], IfOk, IfErr};
 ghost use Rattle.std.specs.Ordering.{nat_cmp};
 ghost use Rattle.std.specs.Cmp.Lexicographic.{slice_cmp};
 ghost use Rattle.std.specs.Option.{option_copied};
@@ -14,6 +14,14 @@ use etcd_types::{Bytes, KeyRange, NoMemory};
 use std::alloc::Global;
 use std::cmp::Ordering;
 use std::marker::Model;
+
+/// A test of a key and what is kept there.
+pub trait RowTest<V> {
+    ghost passes: { Self → List ℕ → V → Bool };
+
+    fn passes(&self, key: &Bytes, value: &V) -> bool
+        ensures { result ≡ passes self.now key.now value.now };
+}
 
 /// A value for each of some keys.
 #[derive(Debug, Drop)]
@@ -115,6 +123,24 @@ impl<V: Drop> Rows<V> {
             drop(self.rows.remove(place));
         }
     }
+
+    /// Nothing is kept any more where the test passes. It takes no memory.
+    pub fn remove_where<T: RowTest<V>>(&mut self, test: &T)
+        ensures { self.new ≡ filter (λ e. not (T.passes test.now e.0 e.1)) self.old }
+    {
+        keep_others(&mut self.rows, test);
+    }
+}
+
+/// The rows that don't pass the test.
+fn keep_others<V: Drop, T: RowTest<V>>(rows: &mut Vec<(Bytes, V)>, test: &T)
+    ensures { rows.new.items ≡ filter (λ e. not (T.passes test.now e.0 e.1)) rows.old.items }
+{
+    rows.retain(
+        |row: &(Bytes, V)| -> bool
+            ensures { result ≡ not (T.passes test.entry.now row.now.0 row.now.1) }
+        { !test.passes(&row.0, &row.1) },
+    );
 }
 
 impl Rows<bool> {

@@ -3,6 +3,7 @@
 #![tactic(auto)]
 
 mod asks;
+mod losses;
 mod places;
 mod restage;
 mod rule;
@@ -10,7 +11,9 @@ mod stages;
 mod times;
 
 pub use asks::Asks;
+pub use losses::{lose_once, refuse_stale};
 pub use read_model::{Asked, Stage, Verdict};
-pub use restage::{Restage, restage_each};
+pub use restage::{Restage, restage_each, set_stages, stage_changes};
 pub use rule::Rule;
 pub use stages::is_replied;
+pub use times::times_out;

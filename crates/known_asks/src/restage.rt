@@ -22,9 +22,21 @@ pub fn restage_each<R: Restage>(alloc: Global, asks: &mut Asks, rule: &R) -> Res
     ensures ok { OnOk result (asks.new ≡ map (staged_by (R.stage_of rule.now)) asks.old) }
     ensures err { OnErr result (asks.new ≡ asks.old) }
 {
-    let changes = changes_of(alloc, asks.rows(), rule)?;
+    let changes = stage_changes(alloc, asks, rule)?;
     set_stages(asks, changes);
     Ok(())
+}
+
+/// The stages that the rule says, by ticket, to be set by `set_stages`; nothing is changed yet.
+pub fn stage_changes<R: Restage>(
+    alloc: Global,
+    asks: &Asks,
+    rule: &R,
+) -> Result<Vec<(u64, Stage)>, NoMemory>
+    ensures changes { IfOk result (λ changes. changes.items ≡ changes_of (R.stage_of rule.now) asks.now) }
+    ensures by_rule { IfOk result (λ changes. restaged changes.items asks.now ≡ map (staged_by (R.stage_of rule.now)) asks.now) }
+{
+    Ok(changes_of(alloc, asks.rows(), rule)?)
 }
 
 /// What the rule changes, by ticket.
@@ -60,7 +72,7 @@ fn add_change<R: Restage>(
 }
 
 /// Those of these tickets are in these stages now. It takes no memory.
-fn set_stages(asks: &mut Asks, changes: Vec<(u64, Stage)>)
+pub fn set_stages(asks: &mut Asks, changes: Vec<(u64, Stage)>)
     ensures { asks.new ≡ restaged changes.items asks.old }
 {
     for (ticket, stage) in changes {

@@ -27,7 +27,8 @@ impl Rule for TimeOut {
     ghost keeps = { λ s a. timed_out-ticket s.now a };
 }
 
-fn times_out(ask: &Asked, now: u64) -> bool
+/// Whether the request has no reply, and its time has passed at this reading.
+pub fn times_out(ask: &Asked, now: u64) -> bool
     ensures { result ≡ times_out now ask.now }
 {
     !is_replied(&ask.stage) && now.saturating_sub(ask.asked) >= REQUEST_TIME

@@ -1,5 +1,4 @@
--- Reads whose acquire or owner write is no more, and the one for which a key was acquired, by what stands in the lease table and
--- among the acquires.
+-- Reads whose acquire or owner write is no more, by what stands in the lease table and among the acquires.
 use Rattle.std.specs.Prelude.{◌≡◌, ℕ, Bool, true, false, cond, if◌then◌else◌, List, [], Option, None, Some, refl}
 use Rattle.etcd_types.specs.declared.record.Header.{Header}
 use Rattle.proxy_model.specs.declared.lease.Entry.{Entry}
@@ -8,7 +7,6 @@ use Rattle.wait_model.specs.State.{owned, first_waits}
 use Rattle.read_model.specs.declared.acquire.Acquire.{Acquire}
 use Rattle.read_model.specs.declared.asked.Asked.{Asked}
 use Rattle.read_model.specs.declared.asked.Stage.{Stage}
-use Rattle.read_model.specs.Acquires.{acquires_at}
 use Rattle.read_model.specs.PlainRead.{ask_key, called, in_stage, read_turn}
 use Rattle.read_model.specs.Release.{stands, in_place}
 use Rattle.read_model.specs.State.{Ground}
@@ -37,7 +35,3 @@ fallen-ticket step es acquires a =
 abbrev pub again_stage : Header → ℕ → Keyed Entry → Keyed Acquire → Asked → Option Stage
 again_stage h step es acquires a =
     if stands_on es acquires a then None else Some (read_turn h step (at es (ask_key a)) false None).stage
-
--- the stage of the read for which the key was acquired
-abbrev pub reader_stage : List ℕ → Stage → Asked → Option Stage
-reader_stage k s a = if acquires_at k a then Some s else None

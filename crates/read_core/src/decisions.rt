@@ -1,11 +1,10 @@
 ghost use Rattle.std.specs.Prelude.{◌≡◌, IfOk};
 ghost use Rattle.std.specs.Option.{option_copied};
-ghost use Rattle.read_model.specs.PlainRead.{called, held_turn, free_turn, read_turn, is_ownable};
-ghost use Rattle.proxy_model.specs.Prefixes.{leasing_range};
+ghost use Rattle.read_model.specs.PlainRead.{called, held_turn, free_turn, read_turn};
 ghost use Rattle.read_core.specs.Free.{under_if};
 
 use crate::records::shown;
-use etcd_types::{Bytes, Header, KeyRange, NoMemory};
+use etcd_types::{Header, NoMemory};
 use known_asks::Stage;
 use lease_table::{Entry, Phase};
 use std::alloc::Global;
@@ -79,21 +78,17 @@ pub(crate) fn called(step: u64) -> Stage
     Stage::Calling(Sending::Due { since: step })
 }
 
-/// The session under which a key without entry and acquire may be acquired: where it is no ownership key itself, no write is over it,
-/// the leasing stream stands created, and its quiet moment has passed. `leasing` is the range of the ownership keys.
+/// The session under which a key without entry and acquire may be acquired: where keys such as it are owned at all, no write is over
+/// it, the leasing stream stands created, and its quiet moment has passed.
 pub fn under(
     session: Option<u64>,
-    key: &Bytes,
-    prefix: &Bytes,
-    leasing: &KeyRange,
+    ownable: bool,
     written: bool,
     created: bool,
     rested: bool,
 ) -> Option<u64>
-    requires { leasing.now ≡ leasing_range prefix.now }
-    ensures { result ≡ under_if session (is_ownable prefix.now key.now) written created rested }
+    ensures { result ≡ under_if session ownable written created rested }
 {
-    let ownable = !prefix.is_empty() && !key.is_empty() && !leasing.contains(key);
     if !written && ownable && created && rested {
         session
     } else {

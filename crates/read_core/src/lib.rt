@@ -8,6 +8,7 @@ mod releases;
 mod standing;
 
 pub use decisions::{Decision, decide, under};
-pub use readers::tell_reader;
+pub use readers::{Readers, lose_reader, reader_changes};
 pub use records::shown;
 pub use releases::{release, release_again};
+pub use standing::key_of;

@@ -12,7 +12,7 @@ use known_asks::{Asked, Stage};
 use lease_table::{Entry, LeaseTable, Phase};
 
 /// The key of a plain read, or for any other request the empty key, which is handed in.
-pub(crate) fn key_of<'a>(request: &'a Request, empty: &'a Bytes) -> &'a Bytes
+pub fn key_of<'a>(request: &'a Request, empty: &'a Bytes) -> &'a Bytes
     requires { empty.now ≡ [] }
     ensures { result.now ≡ key_of request.now }
 {

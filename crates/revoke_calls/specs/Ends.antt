@@ -60,6 +60,11 @@ abbrev pub all_wrote : List Left → Keyed Entry → Keyed Entry
 all_wrote [] es = es
 all_wrote (l ∷ ls) es = all_wrote ls (with_at es l.key (wrote_turn l.kv (at es l.key)))
 
+-- the first of them that is of a key
+abbrev pub left_at : List ℕ → List Left → Option Left
+left_at k [] = None
+left_at k (l ∷ ls) = if same l.key k then Some l else left_at k ls
+
 -- What a write that failed found.
 
 abbrev pub found_if : Option ℕ → ℕ → Keyed Entry → List ℕ × Owner → List Found

@@ -7,7 +7,7 @@ ghost use Rattle.wait_model.specs.GuardedAnswers.{owns_at, kept_entries};
 ghost use Rattle.wait_model.specs.Phases.{is_of};
 ghost use Rattle.revoke_calls.specs.Ends.{turned, dropped_turn, kept_turn, wrote_turn, all_wrote, is_shown_by};
 
-use crate::left::Left;
+use crate::left::{Left, Lefts};
 use crate::stages::{is_of, is_owner, is_writing};
 use etcd_types::{Bytes, KeyRange};
 use lease_table::LeaseTable;
@@ -15,10 +15,10 @@ use proxy_model::Owner;
 use wait_model::Write;
 
 /// The entries that are being written take what was left at their keys: they are held again, or given up where they were marked.
-pub fn take_lefts(lefts: Vec<Left>, table: &mut LeaseTable)
-    ensures { table.new.entries ≡ all_wrote lefts.items table.old.entries }
+pub fn take_lefts(lefts: Lefts, table: &mut LeaseTable)
+    ensures { table.new.entries ≡ all_wrote lefts table.old.entries }
 {
-    for left in lefts {
+    for left in lefts.into_vec() {
         take_left(left, table);
     }
 }

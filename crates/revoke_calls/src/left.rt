@@ -3,13 +3,14 @@ ghost use Rattle.std.specs.Option.{option_copied};
 ghost use Rattle.store_model.specs.LeftRecords.{left_by, left_op, lease_of, put_under_lease};
 ghost use Rattle.proxy_model.specs.Fits.{branch_of};
 ghost use Rattle.wait_model.specs.Operations.{operations, branch};
-ghost use Rattle.revoke_calls.specs.Ends.{left_kv, left_in, lefts_of};
+ghost use Rattle.revoke_calls.specs.Ends.{left_kv, left_in, lefts_of, left_at};
 ghost use Rattle.etcd_types.specs.declared.operation.Op.TheVariants.{Put, Delete};
 
 use crate::stages::is_owner;
 use etcd_types::{Body, Bytes, DeleteAsk, Kv, List, NoMemory, Op, PutAsk, Reply, Request, TxnAsk};
 use lease_table::{Entry, LeaseTable};
 use std::alloc::Global;
+use std::marker::Model;
 use wait_model::Write;
 
 /// The record that a write left at one of its keys.
@@ -19,20 +20,63 @@ pub struct Left {
     pub kv: Option<Kv>,
 }
 
+/// What a write left at the keys whose entries it compared. Contracts see it as the list of these.
+#[derive(Debug, Drop)]
+pub struct Lefts {
+    items: Vec<Left>,
+}
+
+impl Model for Lefts {
+    ghost use Rattle.std.specs.Prelude.{List};
+    ghost use Rattle.revoke_calls.specs.declared.left.Left.{Left as One};
+
+    ghost Value = { List One };
+
+    ghost view = { λ l. l.items.items };
+}
+
+impl Lefts {
+    /// All of them, by themselves.
+    pub(crate) fn into_vec(self) -> Vec<Left>
+        ensures { result.items ≡ self }
+    {
+        self.items
+    }
+
+    /// The first one that is of this key.
+    pub fn find(&self, key: &Bytes) -> Option<&Left>
+        ensures { option_copied result ≡ left_at key.now self.now }
+    {
+        find_in(&self.items, key)
+    }
+}
+
+fn find_in<'a>(lefts: &'a [Left], key: &Bytes) -> Option<&'a Left>
+    ensures { option_copied result ≡ left_at key.now lefts.now }
+{
+    for left in lefts {
+        if left.key == *key {
+            return Some(left);
+        }
+    }
+    None
+}
+
 /// What the write that was done left at the keys whose entries it compared, by its answer.
 pub fn lefts_of(
     alloc: Global,
     write: &Write,
     reply: &Reply,
     table: &LeaseTable,
-) -> Result<Vec<Left>, NoMemory>
-    ensures { IfOk result (λ lefts. lefts.items ≡ lefts_of write.now reply.now table.now.entries) }
+) -> Result<Lefts, NoMemory>
+    ensures { IfOk result (λ lefts. lefts ≡ lefts_of write.now reply.now table.now.entries) }
 {
-    if is_owner(&write.stage) {
-        Ok(lefts_in(alloc, write, reply, table)?)
+    let items = if is_owner(&write.stage) {
+        lefts_in(alloc, write, reply, table)?
     } else {
-        Ok(Vec::new(alloc))
-    }
+        Vec::new(alloc)
+    };
+    Ok(Lefts { items })
 }
 
 fn lefts_in(

@@ -21,8 +21,9 @@ pub use ends::take_lefts;
 pub use entries::{Fate, fate_of, settle_owned};
 pub use failed::fail;
 pub use jobs::{rescind_due, revoke_due, write_due};
-pub use left::{Left, lefts_of};
+pub use left::{Left, Lefts, lefts_of};
 pub use notices::{Notice, notices_of};
+pub use owners::{is_gone, owns_at};
 pub use places::first_place;
 pub use stages::{
     guest_since, is_held, is_of, is_owner, is_session, is_single, is_unknown, is_writing, own_entry,

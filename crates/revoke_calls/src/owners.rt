@@ -65,13 +65,14 @@ fn is_kept(write: &Write, owners: &[Owner], key: &Bytes, table: &LeaseTable) -> 
 }
 
 /// Whether the key's entry is one that the write compared and that these owners don't show.
-fn is_gone(write: &Write, owners: &[Owner], key: &Bytes, table: &LeaseTable) -> bool
+pub fn is_gone(write: &Write, owners: &[Owner], key: &Bytes, table: &LeaseTable) -> bool
     ensures { result ≡ is_gone write.now table.now.entries owners.now key.now }
 {
     owns_at(write, key, table) && !is_shown(owners, key, table)
 }
 
-fn owns_at(write: &Write, key: &Bytes, table: &LeaseTable) -> bool
+/// Whether the key's entry is one that the write's call compares.
+pub fn owns_at(write: &Write, key: &Bytes, table: &LeaseTable) -> bool
     ensures { result ≡ owns_at write.now table.now.entries key.now }
 {
     is_owner(&write.stage) && covers(write, key) && is_writing(table.find(key))

@@ -37,19 +37,13 @@ use Rattle.wait_model.specs.Writes.{first_by, without_first, with_first, job_of,
 use Rattle.revoke_calls.specs.Failed.{found_owners, failed_found, found_entries, failed_stage, failed_entries}
 use Rattle.revoke_core.specs.Steps.{IsFirst}
 use Rattle.revoke_core.proofs.Searches.{cond_true, cond_false, none_removed_call}
-use Rattle.revoke_core.specs.Answers.{Gives, with_writes, with_both, guard_told, rescinded_entries, rescinded_quiet}
+use Rattle.revoke_core.specs.Answers.{guard_told, rescinded_entries, rescinded_quiet}
 
 -- the first that passes, where there is one
 pub first_is : (p : Write → Bool) (ws : List Write) (i : ℕ) → IsFirst p ws i → (w : Write) × (first_by p ws ≡ Some w)
 first_is p [] i f = absurd f
 first_is p (w ∷ ws) zero f = (w, cond_true (p w) (Some w) (first_by p ws) f)
 first_is p (w ∷ ws) (suc i) f = let r = first_is p ws i f.1 in (r.0, cond_false (p w) (Some w) (first_by p ws) f.0 ∙ r.1)
-
--- Nothing is read.
-
-pub unread : {A : Type 0} (fault : NotShape) (o : Option A) (own : Ownership) (e : Option Ending) → Reads {A = A} (Err fault) o → (o ≡ None → e ≡ None) → Gives (Err fault) own e
-unread Shape o own e h f = f h
-unread NoMemory o own e h f = tt
 
 -- A rescind.
 
@@ -74,36 +68,15 @@ rescinded_parts k create now own = of (is_of create (at own.entries k))
     of true = refl
     of false = refl
 
-rescind_parts : (a : Answer) (k : List ℕ) (create now : ℕ) (own : Ownership) → rescind_answered a (rescinded k create now own) ≡ option_map (λ held. record { own = after_rescind k create now own; settled = settled.Nothing }) (guard_told a)
+pub rescind_parts : (a : Answer) (k : List ℕ) (create now : ℕ) (own : Ownership) → rescind_answered a (rescinded k create now own) ≡ option_map (λ held. record { own = after_rescind k create now own; settled = settled.Nothing }) (guard_told a)
 rescind_parts a k create now own = ap (λ (o : Ownership). rescind_answered a o) (rescinded_parts k create now own) ∙ told_gives a (after_rescind k create now own)
 
-pub rescind_unread : (a : Answer) (k : List ℕ) (create now : ℕ) (own : Ownership) → guard_told a ≡ None → rescind_answered a (rescinded k create now own) ≡ None
-rescind_unread a k create now own n =
-    rescind_parts a k create now own ∙ ap (λ o. option_map (λ (held : Bool). record { own = after_rescind k create now own; settled = settled.Nothing }) o) n
-
-pub rescind_read : (a : Answer) (k : List ℕ) (create now : ℕ) (own : Ownership) (held : Bool) → guard_told a ≡ Some held → rescind_answered a (rescinded k create now own) ≡ Some (record { own = after_rescind k create now own; settled = settled.Nothing })
-rescind_read a k create now own held h =
-    rescind_parts a k create now own ∙ ap (λ o. option_map (λ (held : Bool). record { own = after_rescind k create now own; settled = settled.Nothing }) o) h
-
--- A revoke call.
-
-pub revoke_unread : (p : Write → Bool) (call : ℕ) (ws : List Write) (w : Write) (reply : Reply) (own : Ownership) → first_by p ws ≡ Some w → guard_held reply.body ≡ None → revoke_answered p call (first_by p ws) (answer.Done reply) own ≡ None
-revoke_unread p call ws w reply own f n = ap (λ o. revoke_answered p call o (answer.Done reply) own) f ∙ ap (λ o. revoke_back p call w o own) n
-
-pub revoke_taken : (p : Write → Bool) (call : ℕ) (ws vs : List Write) (w : Write) (reply : Reply) (held : Bool) (own : Ownership) → first_by p ws ≡ Some w → guard_held reply.body ≡ Some held → with_first p (stage_asked call held w.stage) ws ≡ vs → revoke_answered p call (first_by p ws) (answer.Done reply) (with_writes own ws) ≡ Some (record { own = with_writes own vs; settled = settled.Nothing })
-revoke_taken p call ws vs w reply held own f h v =
-    ap (λ o. revoke_answered p call o (answer.Done reply) (with_writes own ws)) f ∙ ap (λ o. revoke_back p call w o (with_writes own ws)) h ∙ ap (λ (us : List Write). Some (record { own = with_writes own us; settled = settled.Nothing })) v
-
-pub revoke_refused : (p : Write → Bool) (call : ℕ) (ws vs : List Write) (w : Write) (r : Refusal) (own : Ownership) → first_by p ws ≡ Some w → without_first p ws ≡ vs → revoke_answered p call (first_by p ws) (answer.Refused r) (with_writes own ws) ≡ Some (record { own = with_writes own vs; settled = settled.Reply w.ticket (answer.Refused r) })
-revoke_refused p call ws vs w r own f v =
-    ap (λ o. revoke_answered p call o (answer.Refused r) (with_writes own ws)) f ∙ ap (λ (us : List Write). Some (record { own = with_writes own us; settled = settled.Reply w.ticket (answer.Refused r) })) v
+-- An owner that was asked, and a write that failed.
 
 pub asked_owner : (call : ℕ) (held : Bool) (stage : WriteStage) → is_owner (stage_asked call held stage) ≡ true → is_owner stage ≡ true
 asked_owner call held Waiting t = t
 asked_owner call held (Sends o s) t = t
 asked_owner call held (Finds found) t = t
-
--- A write that failed.
 
 pub failed_parts : (session : Option ℕ) (p : Write → Bool) (w : Write) (os : List Owner) (own : Ownership) → failed session p w os own ≡ staged_by own (failed_entries session w os own.entries) p (failed_stage session own.waits.step w os own.entries)
 failed_parts session p w os own = of (is_owner w.stage && is_single w.request)
@@ -114,23 +87,6 @@ failed_parts session p w os own = of (is_owner w.stage && is_single w.request)
     of true = refl
     of false = refl
 
--- The answer to a write's own call, by what is read of it.
-
-pub write_refused : (session : Option ℕ) (p : Write → Bool) (ws vs : List Write) (w : Write) (r : Refusal) (own : Ownership) (es fs : Keyed Entry) → first_by p ws ≡ Some w → without_first p ws ≡ vs → unwrote_entries w es ≡ fs → write_answered session p (first_by p ws) (answer.Refused r) (with_both own ws es) ≡ Some (record { own = with_both own vs fs; settled = settled.Reply w.ticket (answer.Refused r) })
-write_refused session p ws vs w r own es fs f v e =
-    ap (λ o. write_answered session p o (answer.Refused r) (with_both own ws es)) f ∙ (λ i. Some (record { own = with_both own (v i) (e i); settled = settled.Reply w.ticket (answer.Refused r) }))
-
-pub write_unread : (session : Option ℕ) (p : Write → Bool) (ws : List Write) (w : Write) (reply : Reply) (own : Ownership) → first_by p ws ≡ Some w → written own.waits.prefix w.request reply ≡ None → write_answered session p (first_by p ws) (answer.Done reply) own ≡ None
-write_unread session p ws w reply own f n = ap (λ o. write_answered session p o (answer.Done reply) own) f ∙ ap (λ o. done_if session p w o own) n
-
-pub write_done : (session : Option ℕ) (p : Write → Bool) (ws vs : List Write) (w : Write) (reply said : Reply) (own : Ownership) (es fs : Keyed Entry) → first_by p ws ≡ Some w → written own.waits.prefix w.request reply ≡ Some (Wrote said) → without_first p ws ≡ vs → wrote_entries w said es ≡ fs → write_answered session p (first_by p ws) (answer.Done reply) (with_both own ws es) ≡ Some (record { own = with_both own vs fs; settled = settled.Reply w.ticket (answer.Done said) })
-write_done session p ws vs w reply said own es fs f h v e =
-    ap (λ o. write_answered session p o (answer.Done reply) (with_both own ws es)) f ∙ ap (λ o. done_if session p w o (with_both own ws es)) h ∙ (λ i. Some (record { own = with_both own (v i) (e i); settled = settled.Reply w.ticket (answer.Done said) }))
-
-pub write_blocked : (session : Option ℕ) (p : Write → Bool) (ws vs : List Write) (w : Write) (reply : Reply) (os : List Owner) (own : Ownership) (es fs : Keyed Entry) → first_by p ws ≡ Some w → written own.waits.prefix w.request reply ≡ Some (Blocked os) → with_first p (failed_stage session own.waits.step w os es) ws ≡ vs → failed_entries session w os es ≡ fs → write_answered session p (first_by p ws) (answer.Done reply) (with_both own ws es) ≡ Some (record { own = with_both own vs fs; settled = settled.Nothing })
-write_blocked session p ws vs w reply os own es fs f h v e =
-    ap (λ o. write_answered session p o (answer.Done reply) (with_both own ws es)) f ∙ ap (λ o. done_if session p w o (with_both own ws es)) h ∙ ap (λ (x : Ownership). Some (record { own = x; settled = settled.Nothing })) (failed_parts session p w os (with_both own ws es)) ∙ (λ i. Some (record { own = with_both own (v i) (e i); settled = settled.Nothing }))
-
 -- a write that failed is no owner any more
 pub failed_owner : (session : Option ℕ) (step : ℕ) (w : Write) (os : List Owner) (es : Keyed Entry) → is_owner (failed_stage session step w os es) ≡ true → is_owner w.stage ≡ true
 failed_owner session step w os es t = of (is_owner w.stage && is_single w.request) t
@@ -138,22 +94,3 @@ failed_owner session step w os es t = of (is_owner w.stage && is_single w.reques
     of : (b : Bool) → is_owner (cond b (Sends false (sending.Due step)) (Finds (failed_found session step w os es))) ≡ true → is_owner w.stage ≡ true
     of true t = absurd (cc)
     of false t = absurd (cc)
-
--- The list stays proper.
-
-pub all-remove : {A : Type 0} (p : A → Bool) (xs : List A) (i : ℕ) → list_all p xs ≡ true → list_all p (remove xs i) ≡ true
-all-remove p [] zero h = h
-all-remove p [] (suc i) h = h
-all-remove p (x ∷ xs) zero h = and_second (p x) (list_all p xs) h
-all-remove p (x ∷ xs) (suc i) h = and_both (p x) (list_all p (remove xs i)) (and_first (p x) (list_all p xs) h) (all-remove p xs i (and_second (p x) (list_all p xs) h))
-
--- The call's job, and the list of the calls without it.
-
-pub none_answered : (call : ℕ) (a : Answer) (session : Option ℕ) (now : ℕ) (own : Ownership) → job_of call own.waits.out ≡ None → answered call a session now own ≡ Some (record { own = own; settled = settled.Nothing })
-unfolding answered
-none_answered call a session now own e =
-    ap (λ j. answered_job call a session now j (without_out call own)) e ∙ ap (λ (os : List WaitCall). Some (record { own = record own { waits = record own.waits { out = os } }; settled = settled.Nothing })) (none_removed_call call own.waits.out e)
-
-pub job_answered : (call : ℕ) (a : Answer) (session : Option ℕ) (now : ℕ) (own : Ownership) (j : WaitJob) (os : List WaitCall) → job_of call own.waits.out ≡ Some j → without_call call own.waits.out ≡ os → answered call a session now own ≡ answered_job call a session now (Some j) (record own { waits = record own.waits { out = os } })
-unfolding answered
-job_answered call a session now own j os e f = λ i. answered_job call a session now (e i) (record own { waits = record own.waits { out = f i } })

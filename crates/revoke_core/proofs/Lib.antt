@@ -5,3 +5,4 @@ pub mod LossParts
 pub mod NoticeParts
 pub mod SendParts
 pub mod AnswerParts
+pub mod ReadParts

@@ -3,3 +3,4 @@ pub mod Losses
 pub mod Sends
 pub mod Told
 pub mod Answers
+pub mod Readings

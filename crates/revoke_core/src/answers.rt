@@ -1,119 +1,93 @@
-ghost use Rattle.std.specs.Prelude.{◌≡◌, ℕ, ◌<◌, Bool, true, Option, Some, OnOk, OnErr, length};
-ghost use Rattle.etcd_types.specs.declared.answer.Answer.TheVariants.{Done, Refused};
+ghost use Rattle.std.specs.Prelude.{◌≡◌, true, Some};
+ghost use Rattle.std.specs.Option.{option_map};
 ghost use Rattle.lease_txn.specs.Results.{Reads};
-ghost use Rattle.wait_model.specs.Endings.{answered, answered_job, revoke_answered};
-ghost use Rattle.wait_model.specs.Fits.{are_proper};
-ghost use Rattle.wait_model.specs.ForeignOwnership.{stage_asked};
-ghost use Rattle.wait_model.specs.GuardedAnswers.{write_answered};
-ghost use Rattle.wait_model.specs.Leaving.{rescinded, rescind_answered};
-ghost use Rattle.wait_model.specs.State.{Ownership};
-ghost use Rattle.wait_model.specs.Writes.{first_by, sends, asks};
-ghost use Rattle.wait_model.specs.declared.write.Write.{Write as One};
-ghost use Rattle.revoke_core.specs.Answers.{Gives, with_writes, with_entries, with_both, with_quiet, with_calls, under, guard_told, rescinded_entries, rescinded_quiet};
-ghost use Rattle.revoke_core.specs.Steps.{IsFirst};
+ghost use Rattle.proxy_model.specs.Guarded.{written};
+ghost use Rattle.wait_model.specs.Fits.{is_proper, are_proper};
+ghost use Rattle.wait_model.specs.Writes.{first_by, sends, asks, job_of};
+ghost use Rattle.revoke_core.specs.Answers.{guard_told};
+ghost use Rattle.revoke_core.specs.Readings.{rescind_read, revoke_read, asked_read, write_read, done_read, job_read};
+ghost use Rattle.revoke_core.specs.declared.answers.ReadAnswer.TheVariants.{Rescinded};
 
 use crate::places::{By, place_of, place_of_call};
-use etcd_types::{Answer, Bytes, NoMemory, Refusal, Reply};
-use keyed_rows::Rows;
+use etcd_types::{Answer, Bytes, List, Refusal, Reply};
 use lease_table::LeaseTable;
 use lease_txn::{NotShape, Written, read_guard, read_write};
-use revoke_calls::{Fate, fail, is_of, lefts_of, settle_owned, take_lefts};
+use proxy_model::Owner;
+use revoke_calls::{Lefts, lefts_of};
 use std::alloc::Global;
-use wait_model::{Settled, WaitCall, WaitJob, Write, WriteStage};
+use wait_model::{WaitCall, WaitJob, Write};
 
-/// How long a key rests once it was given up, in milliseconds.
-const REST: u64 = 2000;
-
-/// An answer to a call, and what is known when it comes.
+/// What an answer says to the call of a waiting write or of a key that is given up.
 #[derive(Debug, Drop)]
-pub(crate) struct Told {
-    pub(crate) call: u64,
-    pub(crate) answer: Answer,
-    /// The number of the live session.
-    pub(crate) session: Option<u64>,
-    /// The clock's reading, in milliseconds.
-    pub(crate) now: u64,
+pub enum ReadAnswer {
+    /// The call isn't out, or what it was for is no more.
+    Nothing,
+    /// The ownership key of this create revision is gone, or the key was another's already.
+    Rescinded { key: Bytes, create: u64 },
+    /// The owner was asked to give its key up, where it `held` it still.
+    Asked { held: bool },
+    /// The owner couldn't be asked.
+    AskRefused { refusal: Refusal },
+    /// The write was refused.
+    Refused { refusal: Refusal },
+    /// The write was done: what its client is told, and what it left at the keys whose entries it compared.
+    Wrote { reply: Reply, lefts: Lefts },
+    /// The write failed, and these owners were shown.
+    Blocked { owners: List<Owner> },
 }
 
-/// A call is answered, and is out no more. Where the answer can't be one to the call, or memory was wanting, all is as before.
-pub(crate) fn answer_call(
+/// What the answer says to the call of this number. `Shape` comes exactly where it can't be one to the call.
+pub(crate) fn read_call(
     alloc: Global,
     prefix: &Bytes,
-    step: u64,
-    told: Told,
-    writes: &mut Vec<Write>,
-    quiet: &mut Rows<u64>,
-    out: &mut Vec<WaitCall>,
-    table: &mut LeaseTable,
-) -> Result<Settled, NotShape>
-    requires { are_proper writes.old.items ≡ true }
-    ensures ending { (own : Ownership) → Gives result (with_calls (with_quiet (with_both (under prefix.now step own) writes.new.items table.new.entries) quiet.new) out.new.items) (answered told.call told.answer told.session told.now (with_calls (with_quiet (with_both (under prefix.now step own) writes.old.items table.old.entries) quiet.old) out.old.items)) }
-    ensures proper { are_proper writes.new.items ≡ true }
-    ensures err_writes { OnErr result (writes.new.items ≡ writes.old.items) }
-    ensures err_quiet { OnErr result (quiet.new ≡ quiet.old) }
-    ensures err_out { OnErr result (out.new.items ≡ out.old.items) }
-    ensures err_entries { OnErr result (table.new.entries ≡ table.old.entries) }
+    call: u64,
+    answer: Answer,
+    writes: &[Write],
+    out: &[WaitCall],
+    table: &LeaseTable,
+) -> Result<ReadAnswer, NotShape>
+    requires { are_proper writes.now ≡ true }
+    ensures { Reads result (job_read prefix.now call answer (job_of call out.now) writes.now table.now.entries) }
 {
-    match place_of_call(out, told.call) {
-        None => Ok(Settled::Nothing),
-        Some(at) => {
-            let job = &out[at].job;
-            match answer_job(alloc, prefix, step, job, told, writes, quiet, table) {
-                Err(fault) => Err(fault),
-                Ok(settled) => {
-                    drop(out.remove(at));
-                    Ok(settled)
-                }
-            }
-        }
+    match place_of_call(out, call) {
+        None => Ok(ReadAnswer::Nothing),
+        Some(at) => read_job(alloc, prefix, &out[at].job, call, answer, writes, table),
     }
 }
 
-/// What a call was about is answered. Where the answer can't be one to the call, or memory was wanting, all is as before.
-fn answer_job(
+fn read_job(
     alloc: Global,
     prefix: &Bytes,
-    step: u64,
     job: &WaitJob,
-    told: Told,
-    writes: &mut Vec<Write>,
-    quiet: &mut Rows<u64>,
-    table: &mut LeaseTable,
-) -> Result<Settled, NotShape>
-    requires { are_proper writes.old.items ≡ true }
-    ensures ending { (own : Ownership) → Gives result (with_quiet (with_both (under prefix.now step own) writes.new.items table.new.entries) quiet.new) (answered_job told.call told.answer told.session told.now (Some job.now) (with_quiet (with_both (under prefix.now step own) writes.old.items table.old.entries) quiet.old)) }
-    ensures proper { are_proper writes.new.items ≡ true }
-    ensures err_writes { OnErr result (writes.new.items ≡ writes.old.items) }
-    ensures err_quiet { OnErr result (quiet.new ≡ quiet.old) }
-    ensures err_entries { OnErr result (table.new.entries ≡ table.old.entries) }
+    call: u64,
+    answer: Answer,
+    writes: &[Write],
+    table: &LeaseTable,
+) -> Result<ReadAnswer, NotShape>
+    requires { are_proper writes.now ≡ true }
+    ensures { Reads result (job_read prefix.now call answer (Some job.now) writes.now table.now.entries) }
 {
     match job {
-        WaitJob::Rescind { key, create } => {
-            answer_rescind(alloc, key, *create, told, quiet, table)
-        }
-        WaitJob::Revoke { .. } => answer_revoke(writes, told),
-        WaitJob::Write => answer_write(alloc, prefix, step, told, writes, table),
+        WaitJob::Rescind { key, create } => read_rescind(alloc, key, *create, &answer),
+        WaitJob::Revoke { .. } => read_revoke(call, answer, writes),
+        WaitJob::Write => read_own(alloc, prefix, call, answer, writes, table),
     }
 }
 
-/// Any answer to a rescind takes the entry of this create revision away, and the key rests.
-fn answer_rescind(
+/// Any answer to a rescind says that the ownership key of this create revision is gone.
+fn read_rescind(
     alloc: Global,
     key: &Bytes,
     create: u64,
-    told: Told,
-    quiet: &mut Rows<u64>,
-    table: &mut LeaseTable,
-) -> Result<Settled, NotShape>
-    ensures ending { (own : Ownership) → Gives result (with_quiet (with_entries own table.new.entries) quiet.new) (rescind_answered told.answer (rescinded key.now create told.now (with_quiet (with_entries own table.old.entries) quiet.old))) }
-    ensures err_quiet { OnErr result (quiet.new ≡ quiet.old) }
-    ensures err_entries { OnErr result (table.new.entries ≡ table.old.entries) }
+    answer: &Answer,
+) -> Result<ReadAnswer, NotShape>
+    ensures { Reads result (option_map (λ held. Rescinded key.now create) (guard_told answer.now)) }
 {
-    match read_told(&told.answer) {
+    match read_told(answer) {
         Err(fault) => Err(fault),
         Ok(_) => {
-            end_entry(alloc, key, create, told.now, quiet, table)?;
-            Ok(Settled::Nothing)
+            let key = key.copy(alloc)?;
+            Ok(ReadAnswer::Rescinded { key, create })
         }
     }
 }
@@ -128,165 +102,66 @@ fn read_told(answer: &Answer) -> Result<bool, NotShape>
     }
 }
 
-fn end_entry(
-    alloc: Global,
-    key: &Bytes,
-    create: u64,
-    now: u64,
-    quiet: &mut Rows<u64>,
-    table: &mut LeaseTable,
-) -> Result<(), NoMemory>
-    ensures quiet { OnOk result (quiet.new ≡ rescinded_quiet key.now create now table.old.entries quiet.old) }
-    ensures entries { OnOk result (table.new.entries ≡ rescinded_entries key.now create table.old.entries) }
-    ensures err_quiet { OnErr result (quiet.new ≡ quiet.old) }
-    ensures err_entries { OnErr result (table.new.entries ≡ table.old.entries) }
+/// What the answer to a revoke call says, where a write asks by it.
+fn read_revoke(call: u64, answer: Answer, writes: &[Write]) -> Result<ReadAnswer, NotShape>
+    ensures { Reads result (revoke_read answer (first_by (asks call) writes.now)) }
 {
-    if !is_of(table.find(key), create) {
-        return Ok(());
-    }
-    quiet.put(key.copy(alloc)?, now.saturating_add(REST))?;
-    table.remove(key);
-    Ok(())
-}
-
-/// The owner that was asked by this call did what it was asked, or was gone; a refusal ends the write.
-fn answer_revoke(writes: &mut Vec<Write>, told: Told) -> Result<Settled, NotShape>
-    requires { are_proper writes.old.items ≡ true }
-    ensures ending { (own : Ownership) → Gives result (with_writes own writes.new.items) (revoke_answered (asks told.call) told.call (first_by (asks told.call) writes.old.items) told.answer (with_writes own writes.old.items)) }
-    ensures proper { are_proper writes.new.items ≡ true }
-    ensures err { OnErr result (writes.new.items ≡ writes.old.items) }
-{
-    let Told {
-        call,
-        answer,
-        session: _,
-        now: _,
-    } = told;
     match place_of(writes, By::Asks(call)) {
-        None => Ok(Settled::Nothing),
-        Some(at) => revoke_at(writes, at, call, answer),
+        None => Ok(ReadAnswer::Nothing),
+        Some(_) => read_asked(answer),
     }
 }
 
-fn revoke_at(
-    writes: &mut Vec<Write>,
-    at: usize,
-    call: u64,
-    answer: Answer,
-) -> Result<Settled, NotShape>
-    requires first { IsFirst (asks call) writes.old.items at }
-    requires in_range { at < length writes.old.items }
-    requires proper { are_proper writes.old.items ≡ true }
-    ensures ending { (own : Ownership) → Gives result (with_writes own writes.new.items) (revoke_answered (asks call) call (first_by (asks call) writes.old.items) answer (with_writes own writes.old.items)) }
-    ensures proper { are_proper writes.new.items ≡ true }
-    ensures err { OnErr result (writes.new.items ≡ writes.old.items) }
+fn read_asked(answer: Answer) -> Result<ReadAnswer, NotShape>
+    ensures { Reads result (asked_read answer) }
 {
     match answer {
         Answer::Done(reply) => match read_guard(&reply) {
             Err(fault) => Err(fault),
-            Ok(held) => {
-                take_back(&mut writes[at].stage, call, held);
-                Ok(Settled::Nothing)
-            }
+            Ok(held) => Ok(ReadAnswer::Asked { held }),
         },
-        Answer::Refused(refusal) => {
-            let write = writes.remove(at);
-            Ok(Settled::Reply(write.ticket, Answer::Refused(refusal)))
-        }
+        Answer::Refused(refusal) => Ok(ReadAnswer::AskRefused { refusal }),
     }
 }
 
-fn take_back(stage: &mut WriteStage, call: u64, held: bool)
-    ensures { stage.new ≡ stage_asked call held stage.old }
-{
-    match stage {
-        WriteStage::Finds { found } => found.take_back(call, held),
-        WriteStage::Waiting | WriteStage::Sends { .. } => {}
-    }
-}
-
-/// A write's own call is answered.
-fn answer_write(
+/// What the answer to a write's own call says, where there is such a write.
+fn read_own(
     alloc: Global,
     prefix: &Bytes,
-    step: u64,
-    told: Told,
-    writes: &mut Vec<Write>,
-    table: &mut LeaseTable,
-) -> Result<Settled, NotShape>
-    requires { are_proper writes.old.items ≡ true }
-    ensures ending { (own : Ownership) → Gives result (with_both (under prefix.now step own) writes.new.items table.new.entries) (write_answered told.session (sends told.call) (first_by (sends told.call) writes.old.items) told.answer (with_both (under prefix.now step own) writes.old.items table.old.entries)) }
-    ensures proper { are_proper writes.new.items ≡ true }
-    ensures err_writes { OnErr result (writes.new.items ≡ writes.old.items) }
-    ensures err_entries { OnErr result (table.new.entries ≡ table.old.entries) }
+    call: u64,
+    answer: Answer,
+    writes: &[Write],
+    table: &LeaseTable,
+) -> Result<ReadAnswer, NotShape>
+    requires { are_proper writes.now ≡ true }
+    ensures { Reads result (write_read prefix.now answer table.now.entries (first_by (sends call) writes.now)) }
 {
-    let Told {
-        call,
-        answer,
-        session,
-        now: _,
-    } = told;
     match place_of(writes, By::Sends(call)) {
-        None => Ok(Settled::Nothing),
+        None => Ok(ReadAnswer::Nothing),
         Some(at) => match answer {
-            Answer::Done(reply) => {
-                finish_at(alloc, prefix, step, writes, at, reply, session, table)
-            }
-            Answer::Refused(refusal) => Ok(refuse_at(writes, at, refusal, table)),
+            Answer::Done(reply) => read_done(alloc, prefix, &writes[at], reply, table),
+            Answer::Refused(refusal) => Ok(ReadAnswer::Refused { refusal }),
         },
     }
 }
 
-/// The write at this place was refused: its entries are held again as they were.
-fn refuse_at(
-    writes: &mut Vec<Write>,
-    at: usize,
-    refusal: Refusal,
-    table: &mut LeaseTable,
-) -> Settled
-    requires in_range { at < length writes.old.items }
-    requires proper { are_proper writes.old.items ≡ true }
-    ensures ending { (own : Ownership) (session : Option ℕ) (p : One → Bool) → IsFirst p writes.old.items at → write_answered session p (first_by p writes.old.items) (Refused refusal) (with_both own writes.old.items table.old.entries) ≡ Some (record { own = with_both own writes.new.items table.new.entries; settled = result }) }
-    ensures proper { are_proper writes.new.items ≡ true }
-{
-    let write = writes.remove(at);
-    settle_owned(&write, Fate::Back, table);
-    Settled::Reply(write.ticket, Answer::Refused(refusal))
-}
-
-/// The write at this place was done, or failed.
-fn finish_at(
+/// What the reply to a write says: it was done, or it failed.
+fn read_done(
     alloc: Global,
     prefix: &Bytes,
-    step: u64,
-    writes: &mut Vec<Write>,
-    at: usize,
+    write: &Write,
     reply: Reply,
-    session: Option<u64>,
-    table: &mut LeaseTable,
-) -> Result<Settled, NotShape>
-    requires in_range { at < length writes.old.items }
-    requires proper { are_proper writes.old.items ≡ true }
-    ensures ending { (own : Ownership) (p : One → Bool) → IsFirst p writes.old.items at → Gives result (with_both (under prefix.now step own) writes.new.items table.new.entries) (write_answered session p (first_by p writes.old.items) (Done reply) (with_both (under prefix.now step own) writes.old.items table.old.entries)) }
-    ensures proper { are_proper writes.new.items ≡ true }
-    ensures err_writes { OnErr result (writes.new.items ≡ writes.old.items) }
-    ensures err_entries { OnErr result (table.new.entries ≡ table.old.entries) }
+    table: &LeaseTable,
+) -> Result<ReadAnswer, NotShape>
+    requires { is_proper write.now ≡ true }
+    ensures { Reads result (option_map (done_read write.now table.now.entries) (written prefix.now write.now.request reply)) }
 {
-    let _rows = table.entries();
-    let write = &writes[at];
     match read_write(alloc, prefix, &write.request, reply) {
         Err(fault) => Err(fault),
         Ok(Written::Wrote(reply)) => {
             let lefts = lefts_of(alloc, write, &reply, table)?;
-            let write = writes.remove(at);
-            take_lefts(lefts, table);
-            Ok(Settled::Reply(write.ticket, Answer::Done(reply)))
+            Ok(ReadAnswer::Wrote { reply, lefts })
         }
-        Ok(Written::Blocked(owners)) => {
-            let owners = owners.as_slice();
-            let stage = fail(alloc, write, owners, step, session, table)?;
-            writes[at].stage = stage;
-            Ok(Settled::Nothing)
-        }
+        Ok(Written::Blocked(owners)) => Ok(ReadAnswer::Blocked { owners }),
     }
 }

@@ -9,9 +9,11 @@ mod notices;
 mod passes;
 mod places;
 mod sends;
+mod takes;
 mod turns;
 mod waits;
 
+pub use answers::ReadAnswer;
 pub use lease_table::{Entry, LeaseTable, Phase};
 pub use lease_txn::NotShape;
 pub use wait_model::{Due, DueKind, JobKind, Place, Settled};

@@ -110,6 +110,28 @@ fn send_of(
     Ok(due)
 }
 
+/// What the first due call of the writes sends.
+pub(crate) fn call_due(
+    alloc: Global,
+    prefix: &Bytes,
+    writes: &[Write],
+    table: &LeaseTable,
+) -> Result<Option<Due>, NoMemory>
+    requires { are_proper writes.now ≡ true }
+    ensures { IfOk result (λ due. due ≡ sent_due prefix.now table.now.entries (first_due writes.now)) }
+{
+    match first_call(alloc, writes)? {
+        None => Ok(None),
+        Some(first) => match place_of(writes, By::Ticket(first.place.number)) {
+            None => Ok(None),
+            Some(at) => {
+                let due = due_of_call(alloc, prefix, &writes[at], &first, table)?;
+                Ok(Some(due))
+            }
+        },
+    }
+}
+
 fn due_of_call(
     alloc: Global,
     prefix: &Bytes,

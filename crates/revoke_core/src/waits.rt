@@ -1,4 +1,4 @@
-ghost use Rattle.std.specs.Prelude.{◌≡◌, true, IfOk, OnOk, OnErr, []};
+ghost use Rattle.std.specs.Prelude.{◌≡◌, ℕ, Option, true, not, filter, IfOk, OnOk, OnErr, []};
 ghost use Rattle.std.specs.List.{list_any};
 ghost use Rattle.std.specs.Option.{option_copied, option_map};
 ghost use Rattle.wait_model.specs.Asked.{submitted, acquire_begun, acquire_spoiled, acquire_ended, is_spoiled, is_true};
@@ -13,21 +13,23 @@ ghost use Rattle.wait_model.specs.Passes.{proceeded};
 ghost use Rattle.wait_model.specs.Sent.{job_sent};
 ghost use Rattle.wait_model.specs.SessionEnd.{session_ended};
 ghost use Rattle.wait_model.specs.State.{first_waits, owned, step_begun};
-ghost use Rattle.revoke_core.specs.Answers.{Gives};
+ghost use Rattle.wait_model.specs.Writes.{first_by, sends};
+ghost use Rattle.revoke_core.specs.Readings.{IsRead, taken};
 ghost use Rattle.revoke_core.specs.Sends.{after_sending};
 
-use crate::answers::{Told, answer_call};
+use crate::answers::{ReadAnswer, read_call};
 use crate::gone::{end_all, lose_all};
 use crate::losses::{forget_write, lose_job};
 use crate::notices::take_all;
 use crate::passes::{is_covered, pass};
-use crate::places::take_job;
-use crate::sends::{first_rescind, send_call, send_rescind};
+use crate::places::{By, place_of, take_job};
+use crate::sends::{call_due, first_rescind, send_call, send_rescind};
+use crate::takes::{When, take_read};
 use etcd_types::{Answer, Bytes, Event, List, NoMemory, Request};
-use keyed_rows::Rows;
+use keyed_rows::{RowTest, Rows};
 use lease_table::LeaseTable;
 use lease_txn::NotShape;
-use revoke_calls::{first_place, new_write, notices_of};
+use revoke_calls::{first_place, new_write, notices_of, rescind_due};
 use std::alloc::Global;
 use std::marker::Model;
 use wait_model::{Due, Place, Settled, WaitCall, Write};
@@ -113,6 +115,34 @@ impl Waits {
         spoiled
     }
 
+    /// The acquires are over whose keys pass the test, as it is of their marks.
+    pub fn end_acquires<T: RowTest<bool>>(&mut self, test: &T)
+        ensures { self.new ≡ record self.old { spoiled = filter (λ e. not (T.passes test.now e.0 e.1)) self.old.spoiled } }
+    {
+        self.spoiled.remove_where(test);
+    }
+
+    /// Whether the acquire of the key is spoiled.
+    pub fn is_spoiled(&self, key: &Bytes) -> bool
+        ensures { result ≡ is_spoiled key.now (owned [] self.now) }
+    {
+        is_true(self.spoiled.find(key))
+    }
+
+    /// The leasing prefix.
+    pub fn prefix(&self) -> &Bytes
+        ensures { result.now ≡ self.now.prefix }
+    {
+        &self.prefix
+    }
+
+    /// What becomes due now is due since this step.
+    pub fn step(&self) -> u64
+        ensures { result ≡ self.now.step }
+    {
+        self.step
+    }
+
     /// The acquire of the key is spoiled, where one is due or out: it holds nothing when it is answered.
     pub fn spoil(&mut self, key: &Bytes)
         ensures { self.new ≡ (acquire_spoiled key.now (owned [] self.old)).waits }
@@ -142,37 +172,51 @@ impl Waits {
         pass(&mut self.writes, &mut self.spoiled, table, self.step);
     }
 
-    /// The call of this number was answered, under the live session of this number, at this reading of the clock in milliseconds.
-    /// `Shape` comes exactly where the answer can't be one to the call, which then counts as lost; then, and where memory was wanting,
-    /// all is as before.
-    pub fn answered(
-        &mut self,
+    /// What the answer says to the call of this number. `Shape` comes exactly where it can't be one to the call, which then counts as
+    /// lost.
+    pub fn read_answer(
+        &self,
         call: u64,
         answer: Answer,
+        table: &LeaseTable,
+    ) -> Result<ReadAnswer, NotShape>
+        ensures { (session : Option ℕ) (now : ℕ) → IsRead result (λ r. taken call r session now (owned table.now.entries self.now)) (answered call answer session now (owned table.now.entries self.now)) }
+    {
+        let _rows = table.entries();
+        read_call(self.alloc, &self.prefix, call, answer, &self.writes, &self.out, table)
+    }
+
+    /// The call of this number is answered by what was read of the answer, under the live session of this number, at this reading of
+    /// the clock in milliseconds. Where memory was wanting all is as before.
+    pub fn take_answer(
+        &mut self,
+        call: u64,
+        read: ReadAnswer,
         session: Option<u64>,
         now: u64,
         table: &mut LeaseTable,
-    ) -> Result<Settled, NotShape>
-        ensures ending { Gives result (owned table.new.entries self.new) (answered call answer session now (owned table.old.entries self.old)) }
+    ) -> Result<Settled, NoMemory>
+        ensures waits { OnOk result (self.new ≡ (taken call read session now (owned table.old.entries self.old)).own.waits) }
+        ensures entries { OnOk result (table.new.entries ≡ (taken call read session now (owned table.old.entries self.old)).own.entries) }
+        ensures settled { IfOk result (λ settled. settled ≡ (taken call read session now (owned table.old.entries self.old)).settled) }
         ensures err { OnErr result (self.new ≡ self.old) }
         ensures err_entries { OnErr result (table.new.entries ≡ table.old.entries) }
     {
-        let told = Told {
-            call,
-            answer,
-            session,
-            now,
-        };
-        answer_call(
-            self.alloc,
-            &self.prefix,
-            self.step,
-            told,
-            &mut self.writes,
-            &mut self.quiet,
-            &mut self.out,
-            table,
-        )
+        let step = self.step;
+        let when = When { session, now, step };
+        let settled = take_read(self.alloc, call, read, when, &mut self.writes, &mut self.quiet, table)?;
+        drop(take_job(&mut self.out, call));
+        Ok(settled)
+    }
+
+    /// The write whose own call has this number.
+    pub fn sender(&self, call: u64) -> Option<&Write>
+        ensures { option_copied result ≡ first_by (sends call) self.now.writes }
+    {
+        match place_of(&self.writes, By::Sends(call)) {
+            Some(at) => Some(&self.writes[at]),
+            None => None,
+        }
     }
 
     /// The call of this number was lost.
@@ -228,6 +272,22 @@ impl Waits {
                     call,
                     table,
                 )?;
+                Ok(due)
+            }
+        }
+    }
+
+    /// What the first due job will send; nothing exactly where none is due. Nothing is sent yet.
+    pub fn first_job(&self, table: &LeaseTable) -> Result<Option<Due>, NoMemory>
+        ensures { IfOk result (λ due. (call : ℕ) → due ≡ option_map (λ sent. sent.due) (job_sent call (owned table.now.entries self.now))) }
+    {
+        match first_rescind(self.alloc, table)? {
+            Some((key, create)) => {
+                let due = rescind_due(self.alloc, &self.prefix, &key, create)?;
+                Ok(Some(due))
+            }
+            None => {
+                let due = call_due(self.alloc, &self.prefix, &self.writes, table)?;
                 Ok(due)
             }
         }

@@ -1,11 +1,9 @@
 -- Each row is done in its place, and keeps its key.
-use Rattle.std.proofs.Common.{◌≡◌, ◌||◌, ℕ, Bool, true, List, length, vec_len, IsTrue, arith, sym, ap, ◌∙◌}
+use Rattle.std.proofs.Common.{◌≡◌, ℕ, Bool, true, List, length, vec_len, IsTrue, arith, sym, ap, ◌∙◌}
 use Rattle.std.proofs.lemmas.List.{take_all, drop_all, append-nil, with_items_is}
 use Rattle.std.proofs.lemmas.List.Edits.{map_over_more}
 use Rattle.proxy_model.specs.Keyed.{is_in_order}
-use Rattle.wait_model.specs.Covers.{covered}
 use Rattle.wait_model.proofs.Tables.{in_order-each}
-use Rattle.keyed_rows.specs.Places.{raised_in}
 use Rattle.keyed_rows.proofs.Rows+bool.raise_all.Goals as goal
 
 pub invariant_of-self : goal.invariant_of-self

@@ -1,5 +1,5 @@
 -- Each row is done in its place, and keeps its key.
-use Rattle.std.proofs.Common.{◌≡◌, ◌||◌, ℕ, Bool, true, List, length, vec_len, IsTrue, arith, sym, ap, ◌∙◌}
+use Rattle.std.proofs.Common.{◌≡◌, ◌||◌, ℕ, List, length, vec_len, IsTrue, arith, sym, ap, ◌∙◌}
 use Rattle.std.proofs.lemmas.List.{take_all, drop_all, append-nil, with_items_is}
 use Rattle.std.proofs.lemmas.List.Edits.{map_over_more}
 use Rattle.proxy_model.specs.Keyed.{is_in_order}

@@ -1,5 +1,5 @@
 -- The rows so far are done, and the others as they were.
-use Rattle.std.proofs.Common.{◌≡◌, ◌++◌, ℕ, Bool, true, List, map, take, drop}
+use Rattle.std.proofs.Common.{◌≡◌, ◌++◌, map, take, drop}
 use Rattle.keyed_rows.specs.Places.{raised_in}
 use Rattle.keyed_rows.proofs.Rows+bool.raise_in.Given as goal
 

@@ -1,5 +1,5 @@
 -- The value at the key's place is another one, and where there is none its row goes into the gap.
-use Rattle.std.proofs.Common.{◌≡◌, Some, sym, ap, subst, ◌∙◌}
+use Rattle.std.proofs.Common.{Some, sym, ap, subst, ◌∙◌}
 use Rattle.proxy_model.specs.Keyed.{Keyed, with_at}
 use Rattle.keyed_rows.specs.Places.{IsPlace, IsGap}
 use Rattle.keyed_rows.proofs.Edits.{put_in_place, in_order-put_in_place, put_in_gap, in_order-put_in_gap}

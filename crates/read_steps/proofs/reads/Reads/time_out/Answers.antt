@@ -1,0 +1,25 @@
+-- Part by part, and then the release; where none is late nothing changes.
+use Rattle.std.proofs.Common.{sym, ◌∙◌, ap, subst, map}
+use Rattle.core_model.specs.ClockWork.{times_out, timed_out_ask}
+use Rattle.read_model.specs.Fits.{AllStand}
+use Rattle.read_model.specs.State.{Reads, ground_of}
+use Rattle.read_steps.specs.Over.{ended}
+use Rattle.read_steps.specs.Parts.{reads}
+use Rattle.read_steps.specs.Steps.{timed_out}
+use Rattle.read_steps.proofs.Ending.{none_late}
+use Rattle.read_steps.proofs.Standing.{released_parts}
+use Rattle.read_steps.proofs.reads.Reads.time_out.Goals as goal
+
+pub returns-then-may_time_out : goal.returns-then-may_time_out
+returns-then-may_time_out c =
+    let r = reads c.self.inside.table.entries c.self.inside.waits c.self.inside.acquires c.self.inside.asks in
+    let m = c.args.m.now in
+    released_parts m (ended (times_out m.now) r) (map (timed_out_ask m.now) r.asks) _ _ _ _ _ _
+    c.end_late.ensures.entries c.end_late.ensures.waits c.end_late.ensures.acquires c.time_out.ensures c.step.ensures c.release.ensures
+    ∙ ap (timed_out m) c.self.view_is
+
+pub returns-else-may_time_out : goal.returns-else-may_time_out
+returns-else-may_time_out c =
+    let r = reads c.self.inside.table.entries c.self.inside.waits c.self.inside.acquires c.self.inside.asks in
+    let stand = subst (λ (x : Reads). AllStand (ground_of x) x.asks) (sym c.self.view_is) c.requires.1.asks in
+    none_late c.args.m.now r (c.may_time_out.ensures c.if-may_time_out.false) stand ∙ ap (timed_out c.args.m.now) c.self.view_is

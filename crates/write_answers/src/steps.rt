@@ -1,0 +1,130 @@
+ghost use Rattle.std.specs.Prelude.{◌≡◌, Bool, map, IfOk, OnOk, OnErr};
+ghost use Rattle.known_asks.specs.Changes.{restaged, staged_by};
+ghost use Rattle.read_laws.specs.InPlace.{placed_by};
+ghost use Rattle.read_model.specs.Fits.{ReadsOk};
+ghost use Rattle.read_model.specs.WriteAnswers.{settled_ask, wait_answered};
+ghost use Rattle.wait_model.specs.Endings.{answered};
+ghost use Rattle.wait_model.specs.State.{owned};
+ghost use Rattle.revoke_core.specs.Readings.{taken};
+ghost use Rattle.write_answers.specs.Answered.{parts, moment, stage_after, after_asks, Leaves};
+
+use crate::release::After;
+use core_model::Acquire;
+use etcd_types::{Answer, Header, NoMemory};
+use keyed_rows::Rows;
+use known_asks::{Asks, Stage, Verdict, set_stages, stage_changes};
+use lease_table::LeaseTable;
+use revoke_core::{NotShape, ReadAnswer, Settled, Waits};
+use std::alloc::Global;
+
+/// An answer to the call of this number, and what is known when it comes.
+#[derive(Debug, Drop)]
+pub struct Told {
+    pub call: u64,
+    pub answer: Answer,
+    pub when: When,
+}
+
+/// When an answer comes.
+#[derive(Clone, Copy, Debug)]
+pub struct When {
+    /// The clock's reading, in milliseconds.
+    pub now: u64,
+    /// The number of the live session.
+    pub session: Option<u64>,
+    /// The header of the highest revision that was delivered.
+    pub header: Header,
+    /// What becomes due became due at this step.
+    pub step: u64,
+}
+
+/// A call of a waiting write, a revoke call or a rescind is answered: what it settles is replied, and each read that waited for an
+/// owner write that is over is decided again. `Shape` comes exactly where the answer can't be one to the call, which then counts as
+/// lost; then, and where memory was wanting, all is as before.
+pub fn answer_call(
+    alloc: Global,
+    told: Told,
+    asks: &mut Asks,
+    waits: &mut Waits,
+    table: &mut LeaseTable,
+    acquires: &Rows<Acquire>,
+) -> Result<(), NotShape>
+    requires step { told.when.step ≡ waits.old.step }
+    ensures answered { (standing created : Bool) → ReadsOk standing (parts table.old.entries waits.old acquires.now asks.old) → Leaves result (parts table.new.entries waits.new acquires.now asks.new) (wait_answered (moment created told.when) told.call told.answer (parts table.old.entries waits.old acquires.now asks.old)) }
+    ensures in_place { (created : Bool) → Leaves result (parts table.new.entries waits.new acquires.now asks.new) (placed_by (moment created told.when) (answered told.call told.answer told.when.session told.when.now (owned table.old.entries waits.old)) (parts table.old.entries waits.old acquires.now asks.old)) }
+    ensures err_asks { OnErr result (asks.new ≡ asks.old) }
+    ensures err_waits { OnErr result (waits.new ≡ waits.old) }
+    ensures err_entries { OnErr result (table.new.entries ≡ table.old.entries) }
+{
+    let Told { call, answer, when } = told;
+    match waits.read_answer(call, answer, table) {
+        Err(fault) => Err(fault),
+        Ok(read) => {
+            take(alloc, call, read, when, asks, waits, table, acquires)?;
+            Ok(())
+        }
+    }
+}
+
+/// What was read of an answer is taken. Where memory was wanting all is as before.
+fn take(
+    alloc: Global,
+    call: u64,
+    read: ReadAnswer,
+    when: When,
+    asks: &mut Asks,
+    waits: &mut Waits,
+    table: &mut LeaseTable,
+    acquires: &Rows<Acquire>,
+) -> Result<(), NoMemory>
+    ensures asks { OnOk result (asks.new ≡ after_asks when call read (parts table.old.entries waits.old acquires.now asks.old)) }
+    ensures waits { OnOk result (waits.new ≡ (taken call read when.session when.now (owned table.old.entries waits.old)).own.waits) }
+    ensures entries { OnOk result (table.new.entries ≡ (taken call read when.session when.now (owned table.old.entries waits.old)).own.entries) }
+    ensures err_asks { OnErr result (asks.new ≡ asks.old) }
+    ensures err_waits { OnErr result (waits.new ≡ waits.old) }
+    ensures err_entries { OnErr result (table.new.entries ≡ table.old.entries) }
+{
+    let changes = changes_after(alloc, call, &read, when, asks, waits, table, acquires)?;
+    let settled = waits.take_answer(call, read, when.session, when.now, table)?;
+    set_stages(asks, changes);
+    reply(asks, settled);
+    Ok(())
+}
+
+/// The stages that reads come into once what was read is taken, by ticket. Nothing is changed yet.
+fn changes_after(
+    alloc: Global,
+    call: u64,
+    read: &ReadAnswer,
+    when: When,
+    asks: &Asks,
+    waits: &Waits,
+    table: &LeaseTable,
+    acquires: &Rows<Acquire>,
+) -> Result<Vec<(u64, Stage)>, NoMemory>
+    ensures { IfOk result (λ changes. restaged changes.items asks.now ≡ map (staged_by (stage_after when call read.now (owned table.now.entries waits.now) acquires.now)) asks.now) }
+{
+    let rule = After {
+        header: when.header,
+        step: when.step,
+        session: when.session,
+        read,
+        write: waits.sender(call),
+        table,
+        acquires,
+    };
+    Ok(stage_changes(alloc, asks, &rule)?)
+}
+
+/// What is settled is replied. It takes no memory.
+fn reply(asks: &mut Asks, settled: Settled)
+    ensures { asks.new ≡ map (settled_ask settled) asks.old }
+{
+    match settled {
+        Settled::Reply(ticket, answer) => {
+            asks.set_stage(ticket, Stage::Replied(Verdict::Said(answer)));
+        }
+        Settled::Failed(ticket) => asks.set_stage(ticket, Stage::Replied(Verdict::Lost)),
+        Settled::Nothing => {}
+    }
+}
