@@ -22,8 +22,8 @@ use Rattle.core_model.specs.State.{Core}
 use Rattle.core_model.specs.Stepped.{Stepped, gives}
 use Rattle.core_model.specs.Watching.{with_watches}
 use Rattle.revoke_core.specs.Sends.{after_sending}
-use Rattle.core_sends.specs.declared.to_send.ToSend.{ToSend}
-use Rattle.core_sends.specs.declared.to_send.ToSend.TheVariants as send
+use Rattle.core_sends.specs.declared.sendings.ToSend.{ToSend}
+use Rattle.core_sends.specs.declared.sendings.ToSend.TheVariants as send
 use Rattle.core_sends.specs.ToSend.{to_send}
 
 -- `d` is what becomes of the proxy beside

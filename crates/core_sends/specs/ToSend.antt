@@ -19,8 +19,8 @@ use Rattle.core_model.specs.Sending.{session_out}
 use Rattle.core_model.specs.Sessions.{session_request}
 use Rattle.core_model.specs.State.{Opening}
 use Rattle.core_model.specs.Watching.{watch_from}
-use Rattle.core_sends.specs.declared.to_send.ToSend.{ToSend}
-use Rattle.core_sends.specs.declared.to_send.ToSend.TheVariants as send
+use Rattle.core_sends.specs.declared.sendings.ToSend.{ToSend}
+use Rattle.core_sends.specs.declared.sendings.ToSend.TheVariants as send
 
 abbrev pub session_to_send : ℕ → Session → ToSend
 session_to_send ttl s = send.Session (session_out s.number s.standing) (session_request ttl s s.standing)

@@ -1,7 +1,7 @@
 ghost use Rattle.std.specs.Prelude.{◌≡◌, IfOk};
 ghost use Rattle.core_sends.specs.ToSend.{session_to_send, write_to_send, acquire_to_send, ask_to_send};
 
-use crate::to_send::ToSend;
+use crate::sendings::ToSend;
 use call_kinds::kind_of;
 use client_requests::passed_on;
 use core_asks::writes_keys;

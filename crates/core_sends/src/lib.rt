@@ -2,8 +2,8 @@
 #![tactic(auto)]
 
 mod calls;
+mod sendings;
 mod streams;
-mod to_send;
 
 pub use due_order::{DueJob, first_job, has_job};
-pub use to_send::{ToSend, to_send};
+pub use sendings::{ToSend, to_send};

@@ -2,7 +2,7 @@ ghost use Rattle.std.specs.Prelude.{◌≡◌, IfOk};
 ghost use Rattle.core_model.specs.Watching.{watch_from};
 ghost use Rattle.core_sends.specs.ToSend.{opening_to_send, begin_to_send, stream_to_send};
 
-use crate::to_send::ToSend;
+use crate::sendings::ToSend;
 use core_parts::{Opening, watch_of};
 use etcd_types::{KeyRange, NoMemory, Request, WatchAsk};
 use namespace_keys::Namespace;
