@@ -246,7 +246,6 @@ fn begin_acquire(
 }
 
 /// The write waits behind all others. Where memory was wanting all is as before.
-#[tactic(auto, using(crate::proofs::TakenBack::taken_back))]
 fn keep_write(
     alloc: Global,
     ask: Asked,
