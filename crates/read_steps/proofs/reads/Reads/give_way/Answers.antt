@@ -34,10 +34,10 @@ returns-clause-ok c = λ held.
     let kv = c.as_ref.ensures.value in
     let found = c.entry_found.ensures ∙ ap (λ (o : Option Owner). found_own m.session o None) c.as_ref-2.ensures.value in
     (λ i. reads
-        ((c.in_ok-end_acquire.ensures.entries ∙ ap (λ (e : Option Entry). held_entries k e r.own.entries) found) i)
-        (c.in_ok-end_acquire.ensures.waits i)
-        (c.in_ok-end_acquire.ensures.acquires i)
-        ((c.in_ok-end_acquire.ensures.asks ∙ c.in_ok-changes.ensures ∙ (λ j. map (staged_by (readers_stage k (shown h (kv j)) (called (c.step.ensures j)))) r.asks)) i))
+    ((c.in_ok-end_acquire.ensures.entries ∙ ap (λ (e : Option Entry). held_entries k e r.own.entries) found) i)
+    (c.in_ok-end_acquire.ensures.waits i)
+    (c.in_ok-end_acquire.ensures.acquires i)
+    ((c.in_ok-end_acquire.ensures.asks ∙ c.in_ok-changes.ensures ∙ (λ j. map (staged_by (readers_stage k (shown h (kv j)) (called (c.step.ensures j)))) r.asks)) i))
     ∙ owned_reads c.requires.fit.0 m k held h c.args.kv c.args.owner r fit acquire
     ∙ ap (λ (x : Moment). acquire_done x k held h (OwnedBy c.args.kv c.args.owner) r) c.m.view_is
     ∙ ap (acquire_done c.args.m.now k held h (OwnedBy c.args.kv c.args.owner)) c.self.view_is

@@ -33,10 +33,10 @@ returns-clause-ok c =
     let acquire = subst (λ (x : Reads). is_some (at x.acquires k) ≡ true) (sym c.self.view_is) c.requires.acquire in
     let kv = c.as_ref.ensures.value in
     (λ i. reads
-        ((c.in_ok-end_acquire.ensures.entries ∙ ap (λ (e : Entry). with_at r.own.entries k (Some e)) c.entry_won-entry.ensures) i)
-        (c.in_ok-end_acquire.ensures.waits i)
-        (c.in_ok-end_acquire.ensures.acquires i)
-        ((c.in_ok-end_acquire.ensures.asks ∙ c.in_ok-changes.ensures ∙ (λ j. map (staged_by (readers_stage k (shown h (kv j)) (joined_stage (c.header_if.ensures j) (kv j) (c.step.ensures j)))) r.asks)) i))
+    ((c.in_ok-end_acquire.ensures.entries ∙ ap (λ (e : Entry). with_at r.own.entries k (Some e)) c.entry_won-entry.ensures) i)
+    (c.in_ok-end_acquire.ensures.waits i)
+    (c.in_ok-end_acquire.ensures.acquires i)
+    ((c.in_ok-end_acquire.ensures.asks ∙ c.in_ok-changes.ensures ∙ (λ j. map (staged_by (readers_stage k (shown h (kv j)) (joined_stage (c.header_if.ensures j) (kv j) (c.step.ensures j)))) r.asks)) i))
     ∙ won_reads c.requires.fit.0 m k c.args.held h c.args.create c.args.kv r fit acquire
     ∙ ap (λ (x : Moment). acquire_done x k c.args.held h (Acquired c.args.create c.args.kv) r) c.m.view_is
     ∙ ap (acquire_done c.args.m.now k c.args.held h (Acquired c.args.create c.args.kv)) c.self.view_is
