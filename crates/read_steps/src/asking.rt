@@ -98,14 +98,7 @@ fn decide_read(
     let empty = Bytes::new(alloc);
     let key = key_of(&ask.request, &empty);
     match table.find(key) {
-        Some(entry) => Ok(decide(
-            alloc,
-            m.header,
-            waits.step(),
-            Some(entry),
-            false,
-            None,
-        )?),
+        Some(entry) => Ok(decide(alloc, m.header, waits.step(), Some(entry), false, None)?),
         None => Ok(decide_free(alloc, m, key, waits, acquires)?),
     }
 }
@@ -246,13 +239,7 @@ fn begin_acquire(
 }
 
 /// The write waits behind all others. Where memory was wanting all is as before.
-#[tactic(auto, using(crate::proofs::TakenBack::taken_back))]
-fn keep_write(
-    alloc: Global,
-    ask: Asked,
-    waits: &mut Waits,
-    asks: &mut Asks,
-) -> Result<(), NoMemory>
+fn keep_write(alloc: Global, ask: Asked, waits: &mut Waits, asks: &mut Asks) -> Result<(), NoMemory>
     requires unknown { ask_at ask.ticket asks.old ≡ None }
     requires write { is_write ask.request ≡ true }
     ensures waits { OnOk result (waits.new ≡ (submitted ask.ticket ask.request (owned [] waits.old)).waits) }

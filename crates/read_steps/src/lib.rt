@@ -5,7 +5,6 @@
 mod acquires;
 mod asking;
 mod ends;
-mod lemmas;
 mod moment;
 mod over;
 mod reads;

@@ -1,4 +1,4 @@
-ghost use Rattle.std.specs.Prelude.{◌≡◌, map, IfOk, OnOk, OnErr};
+ghost use Rattle.std.specs.Prelude.{◌≡◌, ℕ, map, IfOk, OnOk, OnErr};
 ghost use Rattle.std.specs.Option.{option_map};
 ghost use Rattle.core_model.specs.Groups.{group_sent};
 ghost use Rattle.core_model.specs.Sending.{called_as};
@@ -25,6 +25,13 @@ impl Reads {
         ensures err { OnErr result (self.new ≡ self.old) }
     {
         self.waits.next_job(call, &mut self.table)
+    }
+
+    /// The first due rescind, revoke call or call of a write, whatever number it will have; nothing exactly where none is due.
+    pub fn first_write(&self) -> Result<Option<Due>, NoMemory>
+        ensures { IfOk result (λ due. (call : ℕ) → due ≡ option_map (λ sent. sent.due) (job_sent call self.now.own)) }
+    {
+        Ok(self.waits.first_job(&self.table)?)
     }
 
     /// The acquire of the key is out under this call. It takes no memory.

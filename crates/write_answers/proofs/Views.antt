@@ -14,9 +14,11 @@ use Rattle.proxy_model.specs.Keyed.{Keyed, at, with_at}
 use Rattle.proxy_model.specs.LeaseTable.{is_writing, is_writing_phase, unwritten, written}
 use Rattle.proxy_model.proofs.KeyedLaws.{at-with_at}
 use Rattle.read_model.specs.declared.acquire.Acquire.{Acquire}
+use Rattle.read_core.specs.Falls.{stands_on, again_stage}
+use Rattle.read_model.specs.declared.asked.Asked.{Asked}
 use Rattle.read_model.specs.declared.asked.Stage.{Stage}
 use Rattle.read_model.specs.declared.asked.Stage.TheVariants as stage
-use Rattle.read_model.specs.PlainRead.{read_turn}
+use Rattle.read_model.specs.PlainRead.{ask_key, read_turn}
 use Rattle.read_model.specs.Release.{stands}
 use Rattle.revoke_calls.specs.declared.entries.Fate.TheVariants.{Back}
 use Rattle.revoke_calls.specs.declared.left.Left.{Left}
@@ -33,7 +35,7 @@ use Rattle.wait_model.specs.GuardedAnswers.{owns, owns_at, is_shown, is_gone, ke
 use Rattle.wait_model.specs.Phases.{if_written, is_of, is_session, own_entry}
 use Rattle.wait_model.specs.Stages.{is_owner}
 use Rattle.wait_model.proofs.Tables.{at-each, at-without}
-use Rattle.write_answers.specs.Seen.{What, what_in, what_of, neither, what_back, is_lost, is_written, stands_by, stage_by, seen_stage}
+use Rattle.write_answers.specs.Seen.{What, what_in, what_of, neither, what_back, is_lost, is_written, waits, stands_by, stage_by, seen_stage}
 
 -- What becomes of a read by it.
 
@@ -60,6 +62,33 @@ turn_is h step (Some e) = of e.phase
     of phase.Held = refl
     of (phase.Writing r) = refl
     of (phase.Leaving s) = refl
+
+idle_stands : (ticket : ℕ) (e : Option Entry) (c : Option Acquire) (s : Stage) → waits s ≡ false → stands ticket e c s ≡ true
+idle_stands ticket e c (stage.Calling s) h = refl
+idle_stands ticket e c stage.Acquiring h = absurd (cc)
+idle_stands ticket e c stage.Joined h = absurd (cc)
+idle_stands ticket e c stage.Behind h = absurd (cc)
+idle_stands ticket e c stage.Writes h = refl
+idle_stands ticket e c (stage.Grouped s) h = refl
+idle_stands ticket e c (stage.Replied v) h = refl
+
+stands_so : (es : Keyed Entry) (acquires : Keyed Acquire) (a : Asked) (k : List ℕ) (w : What) (claim : Option Acquire) (b : Bool) → k ≡ ask_key a → w ≡ what_of (at es k) → claim ≡ at acquires k → b ≡ stands_by a.ticket w.sight claim a.stage → stands_on es acquires a ≡ b
+stands_so es acquires a k w claim b e f g t =
+    sym (t ∙ (λ i. stands_by a.ticket (f i).sight (g i) a.stage) ∙ ap (λ (j : List ℕ). stands_by a.ticket (what_of (at es j)).sight (at acquires j) a.stage) e ∙ stands_is a.ticket (at es (ask_key a)) (at acquires (ask_key a)) a.stage)
+
+stays_if : (h : Header) (step : ℕ) (es : Keyed Entry) (acquires : Keyed Acquire) (a : Asked) → stands_on es acquires a ≡ true → None ≡ again_stage h step es acquires a
+stays_if h step es acquires a t = sym (ap (λ b. cond b None (Some (read_turn h step (at es (ask_key a)) false None).stage)) t)
+
+pub idle_stays : (h : Header) (step : ℕ) (es : Keyed Entry) (acquires : Keyed Acquire) (a : Asked) → waits a.stage ≡ false → None ≡ again_stage h step es acquires a
+idle_stays h step es acquires a t = stays_if h step es acquires a (idle_stands a.ticket (at es (ask_key a)) (at acquires (ask_key a)) a.stage t)
+
+pub seen_stays : (h : Header) (step : ℕ) (es : Keyed Entry) (acquires : Keyed Acquire) (a : Asked) (k : List ℕ) (w : What) (claim : Option Acquire) → k ≡ ask_key a → w ≡ what_of (at es k) → claim ≡ at acquires k → true ≡ stands_by a.ticket w.sight claim a.stage → None ≡ again_stage h step es acquires a
+seen_stays h step es acquires a k w claim e f g t = stays_if h step es acquires a (stands_so es acquires a k w claim true e f g t)
+
+pub seen_comes : (h : Header) (step : ℕ) (es : Keyed Entry) (acquires : Keyed Acquire) (a : Asked) (k : List ℕ) (w : What) (claim : Option Acquire) → k ≡ ask_key a → w ≡ what_of (at es k) → claim ≡ at acquires k → false ≡ stands_by a.ticket w.sight claim a.stage → Some (seen_stage h step w) ≡ again_stage h step es acquires a
+seen_comes h step es acquires a k w claim e f g t =
+    let turn = ap (seen_stage h step) (f ∙ ap (λ (j : List ℕ). what_of (at es j)) e) ∙ turn_is h step (at es (ask_key a)) in
+    ap Some turn ∙ sym (ap (λ b. cond b None (Some (read_turn h step (at es (ask_key a)) false None).stage)) (stands_so es acquires a k w claim false e f g t))
 
 -- A rescind.
 

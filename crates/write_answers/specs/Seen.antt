@@ -56,6 +56,13 @@ is_written Held = false
 is_written Written = true
 is_written Neither = false
 
+-- for an acquire or an owner write
+abbrev pub waits : Stage → Bool
+waits stage.Acquiring = true
+waits stage.Joined = true
+waits stage.Behind = true
+waits _ = false
+
 -- what a read waits for stands
 abbrev pub stands_by : ℕ → Sight → Option Acquire → Stage → Bool
 stands_by ticket sight c stage.Acquiring = names ticket c

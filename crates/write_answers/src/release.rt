@@ -4,7 +4,7 @@ ghost use Rattle.read_core.specs.Falls.{again_stage};
 ghost use Rattle.read_model.specs.PlainRead.{ask_key};
 ghost use Rattle.read_model.specs.Release.{names};
 ghost use Rattle.revoke_core.specs.Readings.{read_entries};
-ghost use Rattle.write_answers.specs.Seen.{what, seen_stage, is_written, stands_by};
+ghost use Rattle.write_answers.specs.Seen.{what, seen_stage, is_written, waits, stands_by};
 
 use crate::seen::{Seen, Sight, seen_after};
 use core_model::Acquire;
@@ -35,19 +35,14 @@ impl<'a> Restage for After<'a> {
     ghost stage_of = { λ s. again_stage s.header s.step (read_entries s.session s.read.now (option_copied s.write) s.table.now.entries) s.acquires.now };
 
     fn stage(&self, alloc: Global, ask: &Asked) -> Result<Option<Stage>, NoMemory> {
-        match ask.stage {
-            Stage::Acquiring | Stage::Joined | Stage::Behind => {
-                let empty = Bytes::new(alloc);
-                let key = key_of(&ask.request, &empty);
-                Ok(self.stage_at(alloc, ask, key)?)
-            }
-            _ => Ok(None),
-        }
+        let empty = Bytes::new(alloc);
+        let key = key_of(&ask.request, &empty);
+        Ok(self.stage_at(alloc, ask, key)?)
     }
 }
 
 impl<'a> After<'a> {
-    /// The stage of a read that waits, whose key this is; nothing where it waits on.
+    /// The stage that the request comes into, whose key this is; nothing where it stays.
     fn stage_at(
         &self,
         alloc: Global,
@@ -57,12 +52,22 @@ impl<'a> After<'a> {
         requires { key.now ≡ ask_key ask.now }
         ensures { IfOk result (λ stage. stage ≡ again_stage self.now.header self.now.step (read_entries self.now.session self.now.read.now (option_copied self.now.write) self.now.table.now.entries) self.now.acquires.now ask.now) }
     {
+        if !waits(&ask.stage) {
+            return Ok(None);
+        }
         let seen = seen_after(self.read, self.write, key, self.table);
         if stands_by(ask, seen.sight, self.acquires.find(key)) {
             return Ok(None);
         }
         Ok(Some(seen_stage(alloc, self.header, self.step, seen)?))
     }
+}
+
+/// Whether it waits for an acquire or an owner write.
+fn waits(stage: &Stage) -> bool
+    ensures { result ≡ waits stage.now }
+{
+    matches!(stage, Stage::Acquiring | Stage::Joined | Stage::Behind)
 }
 
 /// Whether what the read waits for stands, by what is seen at its key and by the key's acquire.
@@ -94,7 +99,7 @@ fn is_written(sight: Sight) -> bool
 
 /// The stage of a read that sees this.
 fn seen_stage(alloc: Global, header: Header, step: u64, seen: Seen) -> Result<Stage, NoMemory>
-    ensures { IfOk result (λ stage. stage ≡ seen_stage header step (what seen)) }
+    ensures { IfOk result (λ stage. stage ≡ seen_stage header step (what seen.entry)) }
 {
     match seen.sight {
         Sight::Held => Ok(shown(alloc, header, seen.kv)?),

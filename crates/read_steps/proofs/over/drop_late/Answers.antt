@@ -21,13 +21,13 @@ loop-row-preserved c =
     let at_item = rest_at c.args.rows.now c.loop-row.row-index c.row-item.result c.loop-row-test.true c.row-item.is in
     record {
       marks =
-        (λ j. let w : Waits = c.drop_if_late.ensures.waits j in record w { spoiled = without (falls_in p rest (c.drop_if_late.ensures.acquires j)) w.spoiled })
-        ∙ ap (λ (s : Keyed Bool). record waits { spoiled = s }) (falls_more p item rest acquires waits.spoiled ∙ sym (ap (λ (rs : List (ℕ × Asked)). without (falls_in p (map (λ r. r.1) rs) acquires) waits.spoiled) at_item))
-        ∙ c.loop-row.invariant.marks;
+          (λ j. let w : Waits = c.drop_if_late.ensures.waits j in record w { spoiled = without (falls_in p rest (c.drop_if_late.ensures.acquires j)) w.spoiled })
+          ∙ ap (λ (s : Keyed Bool). record waits { spoiled = s }) (falls_more p item rest acquires waits.spoiled ∙ sym (ap (λ (rs : List (ℕ × Asked)). without (falls_in p (map (λ r. r.1) rs) acquires) waits.spoiled) at_item))
+          ∙ c.loop-row.invariant.marks;
       acquires =
-        ap (λ (cs : Keyed Acquire). without (falls_in p rest cs) cs) c.drop_if_late.ensures.acquires
-        ∙ falls_more p item rest acquires acquires ∙ sym (ap (λ (rs : List (ℕ × Asked)). without (falls_in p (map (λ r. r.1) rs) acquires) acquires) at_item)
-        ∙ c.loop-row.invariant.acquires;
+          ap (λ (cs : Keyed Acquire). without (falls_in p rest cs) cs) c.drop_if_late.ensures.acquires
+          ∙ falls_more p item rest acquires acquires ∙ sym (ap (λ (rs : List (ℕ × Asked)). without (falls_in p (map (λ r. r.1) rs) acquires) acquires) at_item)
+          ∙ c.loop-row.invariant.acquires;
     }
 
 pub returns-clause-waits : goal.returns-clause-waits

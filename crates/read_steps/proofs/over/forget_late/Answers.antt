@@ -19,6 +19,6 @@ pub returns : goal.returns
 returns c =
     let p = times_out c.args.now in
     let e =
-        sym (ap (λ (rs : List (ℕ × Asked)). forgotten_all p (map (λ r. r.1) rs) (owned c.loop-row.table.entries c.loop-row.waits)) (none_left c.args.rows.now c.loop-row.row-index c.loop-row-test.false))
-        ∙ c.loop-row.invariant in
+    sym (ap (λ (rs : List (ℕ × Asked)). forgotten_all p (map (λ r. r.1) rs) (owned c.loop-row.table.entries c.loop-row.waits)) (none_left c.args.rows.now c.loop-row.row-index c.loop-row-test.false))
+    ∙ c.loop-row.invariant in
     record { waits = ap (λ (o : Ownership). o.waits) e; entries = ap (λ (o : Ownership). o.entries) e }

@@ -12,4 +12,4 @@ returns-then-owns_at c =
 
 pub returns-else-owns_at : goal.returns-else-owns_at
 returns-else-owns_at c =
-    c.seen_in.ensures ∙ ap what_of c.find.ensures ∙ other_back c.args.write.now c.args.table.now.entries c.args.key.now (sym c.owns_at.ensures ∙ c.if-owns_at.false)
+    c.seen_in.ensures ∙ ap what_of c.find-else-owns_at.ensures ∙ other_back c.args.write.now c.args.table.now.entries c.args.key.now (sym c.owns_at.ensures ∙ c.if-owns_at.false)

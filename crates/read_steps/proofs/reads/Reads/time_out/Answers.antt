@@ -23,5 +23,5 @@ returns-else-may_time_out c =
     let r = reads c.self.inside.table.entries c.self.inside.waits c.self.inside.acquires c.self.inside.asks in
     let m : Moment = record { now = c.m.inside.now; session = c.m.inside.session; created = c.m.inside.created; header = c.m.inside.header } in
     let stand = subst (λ (x : Reads). AllStand (ground_of x) x.asks) (sym c.self.view_is) c.requires.1.asks in
-    none_late m r (c.may_time_out.ensures c.if-may_time_out.false) stand
+    sym c.self.view_is ∙ none_late m r (c.may_time_out.ensures c.if-may_time_out.false) stand
     ∙ ap (λ (x : Moment). timed_out x r) c.m.view_is ∙ ap (timed_out c.args.m.now) c.self.view_is
