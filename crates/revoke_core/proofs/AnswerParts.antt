@@ -1,42 +1,30 @@
 -- An answer, part by part.
-use Rattle.std.proofs.Common.{◌≡◌, ℕ, zero, suc, ◌+◌, Bool, true, false, cond, ◌&&◌, List, [], ◌∷◌, Option, None, Some, Err, refl, ◌∙◌, ap}
-use Rattle.std.specs.List.{list_all, remove}
+use Rattle.std.proofs.Common.{◌≡◌, ℕ, zero, suc, ◌+◌, Bool, true, false, cond, ◌&&◌, List, [], ◌∷◌, Option, None, Some, refl, ◌∙◌, ap}
 use Rattle.std.specs.Option.{option_map}
-use Rattle.etcd_types.proofs.Bools.{and_first, and_second, and_both}
 use Rattle.etcd_types.specs.declared.answer.Answer.{Answer}
 use Rattle.etcd_types.specs.declared.answer.Answer.TheVariants as answer
-use Rattle.etcd_types.specs.declared.answer.Refusal.{Refusal}
-use Rattle.etcd_types.specs.declared.answer.Reply.{Reply}
-use Rattle.lease_txn.specs.declared.not_shape.NotShape.{NotShape}
-use Rattle.lease_txn.specs.declared.not_shape.NotShape.TheVariants.{Shape, NoMemory}
-use Rattle.lease_txn.specs.Results.{Reads}
 use Rattle.proxy_model.specs.declared.lease.Entry.{Entry}
 use Rattle.proxy_model.specs.declared.ownership.Owner.{Owner}
-use Rattle.proxy_model.specs.declared.ownership.Written.TheVariants.{Wrote, Blocked}
-use Rattle.proxy_model.specs.Guarded.{written}
 use Rattle.proxy_model.specs.Keyed.{Keyed, at, with_at}
 use Rattle.proxy_model.specs.Leaving.{guard_held}
 use Rattle.proxy_model.specs.Limits.{capped}
 use Rattle.wait_model.specs.declared.sending.Sending.TheVariants as sending
 use Rattle.wait_model.specs.declared.wait.Settled.TheVariants as settled
-use Rattle.wait_model.specs.declared.wait.WaitCall.{WaitCall}
-use Rattle.wait_model.specs.declared.wait.WaitJob.{WaitJob}
 use Rattle.wait_model.specs.declared.write.Write.{Write}
 use Rattle.wait_model.specs.declared.write.WriteStage.{WriteStage}
 use Rattle.wait_model.specs.declared.write.WriteStage.TheVariants.{Waiting, Sends, Finds}
 use Rattle.wait_model.specs.Covers.{is_single}
-use Rattle.wait_model.specs.Endings.{answered, answered_job, revoke_back, revoke_answered, without_out}
 use Rattle.wait_model.specs.Edits.{without}
 use Rattle.wait_model.specs.ForeignOwnership.{stage_asked, finding}
-use Rattle.wait_model.specs.GuardedAnswers.{Ending, staged_by, owns_at, kept_entries, failed, unwrote_entries, wrote_entries, done_if, write_answered}
+use Rattle.wait_model.specs.GuardedAnswers.{staged_by, owns_at, kept_entries, failed}
 use Rattle.wait_model.specs.Leaving.{rest, rescinded, if_read, rescind_answered}
 use Rattle.wait_model.specs.Phases.{is_of}
 use Rattle.wait_model.specs.Stages.{is_owner}
 use Rattle.wait_model.specs.State.{Ownership}
-use Rattle.wait_model.specs.Writes.{first_by, without_first, with_first, job_of, without_call}
+use Rattle.wait_model.specs.Writes.{first_by}
 use Rattle.revoke_calls.specs.Failed.{found_owners, failed_found, found_entries, failed_stage, failed_entries}
 use Rattle.revoke_core.specs.Steps.{IsFirst}
-use Rattle.revoke_core.proofs.Searches.{cond_true, cond_false, none_removed_call}
+use Rattle.revoke_core.proofs.Searches.{cond_true, cond_false}
 use Rattle.revoke_core.specs.Answers.{guard_told, rescinded_entries, rescinded_quiet}
 
 -- the first that passes, where there is one

@@ -24,19 +24,19 @@ use Rattle.wait_model.specs.Stages.{staged, is_owner}
 use Rattle.wait_model.specs.Endings.{answered, answered_job, revoke_back, revoke_answered, without_out}
 use Rattle.wait_model.specs.Fits.{is_proper, are_proper}
 use Rattle.wait_model.specs.ForeignOwnership.{stage_asked}
-use Rattle.wait_model.specs.GuardedAnswers.{Ending, staged_by, ended_by, failed, unwrote_entries, done_if, write_answered}
+use Rattle.wait_model.specs.GuardedAnswers.{Ending, ended_by, failed, done_if, write_answered}
 use Rattle.wait_model.specs.Leaving.{rescinded, rescind_answered}
 use Rattle.wait_model.specs.State.{Ownership}
-use Rattle.wait_model.specs.Writes.{first_by, without_first, with_first, sends, asks, job_of}
+use Rattle.wait_model.specs.Writes.{first_by, with_first, sends, asks, job_of}
 use Rattle.revoke_calls.specs.declared.entries.Fate.TheVariants.{Back}
 use Rattle.revoke_calls.specs.Ends.{lefts_of, all_wrote}
-use Rattle.revoke_calls.specs.Failed.{failed_stage, failed_entries}
+use Rattle.revoke_calls.specs.Failed.{failed_stage}
 use Rattle.revoke_calls.proofs.ProperWrite.{proper-restaged}
 use Rattle.revoke_calls.proofs.TurnedKeys.{wrote_is}
 use Rattle.revoke_core.specs.declared.answers.ReadAnswer.{ReadAnswer}
 use Rattle.revoke_core.specs.declared.answers.ReadAnswer.TheVariants as read
 use Rattle.revoke_core.specs.Answers.{guard_told}
-use Rattle.revoke_core.specs.Readings.{asked_read, revoke_read, own_read, write_read, job_read, done_read, replied, asked_writes, failed_writes, failed_if, read_writes, taken, IsRead}
+use Rattle.revoke_core.specs.Readings.{revoke_read, write_read, job_read, done_read, replied, asked_writes, failed_writes, failed_if, read_writes, taken, IsRead}
 use Rattle.revoke_core.specs.Steps.{settled_if}
 use Rattle.revoke_core.proofs.AnswerParts.{rescind_parts, after_rescind, failed_parts, asked_owner, failed_owner}
 use Rattle.revoke_core.proofs.LossParts.{first_proper, proper-without}

@@ -1,20 +1,13 @@
 -- An answer to a rescind, part by part.
-use Rattle.std.specs.Prelude.{◌≡◌, ℕ, ◌+◌, Bool, false, if◌then◌else◌, List, Option, None, Some, Result, Ok, Err}
+use Rattle.std.specs.Prelude.{ℕ, ◌+◌, Bool, false, if◌then◌else◌, List, Option, None, Some}
 use Rattle.etcd_types.specs.declared.answer.Answer.{Answer}
 use Rattle.etcd_types.specs.declared.answer.Answer.TheVariants as answer
-use Rattle.lease_txn.specs.declared.not_shape.NotShape.{NotShape}
-use Rattle.lease_txn.specs.declared.not_shape.NotShape.TheVariants.{Shape, NoMemory}
 use Rattle.proxy_model.specs.declared.lease.Entry.{Entry}
 use Rattle.proxy_model.specs.Keyed.{Keyed, at, with_at}
 use Rattle.proxy_model.specs.Leaving.{guard_held}
 use Rattle.proxy_model.specs.Limits.{capped}
-use Rattle.wait_model.specs.declared.wait.Settled.{Settled}
-use Rattle.wait_model.specs.declared.wait.WaitCall.{WaitCall}
-use Rattle.wait_model.specs.declared.write.Write.{Write}
-use Rattle.wait_model.specs.GuardedAnswers.{Ending}
 use Rattle.wait_model.specs.Leaving.{rest}
 use Rattle.wait_model.specs.Phases.{is_of}
-use Rattle.wait_model.specs.State.{Ownership}
 
 -- A rescind: what its answer says, and the entry and the rest of the key.
 

@@ -1,6 +1,6 @@
 -- An answer to a call of a waiting write, or to a rescind, in two halves: what it says, by what the call is about; and what is done
 -- by that.
-use Rattle.std.specs.Prelude.{◌≡◌, ℕ, List, Option, None, Some, Result, Ok, Err, if◌then◌else◌, Bool}
+use Rattle.std.specs.Prelude.{◌≡◌, ℕ, List, Option, None, Some, Result, Ok, Err, Bool}
 use Rattle.std.specs.Option.{option_map}
 use Rattle.etcd_types.specs.declared.answer.Answer.{Answer}
 use Rattle.etcd_types.specs.declared.answer.Answer.TheVariants as answer

@@ -183,7 +183,15 @@ impl Waits {
         ensures { (session : Option ℕ) (now : ℕ) → IsRead result (λ r. taken call r session now (owned table.now.entries self.now)) (answered call answer session now (owned table.now.entries self.now)) }
     {
         let _rows = table.entries();
-        read_call(self.alloc, &self.prefix, call, answer, &self.writes, &self.out, table)
+        read_call(
+            self.alloc,
+            &self.prefix,
+            call,
+            answer,
+            &self.writes,
+            &self.out,
+            table,
+        )
     }
 
     /// The call of this number is answered by what was read of the answer, under the live session of this number, at this reading of
@@ -204,7 +212,15 @@ impl Waits {
     {
         let step = self.step;
         let when = When { session, now, step };
-        let settled = take_read(self.alloc, call, read, when, &mut self.writes, &mut self.quiet, table)?;
+        let settled = take_read(
+            self.alloc,
+            call,
+            read,
+            when,
+            &mut self.writes,
+            &mut self.quiet,
+            table,
+        )?;
         drop(take_job(&mut self.out, call));
         Ok(settled)
     }

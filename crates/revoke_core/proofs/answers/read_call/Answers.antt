@@ -1,5 +1,5 @@
 -- Nothing is about the call, or what its number is found at.
-use Rattle.std.proofs.Common.{◌≡◌, Option, Some, sym, ◌∙◌, ap, subst}
+use Rattle.std.proofs.Common.{Option, sym, ap, subst}
 use Rattle.lease_txn.specs.Results.{Reads}
 use Rattle.wait_model.specs.declared.wait.WaitJob.{WaitJob}
 use Rattle.revoke_core.specs.Readings.{job_read}

@@ -1,9 +1,6 @@
 -- The request is a write; what is read of the reply.
-use Rattle.std.proofs.Common.{sym, ◌∙◌, ap, Some}
-use Rattle.std.specs.Option.{option_map}
 use Rattle.proxy_model.specs.Guarded.{written}
 use Rattle.revoke_calls.proofs.ProperWrite.{proper-write, read-write}
-use Rattle.revoke_core.specs.declared.answers.ReadAnswer.TheVariants as read
 use Rattle.revoke_core.specs.Readings.{done_read}
 use Rattle.revoke_core.proofs.ReadParts.{mapped_err}
 use Rattle.revoke_core.proofs.answers.read_done.Goals as goal

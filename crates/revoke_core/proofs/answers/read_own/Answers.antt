@@ -1,8 +1,7 @@
 -- No write's call has this number, or the first that has it; it is proper.
-use Rattle.std.proofs.Common.{◌≡◌, Option, Some, sym, ◌∙◌, ap, subst}
+use Rattle.std.proofs.Common.{Option, Some, sym, ◌∙◌, ap, subst}
 use Rattle.etcd_types.specs.declared.answer.Answer.TheVariants as answer
 use Rattle.lease_txn.specs.Results.{Reads}
-use Rattle.wait_model.specs.declared.write.Write.{Write}
 use Rattle.wait_model.specs.Fits.{is_proper}
 use Rattle.wait_model.specs.Writes.{first_by, sends}
 use Rattle.revoke_core.specs.declared.answers.ReadAnswer.{ReadAnswer}

@@ -1,6 +1,4 @@
 -- Nothing is read, or what is doesn't matter.
-use Rattle.std.proofs.Common.{sym, ◌∙◌, ap, Some}
-use Rattle.std.specs.Option.{option_map}
 use Rattle.revoke_core.specs.declared.answers.ReadAnswer.TheVariants as read
 use Rattle.revoke_core.specs.Answers.{guard_told}
 use Rattle.revoke_core.proofs.ReadParts.{mapped_err}

@@ -1,5 +1,5 @@
 -- No write asks by this call, or the first that does.
-use Rattle.std.proofs.Common.{◌≡◌, Option, sym, ap, subst}
+use Rattle.std.proofs.Common.{Option, sym, ap, subst}
 use Rattle.lease_txn.specs.Results.{Reads}
 use Rattle.wait_model.specs.declared.write.Write.{Write}
 use Rattle.wait_model.specs.Writes.{asks}

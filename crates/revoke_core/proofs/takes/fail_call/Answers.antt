@@ -1,6 +1,5 @@
 -- No write's call has this number, or the first that has it goes on.
 use Rattle.std.proofs.Common.{◌≡◌, ◌<◌, List, length, Some, None, set, sym, ◌∙◌, ap, subst}
-use Rattle.std.proofs.lemmas.List.{get_or_read}
 use Rattle.wait_model.specs.declared.write.Write.{Write}
 use Rattle.wait_model.specs.Fits.{is_proper}
 use Rattle.wait_model.specs.Stages.{staged}

@@ -1,5 +1,5 @@
 -- What was read does what the answer does.
-use Rattle.std.proofs.Common.{◌≡◌, List, subst}
+use Rattle.std.proofs.Common.{List, subst}
 use Rattle.lease_txn.specs.Results.{Reads}
 use Rattle.wait_model.specs.declared.wait.WaitCall.{WaitCall}
 use Rattle.wait_model.specs.declared.write.Write.{Write}
