@@ -1,0 +1,81 @@
+ghost use Rattle.std.specs.Prelude.{◌≡◌};
+ghost use Rattle.serve_model.specs.Dialog.{is_worn};
+ghost use Rattle.stream_model.specs.Parts.{Feeds, IsCut, is_for_memory, end_of};
+
+use core_model::{CoreEvent, Outcome, StepFault};
+use etcd_types::WatchItem;
+use outside::Clock;
+use proxy_server::Turn;
+use serve_model::TurnFault;
+use stream_model::StreamEnd;
+
+/// How long a stream that brought no event lasts at the least, in milliseconds: a core opens a stream that was cut again, and
+/// one that always ends at once would turn for ever.
+const PAUSE: u64 = 1_000;
+
+/// Whether the turn makes no more steps.
+fn is_worn(answer: &Result<Outcome, TurnFault>) -> bool
+    ensures { result ≡ is_worn answer.now }
+{
+    matches!(answer, Err(TurnFault::Worn))
+}
+
+/// Whether memory was wanting for a step.
+fn is_for_memory(fault: TurnFault) -> bool
+    ensures { result ≡ is_for_memory fault }
+{
+    matches!(fault, TurnFault::Core(StepFault::NoMemory))
+}
+
+/// How following a stream ends by another fault of a step.
+fn end_of(fault: TurnFault) -> StreamEnd
+    ensures { result ≡ end_of fault }
+{
+    match fault {
+        TurnFault::Core(StepFault::NoSuchStream(_)) => StreamEnd::Gone,
+        TurnFault::Worn | TurnFault::Core(_) => StreamEnd::Worn,
+    }
+}
+
+/// Lets some time pass where a stream brought no event.
+pub(crate) fn linger<C: Clock>(clock: &mut C, eventful: bool) {
+    if !eventful {
+        clock.pause(PAUSE);
+    }
+}
+
+/// Cuts the stream.
+pub(crate) fn cut<T: Turn, C: Clock>(
+    turn: &mut T,
+    clock: &mut C,
+    stream: u64,
+    end: StreamEnd,
+) -> StreamEnd
+    ensures home { T.home turn.new ≡ T.home turn.old }
+    ensures cut { IsCut stream end result (T.made turn.old) (T.made turn.new) }
+{
+    let done = turn.turn(CoreEvent::Cut { stream }, clock);
+    if is_worn(&done) { StreamEnd::Worn } else { end }
+}
+
+/// Feeds a message. None where the stream goes on.
+pub(crate) fn feed<T: Turn, C: Clock>(
+    turn: &mut T,
+    clock: &mut C,
+    stream: u64,
+    item: WatchItem,
+) -> Option<StreamEnd>
+    ensures home { T.home turn.new ≡ T.home turn.old }
+    ensures feeds { Feeds stream item (T.made turn.old) (T.made turn.new) result }
+{
+    let fault = match turn.turn(CoreEvent::Item { stream, item }, clock) {
+        Ok(_) => return None,
+        Err(fault) => fault,
+    };
+    if is_for_memory(fault) {
+        linger(clock, false);
+        Some(cut(turn, clock, stream, StreamEnd::NoMemory))
+    } else {
+        Some(end_of(fault))
+    }
+}

@@ -1,0 +1,10 @@
+//! Streams of members, followed: each message of a stream is fed to a turn as it comes. What following a stream is stands in
+//! `stream_model`.
+#![tactic(auto)]
+
+mod feed;
+mod follow;
+mod next;
+
+pub use follow::{follow_on, follow_stream};
+pub use stream_model::StreamEnd;

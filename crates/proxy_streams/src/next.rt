@@ -1,0 +1,65 @@
+ghost use Rattle.std.specs.Prelude.{◌≡◌, ◌≤◌, None, IfOk};
+ghost use Rattle.http_wire.specs.Connections.{bytes_ahead};
+ghost use Rattle.stream_model.specs.Following.{end_by};
+ghost use Rattle.stream_model.specs.Parts.{Opens, Nexts};
+
+use api_reply::decode_item;
+use etcd_types::WatchItem;
+use http_wire::{Framing, LINE_LIMIT, Wire, WireFault};
+use json_model::NotReply;
+use outside::Source;
+use std::alloc::Global;
+use stream_model::StreamEnd;
+
+/// How following a stream ends by a fault of its wire.
+fn end_by(fault: WireFault) -> StreamEnd
+    ensures { result ≡ end_by fault }
+{
+    match fault {
+        WireFault::NoMemory => StreamEnd::NoMemory,
+        _ => StreamEnd::Cut,
+    }
+}
+
+/// Reads the head of the answer, which has to have status 200.
+pub(crate) fn open<S: Source>(wire: &mut Wire, source: &mut S) -> Result<Framing, StreamEnd>
+    requires sound { wire.old.fault ≡ None }
+    ensures sound { IfOk result (λ framing. wire.new.fault ≡ None) }
+    ensures kept { S.faults source.old ≤ S.faults source.new }
+    ensures opens { Opens (bytes_ahead (S.left source.old) wire.old) (bytes_ahead (S.left source.new) wire.new) (S.faults source.old) (S.faults source.new) result }
+{
+    match wire.read_answer(source) {
+        Ok((status, framing)) => {
+            if status == 200 {
+                Ok(framing)
+            } else {
+                Err(StreamEnd::Cut)
+            }
+        }
+        Err(fault) => Err(end_by(fault)),
+    }
+}
+
+/// Reads the next line, which has to be a message.
+pub(crate) fn next<S: Source>(
+    alloc: Global,
+    wire: &mut Wire,
+    source: &mut S,
+    framing: &mut Framing,
+) -> Result<WatchItem, StreamEnd>
+    requires sound { wire.old.fault ≡ None }
+    ensures sound { IfOk result (λ item. wire.new.fault ≡ None) }
+    ensures kept { S.faults source.old ≤ S.faults source.new }
+    ensures nexts { Nexts framing.old framing.new (bytes_ahead (S.left source.old) wire.old) (bytes_ahead (S.left source.new) wire.new) (S.faults source.old) (S.faults source.new) result }
+{
+    let line = match wire.next_line(source, framing, LINE_LIMIT) {
+        Ok(Some(line)) => line,
+        Ok(None) => return Err(StreamEnd::Cut),
+        Err(fault) => return Err(end_by(fault)),
+    };
+    match decode_item(alloc, line.as_slice()) {
+        Ok(item) => Ok(item),
+        Err(NotReply::Unreadable) => Err(StreamEnd::Cut),
+        Err(NotReply::NoMemory) => Err(StreamEnd::NoMemory),
+    }
+}

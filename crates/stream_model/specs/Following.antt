@@ -1,0 +1,154 @@
+-- A stream of a member, followed: an answer of status 200 whose body comes in lines, each of them a message, as etcd's JSON gateway
+-- sends them; one step on Item for each, in order; and at its end one on Cut.
+use Rattle.std.specs.Prelude.{◌≡◌, ℕ, List, [], ◌∷◌, ◌++◌, map, Option, None, Some, IfSome, Result, Ok, Err, ⊤}
+use Rattle.outside.specs.Faults.{Rose}
+use Rattle.etcd_types.specs.declared.watch.WatchItem.{WatchItem}
+use Rattle.json_model.specs.declared.fault.NotReply.TheVariants.{Unreadable}
+use Rattle.json_model.specs.WatchItems.{item_of}
+use Rattle.http_wire.specs.declared.fault.WireFault.{WireFault}
+use Rattle.http_wire.specs.declared.fault.WireFault.TheVariants as wire
+use Rattle.http_wire.specs.declared.limits.TheConstants.{LINE_LIMIT}
+use Rattle.http_wire.specs.declared.message.Framing.{Framing}
+use Rattle.http_wire.specs.Heads.{AnswerRead}
+use Rattle.http_wire.specs.Steps.{NextLine}
+use Rattle.turn_hub.specs.History.{entry_of}
+use Rattle.core_model.specs.declared.event.CoreEvent.TheVariants.{Item, Cut}
+use Rattle.core_model.specs.declared.event.Outcome.{Outcome}
+use Rattle.core_model.specs.declared.event.Outcome.TheVariants.{Noted}
+use Rattle.core_model.specs.declared.event.StepFault.{StepFault}
+use Rattle.core_model.specs.declared.event.StepFault.TheVariants as step
+use Rattle.serve_model.specs.Steps.{Step, Every, Adds}
+use Rattle.stream_model.specs.declared.ends.StreamEnd.{StreamEnd}
+use Rattle.stream_model.specs.declared.ends.StreamEnd.TheVariants as how
+
+-- ---- what the member sends
+
+-- these lines stand in the bytes of a body, one behind the other; the framing says how the body goes on
+abbrev pub Lines : Framing → List (List ℕ) → List ℕ → Framing → List ℕ → Type 0
+Lines old [] all new rest = (old ≡ new) × (all ≡ rest)
+Lines old (line ∷ lines) all new rest =
+    (next : Framing) × (mid : List ℕ) × NextLine LINE_LIMIT old next all mid (Ok (Some line)) × Lines next lines mid new rest
+
+-- an answer of status 200, and these lines of its body
+abbrev pub Opened : List (List ℕ) → List ℕ → Framing → List ℕ → Type 0
+Opened lines all framing rest = (first : Framing) × (mid : List ℕ) × AnswerRead all mid (Ok (200, first)) × Lines first lines mid framing rest
+
+-- the same where the bytes are told
+abbrev pub Reads : (List ℕ → Framing → List ℕ → Type 0) → Option (List ℕ) → Framing → Option (List ℕ) → Type 0
+Reads P None framing new = ⊤
+Reads P (Some all) framing None = ⊥
+Reads P (Some all) framing (Some rest) = P all framing rest
+
+-- a line that was fed as the message that it is, at this time
+pub record Message : Type 0 where
+  pub line : List ℕ
+  pub item : WatchItem
+  pub now : ℕ
+
+abbrev pub lines_of : List Message → List (List ℕ)
+lines_of messages = map (λ m. m.line) messages
+
+abbrev pub AreRead : List Message → Type 0
+AreRead messages = Every (λ m. item_of m.line ≡ Ok m.item) messages
+
+-- ---- why it ended
+
+-- no memory for a wire; no answer; an answer of another status; what follows is no line; the body's end; a line that memory was wanting
+-- to read; a line that is no message; a message that the core refused; a message after the hub's last step
+pub data Cause : Type 0 where
+  Unready : Cause
+  Unanswered : WireFault → Cause
+  Refused : ℕ → Framing → Cause
+  Broken : WireFault → Cause
+  Ended : Cause
+  Unread : List ℕ → Cause
+  NoMessage : List ℕ → Cause
+  Unfed : Message → StepFault → Cause
+  Late : Message → Cause
+
+-- one line more, and perhaps what is behind it
+abbrev pub OpenedMore : List Message → List ℕ → List ℕ → Type 0
+OpenedMore messages line all = (framing : Framing) × (rest : List ℕ) × Opened (lines_of messages ++ line ∷ []) all framing rest
+
+-- what stands in the bytes behind the messages that were fed
+abbrev pub Stands : Cause → List Message → List ℕ → Type 0
+Stands Unready messages all = messages ≡ []
+Stands (Unanswered fault) messages all = (messages ≡ []) × ((rest : List ℕ) × AnswerRead all rest (Err fault))
+Stands (Refused status framing) messages all = (messages ≡ []) × (status ≡ 200 → ⊥) × ((rest : List ℕ) × AnswerRead all rest (Ok (status, framing)))
+Stands (Broken fault) messages all =
+    (old : Framing) × (new : Framing) × (mid : List ℕ) × (rest : List ℕ) × Opened (lines_of messages) all old mid × NextLine LINE_LIMIT old new mid rest (Err fault)
+Stands Ended messages all =
+    (old : Framing) × (new : Framing) × (mid : List ℕ) × (rest : List ℕ) × Opened (lines_of messages) all old mid × NextLine LINE_LIMIT old new mid rest (Ok None)
+Stands (Unread line) messages all = OpenedMore messages line all
+Stands (NoMessage line) messages all = OpenedMore messages line all × (item_of line ≡ Err Unreadable)
+Stands (Unfed m fault) messages all = OpenedMore messages m.line all × (item_of m.line ≡ Ok m.item)
+Stands (Late m) messages all = OpenedMore messages m.line all × (item_of m.line ≡ Ok m.item)
+
+-- the end that a fault of the wire asks for
+abbrev pub end_by : WireFault → StreamEnd
+end_by wire.NoMemory = how.NoMemory
+end_by _ = how.Cut
+
+-- where the stream is cut, the end that its cause asks for
+abbrev pub wanted : Cause → Option StreamEnd
+wanted Unready = Some how.NoMemory
+wanted (Unanswered fault) = Some (end_by fault)
+wanted (Refused status framing) = Some how.Cut
+wanted (Broken fault) = Some (end_by fault)
+wanted Ended = Some how.Cut
+wanted (Unread line) = Some how.NoMemory
+wanted (NoMessage line) = Some how.Cut
+wanted (Unfed m step.NoMemory) = Some how.NoMemory
+wanted (Unfed m fault) = None
+wanted (Late m) = None
+
+-- a read of the source failed
+abbrev pub HasRisen : Cause → ℕ → ℕ → Type 0
+HasRisen (Unanswered wire.ReadFault) earlier later = Rose earlier later
+HasRisen (Broken wire.ReadFault) earlier later = Rose earlier later
+HasRisen _ earlier later = ⊤
+
+-- it has no step of its own
+abbrev pub IsQuiet : Cause → Type 0
+IsQuiet (Unfed m fault) = ⊥
+IsQuiet _ = ⊤
+
+-- ---- its steps
+
+abbrev pub steps_of : ℕ → List Message → List Step
+steps_of stream messages = map (λ m. entry_of (Item stream m.item) m.now (Ok Noted)) messages
+
+-- the step that failed, if one did
+abbrev pub failed : ℕ → Cause → List Step
+failed stream (Unfed m fault) = entry_of (Item stream m.item) m.now (Err fault) ∷ []
+failed stream _ = []
+
+-- the stream is cut, unless the hub makes no more steps, which then is the end
+pub data Cuts (stream : ℕ) : StreamEnd → StreamEnd → List Step → Type 0 where
+  cut : (end : StreamEnd) (now : ℕ) (answer : Result Outcome StepFault) → Cuts stream end end (entry_of (Cut stream) now answer ∷ [])
+  worn : (end : StreamEnd) → Cuts stream end how.Worn []
+
+-- the last steps by this cause, and the end: the stream is cut; or it was cut before, or no further step can be made
+pub data Ends (stream : ℕ) : Cause → StreamEnd → List Step → Type 0 where
+  cutting : (cause : Cause) (first end : StreamEnd) (steps : List Step) → wanted cause ≡ Some first → Cuts stream first end steps → Ends stream cause end (failed stream cause ++ steps)
+  gone : (m : Message) → Ends stream (Unfed m (step.NoSuchStream stream)) how.Gone (entry_of (Item stream m.item) m.now (Err (step.NoSuchStream stream)) ∷ [])
+  worn : (m : Message) → Ends stream (Unfed m step.Worn) how.Worn (entry_of (Item stream m.item) m.now (Err step.Worn) ∷ [])
+  late : (m : Message) → Ends stream (Late m) how.Worn []
+
+-- A whole stream. `left` are the bytes that its source had to give, and `earlier` and `later` are its counts.
+pub record Following (stream : ℕ) (left : Option (List ℕ)) (earlier later : ℕ) (made made' : Option (List Step)) (end : StreamEnd) : Type 0 where
+  pub messages : List Message
+  pub read : AreRead messages
+  pub cause : Cause
+  pub stands : IfSome left (Stands cause messages)
+  pub risen : HasRisen cause earlier later
+  pub tail : List Step
+  pub ends : Ends stream cause end tail
+  pub adds : Adds made made' (steps_of stream messages ++ tail)
+
+-- the messages that were fed so far
+pub record Fed (stream : ℕ) (left rest : Option (List ℕ)) (framing : Framing) (made made' : Option (List Step)) : Type 0 where
+  pub messages : List Message
+  pub read : AreRead messages
+  pub opened : Reads (Opened (lines_of messages)) left framing rest
+  pub adds : Adds made made' (steps_of stream messages)
