@@ -38,7 +38,8 @@ impl Index {
 
     /// The index of a history without a revision. It takes no memory.
     pub fn new(alloc: Global) -> Index
-        ensures { HoldsKept result [] }
+        ensures holds { HoldsKept result [] }
+        ensures compacted { result.compacted ≡ 0 }
     {
         Index {
             alloc,
