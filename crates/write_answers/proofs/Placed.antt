@@ -78,7 +78,7 @@ left_is created w call read r e =
     let x = taken call read w.session w.now r.own in
     let g : Ground = record { own = x.own; acquires = r.acquires } in
     let all : map (in_place true w.header g) (map (settled_ask x.settled) r.asks) ≡ after_asks w call read r =
-        settled_all w.header g x.settled r.asks ∙ ap (λ (n : ℕ). map (settled_ask x.settled) (map (staged_by (again_stage w.header n x.own.entries r.acquires)) r.asks)) (sym e) in
+    settled_all w.header g x.settled r.asks ∙ ap (λ (n : ℕ). map (settled_ask x.settled) (map (staged_by (again_stage w.header n x.own.entries r.acquires)) r.asks)) (sym e) in
     ap (λ xs. Some (parts x.own.entries x.own.waits r.acquires xs)) all
 
 pub taken_leaves : (created : Bool) (w : When) (call : ℕ) (a : Answer) (read : ReadAnswer) (r next : Reads) → w.step ≡ r.own.waits.step → answered call a w.session w.now r.own ≡ Some (taken call read w.session w.now r.own) → left_by w call read r ≡ next → placed_by (moment created w) (answered call a w.session w.now r.own) r ≡ Some next

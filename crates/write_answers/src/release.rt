@@ -43,12 +43,7 @@ impl<'a> Restage for After<'a> {
 
 impl<'a> After<'a> {
     /// The stage that the request comes into, whose key this is; nothing where it stays.
-    fn stage_at(
-        &self,
-        alloc: Global,
-        ask: &Asked,
-        key: &Bytes,
-    ) -> Result<Option<Stage>, NoMemory>
+    fn stage_at(&self, alloc: Global, ask: &Asked, key: &Bytes) -> Result<Option<Stage>, NoMemory>
         requires { key.now ≡ ask_key ask.now }
         ensures { IfOk result (λ stage. stage ≡ again_stage self.now.header self.now.step (read_entries self.now.session self.now.read.now (option_copied self.now.write) self.now.table.now.entries) self.now.acquires.now ask.now) }
     {

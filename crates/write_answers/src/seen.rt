@@ -118,12 +118,7 @@ fn seen_blocked<'a>(
 }
 
 /// What is seen where the write failed, and these owners were shown.
-fn seen_failed<'a>(
-    owners: &[Owner],
-    write: &Write,
-    key: &Bytes,
-    table: &'a LeaseTable,
-) -> Seen<'a>
+fn seen_failed<'a>(owners: &[Owner], write: &Write, key: &Bytes, table: &'a LeaseTable) -> Seen<'a>
     ensures { (session : Option ℕ) → what result ≡ what_of (at (failed_entries session write.now owners.now table.now.entries) key.now) }
 {
     if is_lost(owners, write, key, table) {
