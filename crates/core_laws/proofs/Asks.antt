@@ -7,8 +7,6 @@ use Rattle.etcd_types.specs.declared.request.Request.TheVariants as request
 use Rattle.etcd_types.specs.Keys.{same}
 use Rattle.etcd_types.proofs.Bools.{and_both, or_left, or_right, or_true}
 use Rattle.proxy_model.specs.declared.lease.Entry.{Entry}
-use Rattle.proxy_model.specs.declared.lease.Phase.{Phase}
-use Rattle.proxy_model.specs.declared.lease.Phase.TheVariants.{Held, Writing, Leaving}
 use Rattle.proxy_model.specs.Keyed.{at}
 use Rattle.proxy_model.proofs.KeyedLaws.{at-with_at}
 use Rattle.wait_model.specs.declared.sending.Sending.{Sending}
@@ -26,7 +24,7 @@ use Rattle.read_model.specs.declared.asked.Asked.{Asked}
 use Rattle.read_model.specs.declared.asked.Stage.{Stage}
 use Rattle.read_model.specs.declared.asked.Stage.TheVariants as stage
 use Rattle.read_model.specs.Acquires.{is_acquiring, acquires_at, read_asked}
-use Rattle.read_model.specs.PlainRead.{Decision, ask_key, acquirable, held_turn, read_turn, decision, begun_under, in_stage, called}
+use Rattle.read_model.specs.PlainRead.{Decision, ask_key, acquirable, read_turn, decision, begun_under, in_stage, called}
 use Rattle.read_model.specs.Release.{stands, ask_stands}
 use Rattle.read_model.specs.State.{Moment, ground_of, on}
 use Rattle.read_model.specs.TakingOff.{is_writes}

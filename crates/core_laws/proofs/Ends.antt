@@ -11,6 +11,7 @@ use Rattle.etcd_types.specs.declared.record.Kv.{Kv}
 use Rattle.etcd_types.specs.Keys.{same}
 use Rattle.etcd_types.proofs.KeyOrder.{same-equal}
 use Rattle.etcd_types.proofs.Bools.{and_second, and_false, or_false}
+use Rattle.proxy_model.specs.Limits.{capped}
 use Rattle.proxy_model.specs.declared.lease.Entry.{Entry}
 use Rattle.proxy_model.specs.declared.ownership.Claim.{Claim}
 use Rattle.proxy_model.specs.declared.ownership.Claim.TheVariants.{Acquired, OwnedBy}
@@ -231,7 +232,7 @@ stage_frees : (s : Stage) → is_free s ≡ true → Frees (in_stage s)
 stage_frees s e = record { ticket = λ x. refl; free = λ x. e }
 
 lost_frees : (members step : ℕ) → Frees (lost_once members step)
-lost_frees members step = record { ticket = λ x. refl; free = λ x. by_test (λ (s : Stage). is_free s ≡ true) (nat_le members (x.losses + 1)) (stage.Replied verdict.Lost) (called step) (λ t. refl) (λ t. refl) }
+lost_frees members step = record { ticket = λ x. refl; free = λ x. by_test (λ (s : Stage). is_free s ≡ true) (nat_le members (capped (x.losses + 1))) (stage.Replied verdict.Lost) (called step) (λ t. refl) (λ t. refl) }
 
 pub acquire_is_lost : (c : Core) (m : Moment) (members n : ℕ) (k : List ℕ) → job_at n c.out ≡ Some (job.Acquire k) → Agrees c → Agrees (with_reads (call_gone n c) (acquire_lost members m k (reads_of c)))
 acquire_is_lost c m members n k f h =

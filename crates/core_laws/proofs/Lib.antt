@@ -15,6 +15,8 @@ pub mod Sends
 pub mod Middle
 pub mod Stepping
 pub mod Idle
+pub mod Prefixes
+pub mod Staying
 pub mod AskedReads
 pub mod Outcomes
 pub mod Start

@@ -8,6 +8,7 @@ use Rattle.etcd_types.specs.declared.watch.Change.{Change}
 use Rattle.etcd_types.specs.declared.watch.Change.TheVariants as change
 use Rattle.etcd_types.specs.declared.watch.Event.{Event}
 use Rattle.etcd_types.specs.Keys.{same}
+use Rattle.proxy_model.specs.Limits.{capped}
 use Rattle.proxy_model.specs.declared.lease.Entry.{Entry}
 use Rattle.proxy_model.specs.declared.session.Standing.{Standing}
 use Rattle.proxy_model.specs.Foreign.{revoke_word}
@@ -74,12 +75,12 @@ over_mid most now c h = record {
   agrees = over_agrees (moment (record c { seat = None }) now) c (unseated c h.agrees);
 }
 
-deadline_mid : (most now : ℕ) (c : Core) → Mid most c → Mid most (deadline_passed now c)
+pub deadline_mid : (most now : ℕ) (c : Core) → Mid most c → Mid most (deadline_passed now c)
 deadline_mid most now c h = by_test (Mid most) (seat_is_over c.seat now) (without_session now c) c (λ t. over_mid most now c h) (λ t. h)
 
 -- Requests that end.
 
-times_mid : (most now : ℕ) (c : Core) → Mid most c → Mid most (requests_timed_out now c)
+pub times_mid : (most now : ℕ) (c : Core) → Mid most c → Mid most (requests_timed_out now c)
 times_mid most now c h = record {
   given = h.given;
   reads = kept.taking_off_keeps (is_standing c.seat) (moment c now) (times_out now) (map (timed_out_ask now) c.asks) (reads_of c) h.reads.ground;
@@ -288,8 +289,8 @@ caller_mid most c n k t f r h = record {
 
 lost_rests : (members step : ℕ) → Rests (lost_once members step)
 lost_rests members step = record {
-  frees = record { ticket = λ x. refl; free = λ x. by_test (λ (s : Stage). is_free s ≡ true) (nat_le members (x.losses + 1)) (stage.Replied verdict.Lost) (called step) (λ t. refl) (λ t. refl) };
-  stand = λ x ticket e a. by_test (λ (s : Stage). stands ticket e a s ≡ true) (nat_le members (x.losses + 1)) (stage.Replied verdict.Lost) (called step) (λ t. refl) (λ t. refl);
+  frees = record { ticket = λ x. refl; free = λ x. by_test (λ (s : Stage). is_free s ≡ true) (nat_le members (capped (x.losses + 1))) (stage.Replied verdict.Lost) (called step) (λ t. refl) (λ t. refl) };
+  stand = λ x ticket e a. by_test (λ (s : Stage). stands ticket e a s ≡ true) (nat_le members (capped (x.losses + 1))) (stage.Replied verdict.Lost) (called step) (λ t. refl) (λ t. refl);
 }
 
 replied_rests : (v : Verdict) → Rests (in_stage (stage.Replied v))
@@ -297,8 +298,8 @@ replied_rests v = record { frees = record { ticket = λ x. refl; free = λ x. re
 
 stale_rests : (members step : ℕ) → Rests (stale_once members step)
 stale_rests members step = record {
-  frees = record { ticket = λ x. refl; free = λ x. by_test (λ (s : Stage). is_free s ≡ true) (nat_le (stales_limit members) (x.stales + 1)) (stage.Replied verdict.Stale) (called step) (λ t. refl) (λ t. refl) };
-  stand = λ x ticket e a. by_test (λ (s : Stage). stands ticket e a s ≡ true) (nat_le (stales_limit members) (x.stales + 1)) (stage.Replied verdict.Stale) (called step) (λ t. refl) (λ t. refl);
+  frees = record { ticket = λ x. refl; free = λ x. by_test (λ (s : Stage). is_free s ≡ true) (nat_le (stales_limit members) (capped (x.stales + 1))) (stage.Replied verdict.Stale) (called step) (λ t. refl) (λ t. refl) };
+  stand = λ x ticket e a. by_test (λ (s : Stage). stands ticket e a s ≡ true) (nat_le (stales_limit members) (capped (x.stales + 1))) (stage.Replied verdict.Stale) (called step) (λ t. refl) (λ t. refl);
 }
 
 lost_ask_rests : (k : CallKind) (o : OutCall) (c : Core) → Rests (lost_ask k o c)

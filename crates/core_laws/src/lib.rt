@@ -3,6 +3,7 @@
 
 ghost use Rattle.core_laws.specs.Kept.{StepsKeep, RunsKeep, RunsLeaveNoneIdle, RunsShareKeepalives};
 ghost use Rattle.core_laws.specs.Laws.{NoRequestIsIdle, StartFits, HeldReadIsReplied, AcquirableReadAcquires};
+ghost use Rattle.core_laws.specs.Staying.{StepsStay};
 ghost use Rattle.core_laws.specs.Outcomes.{WornDoesNothing, StepsGive};
 
 /// All that is to hold of a proxy holds at its start, and where it holds, each request that has no reply waits for something.
@@ -30,4 +31,9 @@ pub fn steps_keep()
     ensures runs { RunsKeep }
     ensures none_is_idle { RunsLeaveNoneIdle }
     ensures keepalives_share { RunsShareKeepalives }
+{}
+
+/// Every step leaves the settings, the leasing prefix, and the leasing stream once there is one.
+pub fn steps_stay()
+    ensures { StepsStay }
 {}

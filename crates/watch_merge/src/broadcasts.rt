@@ -1,15 +1,17 @@
 ghost use Rattle.std.specs.Prelude.{◌≡◌, ◌<◌, ◌+◌, ◌^◌, false, is_some, None};
+ghost use Rattle.std.specs.Option.{option_map};
 ghost use Rattle.watch_model.specs.State.{first_broadcasts};
 ghost use Rattle.watch_model.specs.Lookups.{stream_at, watch_at};
 ghost use Rattle.watch_model.specs.Merging.{merged};
 ghost use Rattle.watch_model.specs.Cuts.{cut_at, cut_answer};
 
 use crate::merging::{close_others, has_twins, move_members};
+use crate::phases::phase_of;
 use crate::watches::place_of_watch;
 use etcd_types::KeyRange;
 use std::alloc::Global;
 use std::marker::Model;
-use watch_model::Stream;
+use watch_model::{Stream, StreamPhase};
 use watch_queue::{Watching, renumber};
 use watch_streams::{is_closing, place_of, reopen};
 
@@ -66,6 +68,13 @@ impl Broadcasts {
             None => false,
             Some(_) => true,
         }
+    }
+
+    /// How far the opening of the stream with this number has come, or nothing where it isn't known.
+    pub fn phase(&self, stream: u64) -> Option<StreamPhase>
+        ensures { result ≡ option_map (λ s. s.phase) (stream_at stream self.now.streams) }
+    {
+        phase_of(stream, &self.streams)
     }
 
     /// How many stream numbers were given.

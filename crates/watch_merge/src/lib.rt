@@ -7,6 +7,7 @@ mod broadcasts;
 mod fault;
 mod leavers;
 mod merging;
+mod phases;
 mod watches;
 
 pub use broadcasts::Broadcasts;
