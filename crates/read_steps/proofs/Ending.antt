@@ -1,16 +1,13 @@
 -- Requests that end without an answer: where none passes nothing changes, and where one does by its ticket, what ends is its own.
-use Rattle.std.proofs.Common.{◌≡◌, ℕ, Bool, true, false, not, cond, ◌&&◌, ◌||◌, ◌==◌, List, [], ◌∷◌, map, filter, Option, None, Some, refl, sym, ◌∙◌, ap, arith}
-use Rattle.std.specs.List.{list_any, list_all}
+use Rattle.std.proofs.Common.{◌≡◌, ℕ, Bool, true, false, not, cond, ◌&&◌, ◌||◌, ◌==◌, List, [], ◌∷◌, map, None, Some, refl, sym, ◌∙◌, ap, arith}
+use Rattle.std.specs.List.{list_any}
 use Rattle.std.proofs.lemmas.Bool.Decides.{nat_tests}
 use Rattle.etcd_types.specs.Keys.{same}
 use Rattle.etcd_types.proofs.Bools.{and_first, and_second, or_first, or_second}
-use Rattle.proxy_model.specs.Keyed.{Keyed, at}
-use Rattle.wait_model.specs.Edits.{without}
+use Rattle.proxy_model.specs.Keyed.{at}
 use Rattle.wait_model.specs.Endings.{forgotten}
 use Rattle.wait_model.specs.State.{Ownership}
-use Rattle.read_model.specs.declared.acquire.Acquire.{Acquire}
 use Rattle.read_model.specs.declared.asked.Asked.{Asked}
-use Rattle.read_model.specs.declared.asked.Stage.{Stage}
 use Rattle.read_model.specs.declared.asked.Stage.TheVariants as stage
 use Rattle.read_model.specs.declared.asked.Verdict.TheVariants as verdict
 use Rattle.read_model.specs.Acquires.{is_acquiring, acquires_at}

@@ -1,5 +1,5 @@
 -- The release in place, and what a release leaves where every read stands.
-use Rattle.std.proofs.Common.{◌≡◌, ℕ, Bool, true, false, not, cond, ◌&&◌, List, [], ◌∷◌, map, filter, refl, sym, ◌∙◌, ap}
+use Rattle.std.proofs.Common.{◌≡◌, ℕ, Bool, true, false, cond, List, [], ◌∷◌, map, filter, refl, sym, ◌∙◌, ap}
 use Rattle.std.specs.List.{list_all}
 use Rattle.etcd_types.proofs.Bools.{and_first, and_second, and_both}
 use Rattle.proxy_model.specs.declared.lease.Entry.{Entry}
@@ -9,11 +9,11 @@ use Rattle.read_model.specs.declared.acquire.Acquire.{Acquire}
 use Rattle.read_model.specs.declared.asked.Asked.{Asked}
 use Rattle.read_model.specs.Fits.{AllStand}
 use Rattle.read_model.specs.PlainRead.{called, in_stage}
-use Rattle.read_model.specs.Release.{ask_stands, in_place, released, released_in_place}
-use Rattle.read_model.specs.State.{Reads, Moment, Ground, ground_of, on}
+use Rattle.read_model.specs.Release.{ask_stands, in_place, released}
+use Rattle.read_model.specs.State.{Moment, Ground, on}
 use Rattle.read_laws.proofs.InPlace.{plain_in_place}
 use Rattle.read_core.specs.Falls.{fallen}
-use Rattle.read_steps.specs.Parts.{ground, reads}
+use Rattle.read_steps.specs.Parts.{reads}
 
 -- the release that the code does
 pub fell : (m : Moment) (es : Keyed Entry) (w : Waits) (acquires : Keyed Acquire) (xs : List Asked) → reads es w acquires (map (fallen w.step es acquires) xs) ≡ released false m (reads es w acquires xs)

@@ -1,5 +1,5 @@
 -- A request that is asked, and taken back where memory was wanting.
-use Rattle.std.proofs.Common.{◌≡◌, ℕ, Bool, true, false, not, cond, ◌==◌, ◌&&◌, ◌||◌, nat_le, IsTrue, List, [], ◌∷◌, ◌++◌, filter, Option, None, Some, refl, sym, ◌∙◌, ap, arith}
+use Rattle.std.proofs.Common.{◌≡◌, ℕ, Bool, true, false, not, cond, ◌==◌, ◌&&◌, IsTrue, List, [], ◌∷◌, ◌++◌, Option, None, Some, refl, sym, ◌∙◌, ap, arith}
 use Rattle.std.specs.Prelude.{unwrap_or}
 use Rattle.std.proofs.lemmas.Bool.Decides.{nat_tests}
 use Rattle.etcd_types.specs.Keys.{same, is_empty}
@@ -11,7 +11,6 @@ use Rattle.proxy_model.specs.Keyed.{Keyed, at, with_at, is_in_order}
 use Rattle.proxy_model.specs.Prefixes.{leasing_range}
 use Rattle.proxy_model.proofs.KeyedLaws.{at-with_at, in_order-with_at, same_keyed}
 use Rattle.wait_model.specs.Leaving.{moment_or_zero}
-use Rattle.wait_model.specs.State.{Waits, owned}
 use Rattle.read_model.specs.declared.asked.Asked.{Asked}
 use Rattle.read_model.specs.PlainRead.{key_of, is_ownable}
 use Rattle.core_model.specs.Asking.{is_leased_read, is_plain_request}

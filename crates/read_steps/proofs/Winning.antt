@@ -16,7 +16,6 @@ use Rattle.proxy_model.specs.LeaseTable.{is_writing}
 use Rattle.proxy_model.specs.Snapshot.{plain_body}
 use Rattle.proxy_model.proofs.KeyedLaws.{at-with_at, same-turned}
 use Rattle.wait_model.specs.Asked.{acquire_ended}
-use Rattle.read_model.specs.declared.acquire.Acquire.{Acquire}
 use Rattle.read_model.specs.declared.asked.Asked.{Asked}
 use Rattle.read_model.specs.declared.asked.Stage.{Stage}
 use Rattle.read_model.specs.declared.asked.Stage.TheVariants as stage

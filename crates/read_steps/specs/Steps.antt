@@ -13,6 +13,7 @@ use Rattle.read_model.specs.Fits.{ReadsOk}
 use Rattle.read_model.specs.PlainRead.{in_stage}
 use Rattle.read_model.specs.State.{Reads, Moment}
 use Rattle.read_model.specs.TakingOff.{taken_off}
+use Rattle.write_answers.specs.Answered.{Leaves}
 use Rattle.core_model.specs.ClockWork.{times_out, timed_out_ask}
 use Rattle.core_model.specs.Lookups.{has_ticket, without_ask}
 
@@ -57,6 +58,10 @@ abbrev pub GivesReads : Result Bool NotShape → Reads → Option AfterAcquire �
 GivesReads (Ok ends) r after = after ≡ Some (record { reads = r; ends = ends })
 GivesReads (Err Shape) r after = after ≡ None
 GivesReads (Err NoMemory) r after = Unit {0}
+
+-- what stands after an answer to a write's call or an entry's, by the same
+abbrev pub GivesWrite : Result (Unit {0}) NotShape → Reads → Option Reads → Type 0
+GivesWrite = Leaves
 
 -- what stands after a reply to an acquire; the session doesn't end by it
 abbrev pub Claims : Result (Unit {0}) NotShape → Reads → Option AfterAcquire → Type 0

@@ -3,6 +3,7 @@
 #![tactic(auto)]
 
 mod acquires;
+mod answers;
 mod asking;
 mod ends;
 mod moment;

@@ -1,5 +1,5 @@
 -- What falls is the acquire of the request's own key.
-use Rattle.std.proofs.Common.{◌≡◌, sym, ◌∙◌, ap}
+use Rattle.std.proofs.Common.{sym, ◌∙◌, ap}
 use Rattle.proxy_model.specs.Keyed.{Keyed}
 use Rattle.std.specs.Prelude.{Bool}
 use Rattle.read_steps.proofs.Falling.{due_falls, none_falls}

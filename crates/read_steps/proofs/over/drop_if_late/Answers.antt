@@ -1,5 +1,5 @@
 -- Where its time hasn't passed nothing falls.
-use Rattle.std.proofs.Common.{◌≡◌, Bool, sym, ◌∙◌, ap}
+use Rattle.std.proofs.Common.{Bool, sym, ◌∙◌, ap}
 use Rattle.proxy_model.specs.Keyed.{Keyed}
 use Rattle.wait_model.specs.Edits.{without}
 use Rattle.core_model.specs.ClockWork.{times_out}

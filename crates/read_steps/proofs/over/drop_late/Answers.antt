@@ -1,5 +1,5 @@
 -- One more falls, where its time has passed.
-use Rattle.std.proofs.Common.{◌≡◌, ℕ, Bool, ◌+◌, List, map, drop, sym, ◌∙◌, ap}
+use Rattle.std.proofs.Common.{ℕ, Bool, ◌+◌, List, map, drop, sym, ◌∙◌, ap}
 use Rattle.core_model.specs.ClockWork.{times_out}
 use Rattle.proxy_model.specs.Keyed.{Keyed}
 use Rattle.read_model.specs.declared.acquire.Acquire.{Acquire}

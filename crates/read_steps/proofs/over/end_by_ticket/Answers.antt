@@ -1,5 +1,5 @@
 -- What ends with the one of this ticket is its own; where none is known nothing ends.
-use Rattle.std.proofs.Common.{true, false, sym, ◌∙◌, ap}
+use Rattle.std.proofs.Common.{sym, ◌∙◌, ap}
 use Rattle.read_model.specs.State.{Ground}
 use Rattle.read_steps.specs.Parts.{reads}
 use Rattle.read_steps.proofs.Ending.{one_ended, nobody_ended}

@@ -1,6 +1,5 @@
 -- Its write is forgotten and its acquire falls; where it has neither, nothing changes.
-use Rattle.std.proofs.Common.{◌≡◌, true, false, sym, ◌∙◌, ap}
-use Rattle.proxy_model.specs.Keyed.{Keyed}
+use Rattle.std.proofs.Common.{sym, ◌∙◌, ap}
 use Rattle.read_model.specs.State.{Ground}
 use Rattle.wait_model.specs.Edits.{without}
 use Rattle.wait_model.specs.State.{Waits}

@@ -1,5 +1,5 @@
 -- One more is forgotten, where its time has passed.
-use Rattle.std.proofs.Common.{◌≡◌, ℕ, ◌+◌, List, map, drop, sym, ◌∙◌, ap}
+use Rattle.std.proofs.Common.{ℕ, ◌+◌, List, map, drop, sym, ◌∙◌, ap}
 use Rattle.core_model.specs.ClockWork.{times_out}
 use Rattle.read_model.specs.declared.asked.Asked.{Asked}
 use Rattle.read_model.specs.TakingOff.{forgotten_all}

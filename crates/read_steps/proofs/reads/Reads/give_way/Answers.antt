@@ -1,13 +1,11 @@
 -- Part by part: what is this proxy's own is given up, and the key's reads have their stages.
-use Rattle.std.proofs.Common.{◌≡◌, ℕ, Bool, true, cond, if◌then◌else◌, List, map, Option, None, Some, is_some, sym, ◌∙◌, ap, subst}
-use Rattle.etcd_types.specs.declared.record.Header.{Header}
-use Rattle.etcd_types.specs.declared.record.Kv.{Kv}
+use Rattle.std.proofs.Common.{◌≡◌, true, map, Option, None, is_some, sym, ◌∙◌, ap, subst}
 use Rattle.proxy_model.specs.declared.lease.Entry.{Entry}
-use Rattle.proxy_model.specs.declared.ownership.Claim.TheVariants.{Acquired, OwnedBy}
+use Rattle.proxy_model.specs.declared.ownership.Claim.TheVariants.{OwnedBy}
 use Rattle.proxy_model.specs.declared.ownership.Owner.{Owner}
-use Rattle.proxy_model.specs.Keyed.{at, with_at}
+use Rattle.proxy_model.specs.Keyed.{at}
 use Rattle.known_asks.specs.Changes.{staged_by}
-use Rattle.read_core.specs.Readers.{readers_stage, joined_stage}
+use Rattle.read_core.specs.Readers.{readers_stage}
 use Rattle.read_model.specs.Acquires.{acquire_done, found_own}
 use Rattle.read_model.specs.Fits.{ReadsOk}
 use Rattle.read_model.specs.PlainRead.{shown, called}

@@ -1,5 +1,5 @@
 -- What ends with the request that left, and then the release; where nothing else does its own row is all that goes.
-use Rattle.std.proofs.Common.{false, sym, ◌∙◌, ap, subst}
+use Rattle.std.proofs.Common.{sym, ◌∙◌, ap, subst}
 use Rattle.read_model.specs.Fits.{AllStand}
 use Rattle.read_model.specs.State.{Reads, ground_of}
 use Rattle.core_model.specs.Lookups.{has_ticket, without_ask}

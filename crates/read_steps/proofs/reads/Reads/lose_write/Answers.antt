@@ -2,7 +2,7 @@
 use Rattle.std.proofs.Common.{refl, ◌∙◌, ap, map}
 use Rattle.wait_model.specs.declared.wait.Settled.{Settled}
 use Rattle.wait_model.specs.Endings.{lost}
-use Rattle.read_model.specs.State.{Reads, ground_of}
+use Rattle.read_model.specs.State.{ground_of}
 use Rattle.read_model.specs.WriteAnswers.{ending, settled_ask, wait_lost}
 use Rattle.read_steps.specs.Parts.{reads}
 use Rattle.read_steps.proofs.Standing.{released_parts}

@@ -1,5 +1,5 @@
 -- The acquire is over, and then the session is, or the reads are released.
-use Rattle.std.proofs.Common.{true, false, refl, sym, ◌∙◌, ap}
+use Rattle.std.proofs.Common.{refl, sym, ◌∙◌, ap}
 use Rattle.read_model.specs.Acquires.{acquire_gone, acquire_refused}
 use Rattle.read_model.specs.SessionEnd.{session_over}
 use Rattle.read_model.specs.State.{Reads, ground_of}

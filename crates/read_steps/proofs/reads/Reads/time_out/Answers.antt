@@ -1,5 +1,5 @@
 -- Part by part, and then the release; where none is late nothing changes.
-use Rattle.std.proofs.Common.{false, sym, ◌∙◌, ap, subst, map}
+use Rattle.std.proofs.Common.{sym, ◌∙◌, ap, subst, map}
 use Rattle.core_model.specs.ClockWork.{times_out, timed_out_ask}
 use Rattle.read_model.specs.Fits.{AllStand}
 use Rattle.read_model.specs.State.{Reads, Moment, ground_of}

@@ -1,18 +1,15 @@
 -- Part by part: the key has its entry, and its reads their stages.
-use Rattle.std.proofs.Common.{◌≡◌, ℕ, Bool, true, cond, if◌then◌else◌, List, map, Option, None, Some, is_some, sym, ◌∙◌, ap, subst}
-use Rattle.etcd_types.specs.declared.record.Header.{Header}
-use Rattle.etcd_types.specs.declared.record.Kv.{Kv}
+use Rattle.std.proofs.Common.{◌≡◌, true, map, Some, is_some, sym, ◌∙◌, ap, subst}
 use Rattle.proxy_model.specs.declared.lease.Entry.{Entry}
-use Rattle.proxy_model.specs.declared.ownership.Claim.TheVariants.{Acquired, OwnedBy}
-use Rattle.proxy_model.specs.declared.ownership.Owner.{Owner}
+use Rattle.proxy_model.specs.declared.ownership.Claim.TheVariants.{Acquired}
 use Rattle.proxy_model.specs.Keyed.{at, with_at}
 use Rattle.known_asks.specs.Changes.{staged_by}
 use Rattle.read_core.specs.Readers.{readers_stage, joined_stage}
-use Rattle.read_model.specs.Acquires.{acquire_done, found_own}
+use Rattle.read_model.specs.Acquires.{acquire_done}
 use Rattle.read_model.specs.Fits.{ReadsOk}
-use Rattle.read_model.specs.PlainRead.{shown, called}
+use Rattle.read_model.specs.PlainRead.{shown}
 use Rattle.read_model.specs.State.{Reads, Moment}
-use Rattle.read_steps.specs.Parts.{reads, held_entries}
+use Rattle.read_steps.specs.Parts.{reads}
 use Rattle.read_steps.proofs.Winning.{no_entry, won_reads}
 use Rattle.read_steps.proofs.reads.Reads.win.Goals as goal
 
