@@ -27,9 +27,9 @@ pub(crate) fn session_to_send(ttl: u64, session: &Session) -> ToSend
 pub(crate) fn write_to_send(
     alloc: Global,
     namespace: &Namespace,
-    write: Option<Due>,
+    write: &Option<Due>,
 ) -> Result<Option<ToSend>, NoMemory>
-    ensures { IfOk result (λ send. send ≡ write_to_send namespace.now write) }
+    ensures { IfOk result (λ send. send ≡ write_to_send namespace.now write.now) }
 {
     match write {
         None => Ok(None),

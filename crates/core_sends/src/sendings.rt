@@ -65,10 +65,10 @@ pub fn to_send(
     namespace: &Namespace,
     prefix: &Bytes,
     ttl: u64,
-    write: Option<Due>,
+    write: &Option<Due>,
     job: DueJob<'_>,
 ) -> Result<Option<ToSend>, NoMemory>
-    ensures { IfOk result (λ send. send ≡ to_send namespace.now prefix.now ttl write (job_seen job.entry)) }
+    ensures { IfOk result (λ send. send ≡ to_send namespace.now prefix.now ttl write.now (job_seen job.entry)) }
 {
     match job {
         DueJob::Session(session) => Ok(Some(session_to_send(ttl, session))),
