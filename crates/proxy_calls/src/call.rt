@@ -1,0 +1,48 @@
+ghost use Rattle.std.specs.Prelude.{◌≡◌, ◌≤◌, IfOk};
+ghost use Rattle.work_model.specs.Calls.{Calls, call_of, lost_on};
+
+use crate::hear::hear;
+use api_request::encode_request;
+use etcd_types::{Answer, Bytes, NoMemory, Request};
+use http_wire::write_call;
+use outside::{Link, LinkFault};
+use std::alloc::Global;
+use work_model::CallFault;
+
+/// The bytes of a request's call to a host.
+pub fn call_bytes(alloc: Global, host: &[u8], request: &Request) -> Result<Bytes, NoMemory>
+    ensures { IfOk result (λ bytes. bytes ≡ call_of host.now request.now) }
+{
+    let (path, body) = encode_request(alloc, request)?;
+    Ok(write_call(alloc, host, path.as_slice(), body.as_slice())?)
+}
+
+/// What a link's failure says of its call.
+fn lost_on(fault: LinkFault) -> CallFault
+    ensures { result ≡ lost_on fault }
+{
+    match fault {
+        LinkFault::Failed => CallFault::Lost,
+        LinkFault::NoMemory => CallFault::NoMemory,
+    }
+}
+
+/// Makes one call of a request to a member, and says what its answer is. For want of memory the call may not be made.
+pub fn make_call<L: Link>(
+    alloc: Global,
+    link: &mut L,
+    host: &[u8],
+    member: u32,
+    request: &Request,
+) -> Result<Answer, CallFault>
+    ensures kept { L.faults link.old ≤ L.faults link.new }
+    ensures calls { Calls host.now member request.now (L.made link.old) (L.made link.new) (L.faults link.old) (L.faults link.new) result }
+{
+    let Ok(bytes) = call_bytes(alloc, host, request) else {
+        return Err(CallFault::NoMemory);
+    };
+    match link.call(alloc, member, bytes.as_slice()) {
+        Ok(answer) => hear(alloc, request, answer.as_slice()),
+        Err(fault) => Err(lost_on(fault)),
+    }
+}

@@ -1,0 +1,9 @@
+//! Calls of a proxy to the members of its cluster: one request, one call on the link, and what its answer says. What that is stands in
+//! `work_model`.
+#![tactic(auto)]
+
+mod call;
+mod hear;
+
+pub use call::{call_bytes, make_call};
+pub use work_model::CallFault;

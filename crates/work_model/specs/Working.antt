@@ -1,0 +1,210 @@
+-- A worker: it draws what is due, one job after the other, and makes it. A call is made once, and its answer or its loss is fed;
+-- a stream is handed over to be followed, or is cut; a closing needs nothing. What is due is the core's own rule.
+use Rattle.std.specs.Prelude.{◌≡◌, ℕ, ◌+◌, ◌-◌, ◌<◌, ◌≤◌, Bool, true, false, List, [], ◌∷◌, ◌++◌, Option, None, Some, Result, Ok, Err, ◌⊎◌, ⊤, slice_get, unwrap_or}
+use Rattle.outside.specs.Calls.{Adds as Tells, LinkCall, Called, Begun, Handed}
+use Rattle.outside.specs.Faults.{Rose}
+use Rattle.outside.specs.declared.link.LinkFault.{LinkFault}
+use Rattle.outside.specs.declared.link.LinkFault.TheVariants as link
+use Rattle.outside.specs.declared.parts.Part.{Part}
+use Rattle.outside.specs.declared.parts.Part.TheVariants.{Follower}
+use Rattle.etcd_types.specs.declared.request.Request.{Request}
+use Rattle.etcd_types.specs.declared.answer.Answer.{Answer}
+use Rattle.turn_hub.specs.History.{entry_of}
+use Rattle.core_model.specs.declared.event.CoreEvent.{CoreEvent}
+use Rattle.core_model.specs.declared.event.CoreEvent.TheVariants.{Answer as Answered, Lost, Cut, Work}
+use Rattle.core_model.specs.declared.event.Job.{Job}
+use Rattle.core_model.specs.declared.event.Job.TheVariants.{Call, Begin, Close}
+use Rattle.core_model.specs.declared.event.Outcome.{Outcome}
+use Rattle.core_model.specs.declared.event.Outcome.TheVariants.{Job as Due}
+use Rattle.core_model.specs.declared.event.StepFault.{StepFault}
+use Rattle.core_model.specs.declared.event.StepFault.TheVariants as step
+use Rattle.serve_model.specs.Steps.{Step, Every, Adds, IsOfRest}
+use Rattle.serve_model.specs.declared.fault.TurnFault.{TurnFault}
+use Rattle.serve_model.specs.declared.fault.TurnFault.TheVariants as turn
+use Rattle.work_model.specs.declared.ends.WorkEnd.{WorkEnd}
+use Rattle.work_model.specs.declared.ends.WorkEnd.TheVariants as how
+use Rattle.work_model.specs.declared.fault.CallFault.{CallFault}
+use Rattle.work_model.specs.declared.fault.CallFault.TheVariants as fault
+use Rattle.work_model.specs.Calls.{call_of, Says, Unclear}
+
+-- the host of a member, from 1 on
+abbrev pub host_of : List (List ℕ) → ℕ → List ℕ
+host_of hosts member = unwrap_or (slice_get hosts (member - 1)) []
+
+-- memory was wanting for the step
+abbrev pub is_full : Result Outcome TurnFault → Bool
+is_full (Err (turn.Core step.NoMemory)) = true
+is_full _ = false
+
+-- ---- steps
+
+-- a step on this event, whatever it gives; or the hub makes no more steps, which then is the end
+pub data Fed (event : CoreEvent) (end : Option WorkEnd) : List Step → Option WorkEnd → Type 0 where
+  stepped : (now : ℕ) (given : Result Outcome StepFault) → Fed event end (entry_of event now given ∷ []) end
+  worn : Fed event end [] (Some how.Worn)
+
+-- the answer to a call is fed; where the core has no room for it the call counts as lost
+pub data Reports (call : ℕ) (answer : Answer) : List Step → Option WorkEnd → Type 0 where
+  taken : (now : ℕ) (given : Result Outcome StepFault) → (given ≡ Err step.NoMemory → ⊥) → Reports call answer (entry_of (Answered call answer) now given ∷ []) None
+  full : (now : ℕ) (steps : List Step) (end : Option WorkEnd) → Fed (Lost call) (Some how.NoMemory) steps end
+      → Reports call answer (entry_of (Answered call answer) now (Err step.NoMemory) ∷ steps) end
+  worn : Reports call answer [] (Some how.Worn)
+
+-- ---- one job
+
+-- why a call that was made counts as lost: the link failed, or what came says nothing clear
+abbrev pub Loses : Request → Result (List ℕ) LinkFault → Type 0
+Loses request (Ok all) = Unclear request all
+Loses request (Err link.Failed) = ⊤
+Loses request (Err link.NoMemory) = ⊥
+
+-- the end by a call that has no answer, if it is one
+abbrev pub lost_end : CallFault → Option WorkEnd
+lost_end fault.Lost = None
+lost_end fault.NoMemory = Some how.NoMemory
+
+-- this call was made, or none
+abbrev pub AtMost : ℕ → List ℕ → List LinkCall → Type 0
+AtMost member bytes calls = (calls ≡ []) ⊎ ((came : Result (List ℕ) LinkFault) × (calls ≡ Called member bytes came ∷ []))
+
+-- a stream that is to be followed, with a place of its own
+abbrev pub follower : {P C : Type 0} → P → ℕ → ℕ → List ℕ → Part P C
+follower place stream member bytes = Follower place (record { stream = stream; member = member; call = bytes })
+
+-- A call is made: the steps, the calls on the link, and an end, where it is one
+pub data CallDoes (host : List ℕ) (call member : ℕ) (request : Request) : List Step → List LinkCall → Option WorkEnd → Type 0 where
+  answered : (answer : Answer) (all : List ℕ) (steps : List Step) (end : Option WorkEnd) → Says request all (Ok answer) → Reports call answer steps end
+      → CallDoes host call member request steps (Called member (call_of host request) (Ok all) ∷ []) end
+  lost : (came : Result (List ℕ) LinkFault) (steps : List Step) (end : Option WorkEnd) → Loses request came → Fed (Lost call) None steps end
+      → CallDoes host call member request steps (Called member (call_of host request) came ∷ []) end
+  wanting : (calls : List LinkCall) (steps : List Step) (end : Option WorkEnd) → AtMost member (call_of host request) calls → Fed (Lost call) (Some how.NoMemory) steps end
+      → CallDoes host call member request steps calls end
+
+-- A stream is handed over to be followed: the steps, what was handed over, and an end, where it is one. `homed` says which places
+-- are of this hub
+pub data BeginDoes {P C : Type 0} (host : List ℕ) (homed : P → Type 0) (stream member : ℕ) (request : Request) : List Step → List (Handed (Part P C)) → Option WorkEnd → Type 0 where
+  begun : (place : P) → homed place
+      → BeginDoes host homed stream member request [] (record { part = follower place stream member (call_of host request); started = true } ∷ []) None
+  refused : (place : P) (steps : List Step) (end : Option WorkEnd) → homed place → Fed (Cut stream) None steps end
+      → BeginDoes host homed stream member request steps (record { part = follower place stream member (call_of host request); started = false } ∷ []) end
+  unsent : (steps : List Step) (end : Option WorkEnd) → Fed (Cut stream) (Some how.NoMemory) steps end → BeginDoes host homed stream member request steps [] end
+
+-- What is done for a job. `hosts` are those of the members. A closing is done by the stream's own end
+pub data Does {P C : Type 0} (hosts : List (List ℕ)) (homed : P → Type 0) : Job → List Step → List LinkCall → List (Handed (Part P C)) → Option WorkEnd → Type 0 where
+  called : (call member ticket : ℕ) (request : Request) (steps : List Step) (calls : List LinkCall) (end : Option WorkEnd)
+      → CallDoes (host_of hosts member) call member request steps calls end → Does hosts homed (Call call member ticket request) steps calls [] end
+  begun : (stream member : ℕ) (request : Request) (steps : List Step) (handed : List (Handed (Part P C))) (end : Option WorkEnd)
+      → BeginDoes (host_of hosts member) homed stream member request steps handed end → Does hosts homed (Begin stream member request) steps [] handed end
+  closed : (stream : ℕ) → Does hosts homed (Close stream) [] [] [] None
+
+-- ---- what is due
+
+-- the end by a fault of a step, or of a rest
+abbrev pub ended_by : TurnFault → WorkEnd
+ended_by (turn.Core step.NoMemory) = how.NoMemory
+ended_by _ = how.Worn
+
+-- nothing was due so often, and each time it rested. `rests` are the events that a rest may step on
+pub data Idles (rests : CoreEvent → Type 0) : List Step → Type 0 where
+  none : Idles rests []
+  more : (steps : List Step) (now : ℕ) (rested : List Step) → Idles rests steps → Every (λ e. rests e.event) rested
+      → Idles rests (steps ++ (entry_of Work now (Ok (Due None)) ∷ rested))
+
+-- what is due is drawn, once something is; or nothing is drawn any more
+pub data Draws (rests : CoreEvent → Type 0) : List Step → Result Job WorkEnd → Type 0 where
+  drew : (idle : List Step) (now : ℕ) (job : Job) → Idles rests idle → Draws rests (idle ++ (entry_of Work now (Ok (Due (Some job))) ∷ [])) (Ok job)
+  restless : (idle : List Step) (now : ℕ) (rested : List Step) (fault : TurnFault) → Idles rests idle → Every (λ e. rests e.event) rested → IsOfRest fault
+      → Draws rests (idle ++ (entry_of Work now (Ok (Due None)) ∷ rested)) (Err (ended_by fault))
+  worn : (idle : List Step) (now : ℕ) → Idles rests idle → Draws rests (idle ++ (entry_of Work now (Err step.Worn) ∷ [])) (Err how.Worn)
+  full : (idle : List Step) (now : ℕ) → Idles rests idle → Draws rests (idle ++ (entry_of Work now (Err step.NoMemory) ∷ [])) (Err how.NoMemory)
+  late : (idle : List Step) → Idles rests idle → Draws rests idle (Err how.Worn)
+
+-- ---- all of them
+
+-- so many jobs were drawn and done, and it goes on
+pub data Working {P C : Type 0} (hosts : List (List ℕ)) (homed : P → Type 0) (rests : CoreEvent → Type 0) : ℕ → List Step → List LinkCall → List (Handed (Part P C)) → Type 0 where
+  begin : Working hosts homed rests 0 [] [] []
+  more : (jobs : ℕ) (steps : List Step) (calls : List LinkCall) (handed : List (Handed (Part P C))) (job : Job) (drawn steps' : List Step) (calls' : List LinkCall)
+      (handed' : List (Handed (Part P C))) → Working hosts homed rests jobs steps calls handed → Draws rests drawn (Ok job) → Does hosts homed job steps' calls' handed' None
+      → Working hosts homed rests (jobs + 1) (steps ++ (drawn ++ steps')) (calls ++ calls') (handed ++ handed')
+
+-- a worker's turns, so many at the most
+pub data Works {P C : Type 0} (hosts : List (List ℕ)) (homed : P → Type 0) (rests : CoreEvent → Type 0) (turns : ℕ) : List Step → List LinkCall → List (Handed (Part P C)) → WorkEnd → Type 0 where
+  turned : (steps : List Step) (calls : List LinkCall) (handed : List (Handed (Part P C))) → Working hosts homed rests turns steps calls handed
+      → Works hosts homed rests turns steps calls handed how.Turns
+  undrawn : (jobs : ℕ) (steps : List Step) (calls : List LinkCall) (handed : List (Handed (Part P C))) (drawn : List Step) (end : WorkEnd) → jobs < turns
+      → Working hosts homed rests jobs steps calls handed → Draws rests drawn (Err end) → Works hosts homed rests turns (steps ++ drawn) calls handed end
+  stopped : (jobs : ℕ) (steps : List Step) (calls : List LinkCall) (handed : List (Handed (Part P C))) (job : Job) (drawn steps' : List Step) (calls' : List LinkCall)
+      (handed' : List (Handed (Part P C))) (end : WorkEnd) → jobs < turns → Working hosts homed rests jobs steps calls handed → Draws rests drawn (Ok job)
+      → Does hosts homed job steps' calls' handed' (Some end) → Works hosts homed rests turns (steps ++ (drawn ++ steps')) (calls ++ calls') (handed ++ handed') end
+
+-- ---- causes
+
+-- the link's count rose, where the link failed
+abbrev pub IsCaused : ℕ → ℕ → LinkCall → Type 0
+IsCaused earlier later (Called member bytes (Err link.Failed)) = Rose earlier later
+IsCaused earlier later _ = ⊤
+
+-- the spawner's count rose, where a part wasn't started
+abbrev pub IsRefused : {Q : Type 0} → ℕ → ℕ → Handed Q → Type 0
+IsRefused earlier later h = h.started ≡ false → Rose earlier later
+
+-- ---- what is told of it
+
+-- these calls came on a link between two moments, each failure with its cause
+pub record OnLink (old new : Option (List LinkCall)) (faults faults' : ℕ) (calls : List LinkCall) : Type 0 where
+  pub told : Tells old new calls
+  pub kept : faults ≤ faults'
+  pub caused : Every (IsCaused faults faults') calls
+
+-- these parts were handed to a spawner between two moments, each refusal with its cause
+pub record OnSpawner {Q : Type 0} (old new : Option (List (Handed Q))) (faults faults' : ℕ) (handed : List (Handed Q)) : Type 0 where
+  pub told : Tells old new handed
+  pub kept : faults ≤ faults'
+  pub caused : Every (IsRefused faults faults') handed
+
+-- what a turn, a link and a spawner tell at a moment, and how often the latter two have failed
+pub record Ledger (Q : Type 0) : Type 0 where
+  pub made : Option (List Step)
+  pub calls : Option (List LinkCall)
+  pub handed : Option (List (Handed Q))
+  pub link_faults : ℕ
+  pub spawner_faults : ℕ
+
+abbrev pub ledger : {Q : Type 0} → Option (List Step) → Option (List LinkCall) → Option (List (Handed Q)) → ℕ → ℕ → Ledger Q
+ledger made calls handed link_faults spawner_faults =
+    record { made = made; calls = calls; handed = handed; link_faults = link_faults; spawner_faults = spawner_faults }
+
+-- these steps, calls and parts came between two moments
+pub record Between {Q : Type 0} (before after : Ledger Q) (steps : List Step) (calls : List LinkCall) (handed : List (Handed Q)) : Type 0 where
+  pub made : Adds before.made after.made steps
+  pub link : OnLink before.calls after.calls before.link_faults after.link_faults calls
+  pub spawner : OnSpawner before.handed after.handed before.spawner_faults after.spawner_faults handed
+
+-- the place is of this home
+abbrev pub IsAt : {P H : Type 0} → (P → H) → H → P → Type 0
+IsAt home_of home place = home_of place ≡ home
+
+-- a job was done
+pub record IsDone {P C : Type 0} (hosts : List (List ℕ)) (homed : P → Type 0) (job : Job) (before after : Ledger (Part P C)) (end : Option WorkEnd) : Type 0 where
+  pub steps : List Step
+  pub calls : List LinkCall
+  pub handed : List (Handed (Part P C))
+  pub does : Does hosts homed job steps calls handed end
+  pub between : Between before after steps calls handed
+
+-- a worker's turns were made
+pub record IsWorked {P C : Type 0} (hosts : List (List ℕ)) (homed : P → Type 0) (rests : CoreEvent → Type 0) (turns : ℕ) (before after : Ledger (Part P C)) (end : WorkEnd) : Type 0 where
+  pub steps : List Step
+  pub calls : List LinkCall
+  pub handed : List (Handed (Part P C))
+  pub works : Works hosts homed rests turns steps calls handed end
+  pub between : Between before after steps calls handed
+
+-- so many of them were made so far
+pub record IsWorking {P C : Type 0} (hosts : List (List ℕ)) (homed : P → Type 0) (rests : CoreEvent → Type 0) (jobs : ℕ) (before after : Ledger (Part P C)) : Type 0 where
+  pub steps : List Step
+  pub calls : List LinkCall
+  pub handed : List (Handed (Part P C))
+  pub working : Working hosts homed rests jobs steps calls handed
+  pub between : Between before after steps calls handed
