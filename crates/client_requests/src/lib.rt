@@ -5,6 +5,4 @@ mod passing_on;
 mod refusals;
 
 pub use passing_on::{passed_on, replied};
-pub use refusals::{
-    lacks_key, names_session, refusal_of, reserved_lease, unserved, unsupported,
-};
+pub use refusals::{lacks_key, names_session, refusal_of, reserved_lease, unserved, unsupported};

@@ -6,7 +6,6 @@ mod asking;
 mod held;
 mod refusals;
 mod reserved;
-
 mod writes;
 
 pub use asking::{asked_at, call_stage, is_leased_read};

@@ -1,5 +1,5 @@
 -- The first due job is of what the proxy has: its session, its leasing stream, or the stream that is due first.
-use Rattle.std.proofs.Common.{◌≡◌, ℕ, Bool, true, false, cond, List, [], ◌∷◌, ◌++◌, Option, None, Some, is_some, refl, sym, ◌∙◌, ap, subst}
+use Rattle.std.proofs.Common.{◌≡◌, ℕ, Bool, true, false, cond, List, [], ◌∷◌, ◌++◌, Option, None, Some, is_some, refl, sym, ◌∙◌, subst}
 use Rattle.std.specs.List.{flat_map}
 use Rattle.std.specs.Option.{option_map}
 use Rattle.proxy_model.specs.declared.lease.Entry.{Entry}
@@ -113,11 +113,11 @@ others_of : (writes : Option Place) (acquires : Keyed Acquire) (asks : List Aske
 others_of writes acquires asks leasing streams high n =
     let before = due_writes writes ++ flat_map due_acquire acquires ++ flat_map due_ask asks ++ due_opening leasing in
     let all : AllOf leasing streams before =
-            all_appended leasing streams (due_writes writes ++ flat_map due_acquire acquires ++ flat_map due_ask asks) (due_opening leasing)
-            (all_appended leasing streams (due_writes writes ++ flat_map due_acquire acquires) (flat_map due_ask asks)
-            (all_appended leasing streams (due_writes writes) (flat_map due_acquire acquires) (writes_of leasing streams writes) (acquires_of leasing streams acquires))
-            (asks_of leasing streams asks))
-            (opening_of leasing streams leasing refl) in
+    all_appended leasing streams (due_writes writes ++ flat_map due_acquire acquires ++ flat_map due_ask asks) (due_opening leasing)
+    (all_appended leasing streams (due_writes writes ++ flat_map due_acquire acquires) (flat_map due_ask asks)
+    (all_appended leasing streams (due_writes writes) (flat_map due_acquire acquires) (writes_of leasing streams writes) (acquires_of leasing streams acquires))
+    (asks_of leasing streams asks))
+    (opening_of leasing streams leasing refl) in
     let Claim : Option Placed → Type 0 = λ o. OneOf leasing streams o in
     subst Claim (sym (earliest_append None before (flat_map due_stream streams) ∙ streams_first (earliest None before) high streams n))
     (stream_of leasing streams (first_due streams) (earliest None before) refl (earliest_of leasing streams None before tt all))

@@ -15,9 +15,15 @@ use wait_model::Due;
 #[derive(Debug, Drop)]
 pub enum ToSend {
     /// The session's call, and what it is for.
-    Session { out: OutJob, request: Request },
+    Session {
+        out: OutJob,
+        request: Request,
+    },
     /// A rescind, a call that asks an owner, or a write's own, for this ticket or 0.
-    Write { ticket: u64, request: Request },
+    Write {
+        ticket: u64,
+        request: Request,
+    },
     /// The acquire of this key, for the read of this ticket.
     Acquire {
         key: Bytes,
@@ -31,13 +37,24 @@ pub enum ToSend {
         request: Request,
     },
     /// A keepalive of this lease for all of its group, of which this is the least ticket.
-    Group { lease: u64, ticket: u64 },
+    Group {
+        lease: u64,
+        ticket: u64,
+    },
     /// The opening of the leasing stream.
-    Open { stream: u64, request: Request },
+    Open {
+        stream: u64,
+        request: Request,
+    },
     /// The opening of a client stream.
-    Begin { stream: u64, request: Request },
+    Begin {
+        stream: u64,
+        request: Request,
+    },
     /// The closing of a client stream.
-    Close { stream: u64 },
+    Close {
+        stream: u64,
+    },
 }
 
 /// What is to be sent for the job by a proxy with this leasing prefix, which asks for this time to live of a session in seconds.

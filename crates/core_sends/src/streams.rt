@@ -39,11 +39,7 @@ pub(crate) fn stream_to_send(
     }
 }
 
-fn begin_to_send(
-    alloc: Global,
-    namespace: &Namespace,
-    stream: &Stream,
-) -> Result<ToSend, NoMemory>
+fn begin_to_send(alloc: Global, namespace: &Namespace, stream: &Stream) -> Result<ToSend, NoMemory>
     ensures { IfOk result (λ send. send ≡ begin_to_send namespace.now stream.now) }
 {
     let (range, start) = stream.stream.reopen();
