@@ -16,11 +16,11 @@ use Rattle.core_model.specs.declared.event.Outcome.TheVariants as outcome
 use Rattle.core_model.specs.declared.out_call.OutJob.TheVariants.{Wait}
 use Rattle.core_model.specs.DueJobs.{DueJob, ForSession, ForWrites, ForAcquire, ForAsk, ForGroup, ToOpen, ForStream, first_job}
 use Rattle.core_model.specs.LeasingStream.{opening_sent, watch_of}
-use Rattle.core_model.specs.Sending.{next_call, session_out, seat_sent, session_sent, writes_sent, goes_out, sent_by}
+use Rattle.core_model.specs.Sending.{next_call, session_out, seat_sent, session_sent, writes_sent, sent_by}
 use Rattle.core_model.specs.Sessions.{session_request}
 use Rattle.core_model.specs.State.{Seat, Opening, Core}
-use Rattle.core_model.specs.Stepped.{Stepped, gives}
-use Rattle.core_model.specs.Watching.{with_watches, watch_from, stream_sent, streams_sent}
+use Rattle.core_model.specs.Stepped.{gives}
+use Rattle.core_model.specs.Watching.{with_watches, watch_from, streams_sent}
 use Rattle.proxy_model.specs.Wrapped.{request_under}
 use Rattle.revoke_core.specs.Sends.{after_sending}
 use Rattle.core_sends.specs.Sends.{sends, sent_for, due_write, call_sent, streams_after}

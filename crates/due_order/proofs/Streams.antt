@@ -1,11 +1,11 @@
 -- The stream whose closing or opening is due first comes first among all due jobs of streams, since they stand by rising numbers.
-use Rattle.std.proofs.Common.{◌≡◌, ℕ, ◌≤◌, Bool, true, false, cond, not, ◌||◌, ◌&&◌, ◌==◌, nat_lt, nat_le, List, [], ◌∷◌, ◌++◌, Option, None, Some, refl, sym, ◌∙◌, ap, subst, arith}
+use Rattle.std.proofs.Common.{◌≡◌, ℕ, ◌≤◌, Bool, true, false, cond, ◌||◌, ◌&&◌, ◌==◌, nat_lt, nat_le, List, [], ◌∷◌, ◌++◌, Option, None, Some, refl, sym, ◌∙◌, ap, subst, arith}
 use Rattle.std.specs.List.{flat_map}
 use Rattle.std.proofs.lemmas.Bool.Decides.{nat_tests}
-use Rattle.etcd_types.proofs.Bools.{and_first, and_second, and_false, or_false, true_or_false}
+use Rattle.etcd_types.proofs.Bools.{and_first, and_second, and_false, or_false}
 use Rattle.wait_model.specs.declared.due.Place.{Place}
 use Rattle.wait_model.specs.declared.due.JobKind.TheVariants.{Close, Open}
-use Rattle.wait_model.specs.DueOrder.{place_at, is_earlier, less_then}
+use Rattle.wait_model.specs.DueOrder.{place_at, is_earlier}
 use Rattle.watch_model.specs.declared.stream.StreamPhase.{StreamPhase}
 use Rattle.watch_model.specs.declared.stream.StreamPhase.TheVariants as phase
 use Rattle.watch_model.specs.Due.{is_before, earlier_of, first_from, first_due}
