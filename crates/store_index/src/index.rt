@@ -73,11 +73,7 @@ impl Index {
     }
 
     /// The records of the range in the order of the keys, as a request sees them that made these changes so far.
-    pub fn records_with(
-        &self,
-        range: &KeyRange,
-        made: &[KeyChange],
-    ) -> Result<List<Kv>, NoMemory>
+    pub fn records_with(&self, range: &KeyRange, made: &[KeyChange]) -> Result<List<Kv>, NoMemory>
         ensures { IfOk result (λ kvs. (h : History) → HoldsKept self.now h → kvs ≡ records_now (with_revision h made.now) range.now) }
     {
         let records = self.versions.records(range, None)?;

@@ -82,14 +82,13 @@ version_there h r made others x is =
     let later : List Version = versions_in r k others after in
     let d : drop (r - 2) h ≡ (made ++ x ∷ others) ∷ drop (r - 2 + 1) h =
     drop_more h (r - 2) [] is.within ∙ ap (λ (cs : List KeyChange). cs ∷ drop (r - 2 + 1) h) is.changes in
-    let rest : List Version = versions_from (r + 1) k (drop (r - 2 + 1) h) (after_changes r k (made ++ x ∷ others) before) in
-    (
+    let rest : List Version = versions_from (r + 1) k (drop (r - 2 + 1) h) (after_changes r k (made ++ x ∷ others) before) in (
       later ++ rest,
       ap (λ (g : History). versions_from r k g before) d
-      ∙ ap (λ (vs : List Version). vs ++ rest)
-      (versions_in-append r k made (x ∷ others) before
-      ∙ ap (λ (b : Bool). versions_in r k made before ++ cond b (record { revision = r; left = after } ∷ later) (versions_in r k others old)) (same-itself k))
-      ∙ append_assoc (versions_in r k made before) (record { revision = r; left = after } ∷ later) rest,
+          ∙ ap (λ (vs : List Version). vs ++ rest)
+          (versions_in-append r k made (x ∷ others) before
+          ∙ ap (λ (b : Bool). versions_in r k made before ++ cond b (record { revision = r; left = after } ∷ later) (versions_in r k others old)) (same-itself k))
+          ∙ append_assoc (versions_in r k made before) (record { revision = r; left = after } ∷ later) rest,
     )
 
 -- what is told of the record before a change

@@ -9,11 +9,7 @@ use store_index::Index;
 use store_model::KeyChange;
 
 /// Whether all compares hold.
-pub fn all_hold(
-    index: &Index,
-    made: &[KeyChange],
-    compares: &[Compare],
-) -> Result<bool, NoMemory>
+pub fn all_hold(index: &Index, made: &[KeyChange], compares: &[Compare]) -> Result<bool, NoMemory>
     ensures { IfOk result (λ holds. (h : History) → HoldsKept index.now h → holds ≡ all_hold (with_revision h made.now) compares.now) }
 {
     for compare in compares {

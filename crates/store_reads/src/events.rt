@@ -127,7 +127,12 @@ fn left_passes(ask: &WatchAsk, left: Option<&Kv>) -> bool
     }
 }
 
-fn left_change(alloc: Global, revision: u64, key: &Bytes, left: Option<&Kv>) -> Result<Change, NoMemory>
+fn left_change(
+    alloc: Global,
+    revision: u64,
+    key: &Bytes,
+    left: Option<&Kv>,
+) -> Result<Change, NoMemory>
     ensures { IfOk result (λ change. change ≡ left_change revision key.now (option_copied left.entry)) }
 {
     match left {
