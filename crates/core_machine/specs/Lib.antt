@@ -1,0 +1,4 @@
+pub mod Keeping
+pub mod Does
+pub mod Replies
+pub mod Callers
