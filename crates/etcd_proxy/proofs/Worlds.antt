@@ -1,17 +1,24 @@
 -- The program's world and the one that it stands for.
 use Rattle.std.proofs.Common.{◌≡◌, ◌≤◌, ◌<◌, ℕ, zero, suc, ◌+◌, ◌-◌, ◌==◌, Bool, true, false, cond, List, [], ◌∷◌, Option, None, Some, MatchOption, refl, sym, ◌∙◌, ap, subst, arith, slice_get}
 use Rattle.std.specs.List.{list_all}
+use Rattle.std.proofs.Math.Bool.{Bool-set}
+use Rattle.std.proofs.Math.Bridge.{le_prop}
+use Rattle.std.proofs.Math.Logic.{∥∥₁_map, ∥∥₁_elim}
 use Rattle.etcd_types.proofs.Bools.{and_first, and_second}
 use Rattle.etcd_types.specs.declared.request.Request.{Request}
 use Rattle.etcd_types.specs.declared.request.Request.TheVariants as request
 use Rattle.store_model.specs.Step.{IsExecuted}
-use Rattle.store_world.proofs.Stores.{stands_for_some, states_agree}
+use Rattle.store_model.specs.History.{newest}
+use Rattle.store_model.specs.State.{State}
+use Rattle.store_world.specs.Store as store
+use Rattle.store_world.proofs.Stores.{stand_for_states, states_agree}
+use Rattle.replay_model.specs.declared.limits.TheConstants.{MOST_LINES}
 use Rattle.replay_model.specs.Built.{is_built}
 use Rattle.replay_model.specs.Fits.{Fits, due_of}
 use Rattle.replay_model.specs.World.{World as Model, Proxy, call_at}
 use Rattle.replay_model.specs.declared.call.Asked.{Asked}
 use Rattle.replay_model.specs.declared.call.SentCall.{SentCall}
-use Rattle.etcd_proxy.specs.World.{Stands}
+use Rattle.etcd_proxy.specs.World.{Stands, IsReady}
 use Rattle.etcd_proxy.specs.declared.world.World.{World}
 
 some-is : {A : Type 0} (x y : A) → Some x ≡ Some y → x ≡ y
@@ -43,19 +50,30 @@ is_executed (request.KeepAlive lease) e = tt
 is_executed (request.TimeToLive lease keys) e = tt
 is_executed request.Leases e = tt
 
--- a world that it stands for
-abbrev pub model_of : World → Model
-model_of world = record {
-  namespace = world.namespace;
-  proxy = world.proxy;
-  calls = world.calls.items;
-  store = (stands_for_some world.store).0;
-  lines = world.lines;
-}
+-- there is a world that it stands for
+pub stands_for_some : (world : World) → ∥ ((w : Model) × Stands world w) ∥₁
+stands_for_some world =
+    ∥∥₁_map (stand_for_states world.store)
+    (λ x. (
+      record { namespace = world.namespace; proxy = world.proxy; calls = world.calls.items; store = x.0; lines = world.lines },
+      record { namespace = refl; proxy = refl; calls = refl; store = x.1; lines = refl },
+    ))
 
-pub stands_for_model : (world : World) → Stands world (model_of world)
-stands_for_model world =
-    record { namespace = refl; proxy = refl; calls = refl; store = (stands_for_some world.store).1; lines = refl }
+-- a world that can be given a line has room for it, and its calls are built
+
+pub has_room : (world : World) → IsReady world → world.lines < MOST_LINES
+has_room world ready = ∥∥₁_elim (stands_for_some world) le_prop (λ x. subst (λ n. n < MOST_LINES) x.1.lines (ready x.0 x.1).few)
+
+pub calls_are_built : (world : World) → IsReady world → list_all (λ call. is_built call.request) world.calls.items ≡ true
+calls_are_built world ready =
+    ∥∥₁_elim (stands_for_some world) (Bool-set _ _)
+    (λ x. ap (λ (calls : List SentCall). list_all (λ call. is_built call.request) calls) (sym x.1.calls) ∙ (ready x.0 x.1).calls)
+
+-- and so has its store, whatever it stands for
+pub store_has_room : (world : World) (s : State) → IsReady world → store.Stands world.store s → newest s.history ≤ MOST_LINES + 1
+store_has_room world s ready h =
+    (ready (record { namespace = world.namespace; proxy = world.proxy; calls = world.calls.items; store = s; lines = world.lines })
+    (record { namespace = refl; proxy = refl; calls = refl; store = h; lines = refl })).revisions
 
 -- of the worlds that it stands for each fits, where one does
 pub fits_alike : (lines counted : ℕ) (world : World) (v w : Model) → Stands world v → Stands world w → Fits lines counted v → Fits lines counted w

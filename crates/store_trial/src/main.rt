@@ -1,9 +1,10 @@
-//! A table of requests and answers, tried on the store.
+//! A table of requests and answers, tried on the store and on the plain one, which keeps the whole history as a list.
 //!
 //! The standard input has steps, one a line, each with a line `= ANSWER` behind it that says what is to come of it. A step
 //! is `store MEMBERS`, which begins anew, `exec MEMBER REQUEST`, `compact REVISION`, `expire LEASE`, `apply MEMBER
-//! REVISION`, `open MEMBER WATCH`, `push WATCH` or `progress WATCH`. Each answer that differs is printed, and at the end
-//! the number of answers and of those that differ.
+//! REVISION`, `open MEMBER WATCH`, `push WATCH` or `progress WATCH`. Each answer that differs is printed, and
+//! each step of which something else comes on the plain store, with an answer behind it or without; and at the end the number
+//! of answers and of those that differ.
 #![tactic(auto)]
 
 mod trial;
@@ -27,6 +28,10 @@ fn main(rt: HostRuntime) -> Result<(), Wrong> {
             }
         } else if !line.is_empty() && !line.starts_with("#") {
             trial.step(line)?;
+            if !trial.agrees() {
+                differing = differing.saturating_add(1);
+                println!(rt; "the plain store tells otherwise at {line}")?;
+            }
         }
     }
     println!(rt; "{answers} answers, {differing} differ")?;

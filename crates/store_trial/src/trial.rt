@@ -3,22 +3,26 @@ ghost use Rattle.store_model.specs.History.{newest};
 ghost use Rattle.store_model.specs.State.{State, HasMember};
 ghost use Rattle.store_model.specs.Step.{IsExecuted};
 ghost use Rattle.store_world.specs.Store.{Stands};
+ghost use Rattle.store_plain.specs.Store.{Stands as StandsPlainly};
 
 use etcd_types::{Request, WatchAsk, WatchItem};
 use message_text::Text;
 use std::alloc::Global;
+use store_plain::Store as PlainStore;
 use store_world::{Store, StoreFault};
 use table_rows::Wrong;
 use text_words::{Words, is_word, read_number, read_number_within};
 
 const MOST_REVISIONS: u64 = 1_000_000;
 
-/// A store, and what came of the last step that was tried on it.
+/// The store and the plain one, and what came of the last step that was tried on both.
 #[derive(Debug, Drop)]
 pub struct Trial {
     alloc: Global,
     store: Store,
+    plain: PlainStore,
     told: String,
+    told_plainly: String,
 }
 
 impl Trial {
@@ -26,7 +30,9 @@ impl Trial {
         Ok(Trial {
             alloc,
             store: Store::new(alloc, 1)?,
+            plain: PlainStore::new(alloc, 1)?,
             told: String::new(alloc),
+            told_plainly: String::new(alloc),
         })
     }
 
@@ -35,9 +41,15 @@ impl Trial {
         self.told.as_str().trim_end()
     }
 
-    /// Takes a step.
+    /// Whether the same came of the last step on the plain store.
+    pub fn agrees(&self) -> bool {
+        self.told.as_str() == self.told_plainly.as_str()
+    }
+
+    /// Takes a step on both.
     pub fn step(&mut self, line: &str) -> Result<(), Wrong> {
         self.told = String::new(self.alloc);
+        self.told_plainly = String::new(self.alloc);
         let mut words = Words::of(b' ', line.as_bytes());
         self.take_step(&mut words)?;
         words.end()?;
@@ -63,21 +75,21 @@ impl Trial {
         if is_word(name, "expire") {
             let lease = read_number(words)?;
             self.check_room()?;
-            let done = self.store.expire(lease);
-            self.tell_done(done)
+            tell_done(&mut self.told, self.store.expire(lease))?;
+            tell_done(&mut self.told_plainly, self.plain.expire(lease))
         } else if is_word(name, "apply") {
             let member = read_member(words)?;
             let revision = read_number(words)?;
-            let done = self.store.apply(member, revision);
-            self.tell_done(done)
+            tell_done(&mut self.told, self.store.apply(member, revision))?;
+            tell_done(&mut self.told_plainly, self.plain.apply(member, revision))
         } else if is_word(name, "push") {
             let watch = read_number(words)?;
-            let pushed = self.store.push(watch);
-            self.tell_item(pushed)
+            tell_item(&mut self.told, self.store.push(watch))?;
+            tell_item(&mut self.told_plainly, self.plain.push(watch))
         } else if is_word(name, "progress") {
             let watch = read_number(words)?;
-            let pushed = self.store.progress(watch);
-            self.tell_item(pushed)
+            tell_item(&mut self.told, self.store.progress(watch))?;
+            tell_item(&mut self.told_plainly, self.plain.progress(watch))
         } else {
             Err(Wrong::Word)
         }
@@ -89,6 +101,7 @@ impl Trial {
             return Err(Wrong::Word);
         }
         self.store = Store::new(self.alloc, members)?;
+        self.plain = PlainStore::new(self.alloc, members)?;
         Ok(())
     }
 
@@ -100,6 +113,8 @@ impl Trial {
         self.check_room()?;
         let answer = self.store.execute_at(member, &request)?;
         answer.push(&mut self.told)?;
+        let answer = self.plain.execute_at(member, &request)?;
+        answer.push(&mut self.told_plainly)?;
         Ok(())
     }
 
@@ -107,6 +122,8 @@ impl Trial {
         let revision = read_number(words)?;
         let answer = self.store.compact(revision)?;
         answer.push(&mut self.told)?;
+        let answer = self.plain.compact(revision)?;
+        answer.push(&mut self.told_plainly)?;
         Ok(())
     }
 
@@ -116,46 +133,50 @@ impl Trial {
         self.check_member(member)?;
         let number = self.store.open_watch(member, &ask)?;
         number.push(&mut self.told)?;
+        let number = self.plain.open_watch(member, &ask)?;
+        number.push(&mut self.told_plainly)?;
         Ok(())
     }
 
-    fn tell_done(&mut self, done: Result<(), StoreFault>) -> Result<(), Wrong> {
-        match done {
-            Ok(()) => self.told.push_str("done")?,
-            Err(fault) => write!(self.told, "{fault}")?,
-        }
-        Ok(())
-    }
-
-    fn tell_item(&mut self, pushed: Result<WatchItem, StoreFault>) -> Result<(), Wrong> {
-        match pushed {
-            Ok(item) => item.push(&mut self.told)?,
-            Err(fault) => write!(self.told, "{fault}")?,
-        }
-        Ok(())
-    }
-
-    /// The store has this member.
+    /// Both stores have this member.
     fn check_member(&self, member: u32) -> Result<(), Wrong>
-        ensures { OnOk result ((s : State) → Stands self.now.store s → HasMember s member) }
+        ensures indexed { OnOk result ((s : State) → Stands self.now.store s → HasMember s member) }
+        ensures plain { OnOk result ((s : State) → StandsPlainly self.now.plain s → HasMember s member) }
     {
-        let members = self.store.members();
+        let members = self.store.members().min(self.plain.members());
         if member == 0 || members < u64::from(member) {
             return Err(Wrong::Word);
         }
         Ok(())
     }
 
-    /// The store has room for more revisions.
+    /// Both stores have room for more revisions.
     fn check_room(&self) -> Result<(), Wrong>
-        ensures { OnOk result ((s : State) → Stands self.now.store s → newest s.history < 2 ^ 63) }
+        ensures indexed { OnOk result ((s : State) → Stands self.now.store s → newest s.history < 2 ^ 63) }
+        ensures plain { OnOk result ((s : State) → StandsPlainly self.now.plain s → newest s.history < 2 ^ 63) }
     {
-        let newest = self.store.newest();
+        let newest = self.store.newest().max(self.plain.newest());
         if newest > MOST_REVISIONS {
             return Err(Wrong::Word);
         }
         Ok(())
     }
+}
+
+fn tell_done(told: &mut String, done: Result<(), StoreFault>) -> Result<(), Wrong> {
+    match done {
+        Ok(()) => told.push_str("done")?,
+        Err(fault) => write!(told, "{fault}")?,
+    }
+    Ok(())
+}
+
+fn tell_item(told: &mut String, pushed: Result<WatchItem, StoreFault>) -> Result<(), Wrong> {
+    match pushed {
+        Ok(item) => item.push(told)?,
+        Err(fault) => write!(told, "{fault}")?,
+    }
+    Ok(())
 }
 
 /// A member's number, which the store may not have.

@@ -1,3 +1,5 @@
 pub mod LeaseLemmas
+pub mod MemberLemmas
 pub mod PushLemmas
+pub mod RunProofs
 pub mod Stores

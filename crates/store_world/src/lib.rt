@@ -1,7 +1,8 @@
-//! The replay store: an etcd store as a plain list of revisions, which answers requests, serves watches and lets leases expire.
+//! The replay store: an etcd store over an index of what its compaction keeps, which answers requests, serves watches and lets
+//! leases expire.
 //!
-//! Its contract is the relation `Stands`, that a store stands for a state of the definitions. So a body with an index may
-//! take this one's place under the same clauses.
+//! Its contract is the relation `Stands`, that a store stands for a state of the definitions. It stands for each state with
+//! a history of which its index holds what is kept: so for many, once it was compacted.
 #![tactic(auto)]
 
 mod laws;

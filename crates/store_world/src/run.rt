@@ -1,15 +1,16 @@
 ghost use Rattle.std.specs.Prelude.{◌≡◌, ◌++◌, map, IfOk, OnOk};
 ghost use Rattle.store_model.specs.declared.history.KeyChange.TheVariants as change;
-ghost use Rattle.store_model.specs.History.{newest, with_revision};
+ghost use Rattle.store_model.specs.History.{History};
 ghost use Rattle.store_model.specs.Transactions.{put_on, run_put, deletion, delete_all, run_delete, run_range, run, run_all, run_txn};
+ghost use Rattle.store_index.specs.Index.{HoldsKept};
 ghost use Rattle.store_world.specs.Store.{state_of};
 ghost use Rattle.store_world.specs.Running.{Runs, RunsAll};
 
 use crate::store::Store;
 use etcd_types::{Body, DeleteAsk, Kv, List, NoMemory, Op, PutAsk, RangeAsk, Refusal, TxnAsk};
 use std::alloc::Global;
-use store_history::{all_hold, read, record_now, records_now};
 use store_model::KeyChange;
+use store_reads::{all_hold, latest, read, record_now};
 use store_refusals as refusals;
 
 /// Operations run in order, and `made` is what the request changed so far. Each gives its answer, or the refusal of the
@@ -22,7 +23,7 @@ impl Store {
         operation: &Op,
         made: &mut List<KeyChange>,
     ) -> Result<Result<Body, Refusal>, NoMemory>
-        ensures { IfOk result (λ told. Runs told made.new (run (state_of self.now) operation.now made.old)) }
+        ensures { IfOk result (λ told. (h : History) → HoldsKept self.now.index h → Runs told made.new (run (state_of self.now h) operation.now made.old)) }
     {
         match operation {
             Op::Range(ask) => Ok(self.run_range(ask, made)?),
@@ -38,15 +39,9 @@ impl Store {
         txn: &TxnAsk,
         made: &mut List<KeyChange>,
     ) -> Result<Result<Body, Refusal>, NoMemory>
-        ensures { IfOk result (λ told. Runs told made.new (run_txn (state_of self.now) txn.now made.old)) }
+        ensures { IfOk result (λ told. (h : History) → HoldsKept self.now.index h → Runs told made.new (run_txn (state_of self.now h) txn.now made.old)) }
     {
-        let revisions = self.revisions.as_slice();
-        let succeeded = all_hold(
-            self.alloc,
-            revisions,
-            made.as_slice(),
-            txn.compare.as_slice(),
-        )?;
+        let succeeded = all_hold(&self.index, made.as_slice(), txn.compare.as_slice())?;
         let branch = if succeeded {
             &txn.success
         } else {
@@ -64,7 +59,7 @@ impl Store {
         operations: &List<Op>,
         made: &mut List<KeyChange>,
     ) -> Result<Result<List<Body>, Refusal>, NoMemory>
-        ensures { IfOk result (λ told. RunsAll told made.new (run_all (state_of self.now) operations.now made.old)) }
+        ensures { IfOk result (λ told. (h : History) → HoldsKept self.now.index h → RunsAll told made.new (run_all (state_of self.now h) operations.now made.old)) }
     {
         let mut bodies = List::new(self.alloc);
         for operation in operations.as_slice() {
@@ -81,12 +76,11 @@ impl Store {
         ask: &RangeAsk,
         made: &List<KeyChange>,
     ) -> Result<Result<Body, Refusal>, NoMemory>
-        ensures { IfOk result (λ told. Runs told made.now (run_range (state_of self.now) ask.now made.now)) }
+        ensures { IfOk result (λ told. (h : History) → HoldsKept self.now.index h → Runs told made.now (run_range (state_of self.now h) ask.now made.now)) }
     {
         let changes = made.as_slice();
-        let revisions = self.revisions.as_slice();
-        let latest = latest(revisions, changes);
-        let told = read(self.alloc, revisions, changes, latest, self.compacted, ask)?;
+        let latest = latest(&self.index, changes);
+        let told = read(self.alloc, &self.index, changes, latest, ask)?;
         Ok(told)
     }
 
@@ -95,13 +89,12 @@ impl Store {
         ask: &PutAsk,
         made: &mut List<KeyChange>,
     ) -> Result<Result<Body, Refusal>, NoMemory>
-        ensures { IfOk result (λ told. Runs told made.new (run_put (state_of self.now) ask.now made.old)) }
+        ensures { IfOk result (λ told. (h : History) → HoldsKept self.now.index h → Runs told made.new (run_put (state_of self.now h) ask.now made.old)) }
     {
         if ask.lease != 0 && !self.leases.has(ask.lease) {
             return Ok(Err(refusals::lease_not_found(self.alloc)?));
         }
-        let revisions = self.revisions.as_slice();
-        let old = record_now(self.alloc, revisions, made.as_slice(), &ask.key)?;
+        let old = record_now(self.alloc, &self.index, made.as_slice(), &ask.key)?;
         Ok(put_on(self.alloc, ask, made, old)?)
     }
 
@@ -110,22 +103,10 @@ impl Store {
         ask: &DeleteAsk,
         made: &mut List<KeyChange>,
     ) -> Result<Result<Body, Refusal>, NoMemory>
-        ensures { IfOk result (λ told. Runs told made.new (run_delete (state_of self.now) ask.now made.old)) }
+        ensures { IfOk result (λ told. (h : History) → HoldsKept self.now.index h → Runs told made.new (run_delete (state_of self.now h) ask.now made.old)) }
     {
-        let revisions = self.revisions.as_slice();
-        let gone = records_now(self.alloc, revisions, made.as_slice(), &ask.range)?;
+        let gone = self.index.records_with(&ask.range, made.as_slice())?;
         Ok(delete_all(self.alloc, ask, made, gone)?)
-    }
-}
-
-/// The newest revision that an operation sees: what the request has changed so far counts as one.
-fn latest(revisions: &[List<KeyChange>], made: &[KeyChange]) -> u64
-    ensures { result ≡ newest (with_revision revisions.now made.now) }
-{
-    if made.is_empty() {
-        revisions.len() as u64 + 1
-    } else {
-        revisions.len() as u64 + 2
     }
 }
 

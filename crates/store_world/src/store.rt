@@ -8,18 +8,17 @@ ghost use Rattle.store_model.specs.Members.{applied};
 ghost use Rattle.store_model.specs.Watches.{opened, pushed, progressed};
 
 use crate::leases::Leases;
-use crate::requests::newest;
 use crate::table::Table;
-use etcd_types::{Answer, List, NoMemory, Request, WatchAsk, WatchItem};
+use etcd_types::{Answer, NoMemory, Request, WatchAsk, WatchItem};
 use std::alloc::Global;
-use store_model::{KeyChange, OpenWatch, StoreFault};
+use store_index::Index;
+use store_model::{OpenWatch, StoreFault};
 
 /// A store of one cluster, with the revisions that its members have applied.
 #[derive(Debug, Drop)]
 pub struct Store {
     pub(crate) alloc: Global,
-    pub(crate) revisions: List<List<KeyChange>>,
-    pub(crate) compacted: u64,
+    pub(crate) index: Index,
     pub(crate) leases: Leases,
     pub(crate) applied: Table<u64>,
     pub(crate) watches: Table<OpenWatch>,
@@ -41,8 +40,7 @@ impl Store {
         }
         Ok(Store {
             alloc,
-            revisions: List::new(alloc),
-            compacted: 0,
+            index: Index::new(alloc),
             leases: Leases::new(alloc),
             applied,
             watches: Table::new(alloc),
@@ -53,7 +51,7 @@ impl Store {
     pub fn newest(&self) -> u64
         ensures { (s : State) → Stands self.now s → result ≡ newest s.history }
     {
-        newest(self.revisions.as_slice())
+        self.index.newest
     }
 
     /// The number of members, from 1. It takes no memory.

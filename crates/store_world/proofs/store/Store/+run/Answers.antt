@@ -3,4 +3,4 @@ use Rattle.store_model.proofs.TransactionLemmas.{run_is_txn}
 use Rattle.store_world.proofs.store.Store.+run.Goals as goal
 
 pub run-returns-in_ok-run_txn-in-Txn : goal.run-returns-in_ok-run_txn-in-Txn
-run-returns-in_ok-run_txn-in-Txn t c = rw (c.in-Txn.is, run_is_txn) c.in_ok-run_txn-in-Txn.ensures
+run-returns-in_ok-run_txn-in-Txn t c = λ h holds. rw (c.in-Txn.is, run_is_txn) (c.in_ok-run_txn-in-Txn.ensures h holds)
