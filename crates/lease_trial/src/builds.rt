@@ -3,7 +3,7 @@ ghost use Rattle.std.specs.Bool.{IsTrue};
 ghost use Rattle.proxy_model.specs.Guarded.{is_one_key};
 
 use crate::shown::{shown, words};
-use etcd_types::{Bytes, Op, Request};
+use etcd_types::{Bytes, DeleteAsk, Op, Request};
 use lease_txn::{acquire, ask_revoke, guest_write, owner_write, range_write, rescind};
 use message_text::Text;
 use std::alloc::Global;
@@ -45,8 +45,19 @@ fn single(request: Request) -> Result<Op, Wrong>
 {
     match request {
         Request::Put(ask) => Ok(Op::Put(ask)),
-        Request::Delete(ask) if ask.range.is_one() => Ok(Op::Delete(ask)),
+        Request::Delete(ask) => deletion(ask),
         _ => Err(Wrong::Word),
+    }
+}
+
+/// The delete of one key as an operation.
+fn deletion(ask: DeleteAsk) -> Result<Op, Wrong>
+    ensures { IfOk result (λ op. IsTrue (is_one_key op)) }
+{
+    if ask.range.is_one() {
+        Ok(Op::Delete(ask))
+    } else {
+        Err(Wrong::Word)
     }
 }
 

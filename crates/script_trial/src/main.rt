@@ -4,8 +4,7 @@
 //! differs is printed, and at the end the number of rows and of those that differ.
 //!
 //! - `item TEXT -> TEXT`: an item, read and written again.
-//! - `line NUMBER TEXT -> ..`: a line by its number: the item that it gains first where it has bytes or a request, and else its kind with
-//!   its numbers.
+//! - `line NUMBER TEXT -> KIND { NAME: VALUE, .. }`: a line by its number.
 //!
 //! What is refused comes to `wrong NUMBER PLACE`.
 #![tactic(auto)]

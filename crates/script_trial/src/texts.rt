@@ -37,7 +37,7 @@ fn refused(alloc: Global, fault: LineFault) -> Result<String, Wrong> {
 fn line_of(alloc: Global, case: &str) -> Result<String, Wrong> {
     let (number, text) = parts(case, " ")?;
     match read_line(alloc, number_of(number)?, text.as_bytes()) {
-        Ok(line) => shown(alloc, line),
+        Ok(line) => shown(alloc, &line),
         Err(fault) => refused(alloc, fault),
     }
 }
@@ -49,47 +49,7 @@ fn number_of(word: &str) -> Result<u64, Wrong> {
     Ok(number)
 }
 
-/// The item that a line with bytes or a request gains first, and else the line's kind with its numbers.
-fn shown(alloc: Global, line: Line) -> Result<String, Wrong> {
-    match line {
-        Line::Ask {
-            proxy,
-            ticket,
-            request,
-        } => {
-            let item = Item::Asked {
-                proxy,
-                ticket,
-                request,
-            };
-            written(alloc, &item)
-        }
-        Line::Post {
-            proxy,
-            ticket,
-            path,
-            body,
-        } => {
-            let item = Item::Posted {
-                proxy,
-                ticket,
-                path,
-                body,
-            };
-            written(alloc, &item)
-        }
-        Line::World {
-            members,
-            namespace,
-            leasing,
-        } => {
-            let item = Item::World {
-                members,
-                namespace,
-                leasing,
-            };
-            written(alloc, &item)
-        }
-        other => Ok(format!(in alloc; "{other:?}")?),
-    }
+/// The line's kind with its values.
+fn shown(alloc: Global, line: &Line) -> Result<String, Wrong> {
+    Ok(format!(in alloc; "{line:?}")?)
 }
