@@ -5,7 +5,7 @@ ghost use Rattle.store_model.specs.Step.{IsExecuted};
 ghost use Rattle.store_world.specs.Store.{Stands};
 ghost use Rattle.store_plain.specs.Store.{Stands as StandsPlainly};
 
-use etcd_types::{Request, WatchAsk, WatchItem};
+use etcd_types::{Answer, Request, WatchAsk, WatchItem};
 use message_text::Text;
 use std::alloc::Global;
 use store_plain::Store as PlainStore;
@@ -108,32 +108,37 @@ impl Trial {
     fn execute(&mut self, words: &mut Words) -> Result<(), Wrong> {
         let member = read_member(words)?;
         let request = Request::read(self.alloc, words)?;
-        check_executed(&request)?;
+        self.execute_on_both(member, &request)
+    }
+
+    fn execute_on_both(&mut self, member: u32, request: &Request) -> Result<(), Wrong> {
+        check_executed(request)?;
         self.check_member(member)?;
         self.check_room()?;
-        let answer = self.store.execute_at(member, &request)?;
-        answer.push(&mut self.told)?;
-        let answer = self.plain.execute_at(member, &request)?;
-        answer.push(&mut self.told_plainly)?;
-        Ok(())
+        tell_answer(&mut self.told, self.store.execute_at(member, request)?)?;
+        tell_answer(
+            &mut self.told_plainly,
+            self.plain.execute_at(member, request)?,
+        )
     }
 
     fn compact(&mut self, words: &mut Words) -> Result<(), Wrong> {
         let revision = read_number(words)?;
-        let answer = self.store.compact(revision)?;
-        answer.push(&mut self.told)?;
-        let answer = self.plain.compact(revision)?;
-        answer.push(&mut self.told_plainly)?;
-        Ok(())
+        tell_answer(&mut self.told, self.store.compact(revision)?)?;
+        tell_answer(&mut self.told_plainly, self.plain.compact(revision)?)
     }
 
     fn open_watch(&mut self, words: &mut Words) -> Result<(), Wrong> {
         let member = read_member(words)?;
         let ask = WatchAsk::read(self.alloc, words)?;
+        self.open_on_both(member, &ask)
+    }
+
+    fn open_on_both(&mut self, member: u32, ask: &WatchAsk) -> Result<(), Wrong> {
         self.check_member(member)?;
-        let number = self.store.open_watch(member, &ask)?;
+        let number = self.store.open_watch(member, ask)?;
         number.push(&mut self.told)?;
-        let number = self.plain.open_watch(member, &ask)?;
+        let number = self.plain.open_watch(member, ask)?;
         number.push(&mut self.told_plainly)?;
         Ok(())
     }
@@ -168,6 +173,13 @@ fn tell_done(told: &mut String, done: Result<(), StoreFault>) -> Result<(), Wron
         Ok(()) => told.push_str("done")?,
         Err(fault) => write!(told, "{fault}")?,
     }
+    Ok(())
+}
+
+fn tell_answer(told: &mut String, answer: Answer) -> Result<(), Wrong> {
+    let pushed = answer.push(told);
+    drop(answer);
+    pushed?;
     Ok(())
 }
 
