@@ -3,7 +3,7 @@ ghost use Rattle.wait_model.specs.Fits.{is_write};
 
 use etcd_types::{Answer, Bytes, Request};
 use message_text::Text;
-use revoke_core::{DueKind, Entry, LeaseTable, NotShape, Phase, Settled, Waits};
+use revoke_core::{Due, DueKind, Entry, LeaseTable, NotShape, Phase, Settled, Waits};
 use std::alloc::Global;
 use table_rows::Wrong;
 use text_words::{Words, is_word, read_bytes, read_number};
@@ -117,7 +117,12 @@ impl Trial {
     fn ask(&mut self, words: &mut Words) -> Result<(), Wrong> {
         let ticket = read_number(words)?;
         let request = Request::read(self.alloc, words)?;
+        self.submit(ticket, request)
+    }
+
+    fn submit(&mut self, ticket: u64, request: Request) -> Result<(), Wrong> {
         if !is_write(&request) {
+            drop(request);
             return Err(Wrong::Word);
         }
         self.waits.submit(ticket, request)?;
@@ -126,11 +131,10 @@ impl Trial {
 
     fn send(&mut self, words: &mut Words) -> Result<(), Wrong> {
         let call = read_number(words)?;
-        match self.waits.next_job(call, &mut self.table)? {
-            None => self.told.push_str("nothing")?,
-            Some(due) => write!(self.told, "{} {}", kind(due.kind), due.ticket)?,
-        }
-        Ok(())
+        let due = self.waits.next_job(call, &mut self.table)?;
+        let told = tell_due(&mut self.told, &due);
+        drop(due);
+        told
     }
 
     fn answer(&mut self, words: &mut Words) -> Result<(), Wrong> {
@@ -154,12 +158,9 @@ impl Trial {
     }
 
     fn tell_settled(&mut self, settled: Settled) -> Result<(), Wrong> {
-        match settled {
-            Settled::Nothing => self.told.push_str("nothing")?,
-            Settled::Reply(ticket, _) => write!(self.told, "reply {ticket}")?,
-            Settled::Failed(ticket) => write!(self.told, "failed {ticket}")?,
-        }
-        Ok(())
+        let told = tell(&mut self.told, &settled);
+        drop(settled);
+        told
     }
 
     fn tell_entry(&mut self, key: &Bytes) -> Result<(), Wrong> {
@@ -178,6 +179,23 @@ fn is_write(request: &Request) -> bool
         request,
         Request::Put(_) | Request::Delete(_) | Request::Txn(_)
     )
+}
+
+fn tell_due(out: &mut String, due: &Option<Due>) -> Result<(), Wrong> {
+    match due {
+        None => out.push_str("nothing")?,
+        Some(due) => write!(out, "{} {}", kind(due.kind), due.ticket)?,
+    }
+    Ok(())
+}
+
+fn tell(out: &mut String, settled: &Settled) -> Result<(), Wrong> {
+    match settled {
+        Settled::Nothing => out.push_str("nothing")?,
+        Settled::Reply(ticket, _) => write!(out, "reply {ticket}")?,
+        Settled::Failed(ticket) => write!(out, "failed {ticket}")?,
+    }
+    Ok(())
 }
 
 fn kind(kind: DueKind) -> &'static str {
