@@ -119,6 +119,3 @@ impl Members {
         self.seen = self.seen.max(revision);
     }
 }
-
-#[cfg(test)]
-mod tests;

@@ -129,6 +129,3 @@ fn expiry(sent_at: u64, ttl: u64) -> u64
 {
     sent_at.saturating_add(millis(ttl))
 }
-
-#[cfg(test)]
-mod tests;

@@ -154,6 +154,3 @@ fn plain_body(alloc: Global, kv: Option<&Kv>) -> Result<Body, NoMemory>
         kvs,
     })
 }
-
-#[cfg(test)]
-mod tests;

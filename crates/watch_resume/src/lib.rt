@@ -101,6 +101,3 @@ impl Upstream {
         (&self.range, self.next)
     }
 }
-
-#[cfg(test)]
-mod tests;
