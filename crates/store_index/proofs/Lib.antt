@@ -8,3 +8,7 @@ pub mod ListingLemmas
 pub mod AddingLemmas
 pub mod IndexLemmas
 pub mod SeenLemmas
+pub mod Gathering
+pub mod HistoryKeys
+pub mod LeaseLemmas
+pub mod CountLemmas

@@ -44,7 +44,7 @@ IsRead read h range e = contains range e.0 ≡ true → read e.1 ≡ record_now 
 abbrev IsBefore : List ℕ → List ℕ → Type 0
 IsBefore k q = slice_cmp nat_cmp k q ≡ Less
 
-shown-cons : (read : Read) (range : KeyRange) (e : Entry) (es : Entries)
+pub shown-cons : (read : Read) (range : KeyRange) (e : Entry) (es : Entries)
     → shown_by read range (e ∷ es) ≡ cond (contains range e.0) (cons_option (read e.1) (shown_by read range es)) (shown_by read range es)
 shown-cons read range e es = by_test (contains range e.0)
   where
@@ -55,7 +55,7 @@ shown-cons read range e es = by_test (contains range e.0)
 
 -- rising keys
 
-less_before : (a b : List ℕ) → IsBefore a b → before a b ≡ true
+pub less_before : (a b : List ℕ) → IsBefore a b → before a b ≡ true
 less_before a b e = ap (λ (o : Ordering). not (is_le o)) (nat_list_cmp_total.antisymm b a ∙ ap ordering_reverse e)
 
 passed : (p : List ℕ → Bool) (h : History) (k : List ℕ) (b : Bool) (o : Option Kv) (rest : List Kv) → (b ≡ true → o ≡ record_now h k) → p k ≡ true
@@ -147,7 +147,7 @@ found_shown read range k kv (f ∷ es) i n e =
         (first_shown (read f.1) (shown_by read range es) kv g)
     by_key false t g later = later_shown (contains range f.0) (read f.1) (shown_by read range es) kv (later g)
 
-there : (es : Entries) → AreOrdered es → (e : Entry) → Contains es e → lookup (is_at (slice_cmp nat_cmp e.0)) es ≡ Some e.1
+pub there : (es : Entries) → AreOrdered es → (e : Entry) → Contains es e → lookup (is_at (slice_cmp nat_cmp e.0)) es ≡ Some e.1
 there es ordered e c =
     lookup-from_Contains {eq = eq_by_cmp (slice_cmp nat_cmp)} (eq_by_cmp_equiv nat_list_cmp_total) e.0 e.1 es
     (IsDistinct-from_sorted (slice_cmp nat_cmp) (keys_of es) ordered) c

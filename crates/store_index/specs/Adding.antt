@@ -9,13 +9,13 @@ use Rattle.kept_model.specs.declared.version.Version.{Version}
 use Rattle.kept_model.specs.Versions.{versions_in, last_left}
 use Rattle.store_index.specs.Maps.{Entries, versions_of, added, taken}
 
--- what a change leaves of its key
-abbrev pub left_of : ℕ → KeyChange → Entries → Option Kv
-left_of revision (Put key value lease) es = Some (after_put (last_left (versions_of es key) None) key value lease revision)
-left_of revision (Delete key) es = None
+-- the version that a change makes, where `old` is its key's record before it
+abbrev pub version_from : ℕ → KeyChange → Option Kv → Version
+version_from revision (Put key value lease) old = record { revision = revision; left = Some (after_put old key value lease revision) }
+version_from revision (Delete key) old = record { revision = revision; left = None }
 
 abbrev pub version_of : ℕ → KeyChange → Entries → Version
-version_of revision c es = record { revision = revision; left = left_of revision c es }
+version_of revision c es = version_from revision c (last_left (versions_of es (changed_key c)) None)
 
 abbrev pub with_change : ℕ → KeyChange → Entries → Entries
 with_change revision c es = added (changed_key c) (version_of revision c es) es
@@ -24,10 +24,10 @@ abbrev pub added_all : ℕ → List KeyChange → Entries → Entries
 added_all revision [] es = es
 added_all revision (c ∷ cs) es = added_all revision cs (with_change revision c es)
 
--- and once they were taken back, the last one first
-abbrev pub taken_all : List KeyChange → Entries → Entries
+-- without the newest version of each of these keys, that of the last one first
+abbrev pub taken_all : List (List ℕ) → Entries → Entries
 taken_all [] es = es
-taken_all (c ∷ cs) es = taken (changed_key c) (taken_all cs es)
+taken_all (k ∷ ks) es = taken k (taken_all ks es)
 
 -- the versions of a key, with those that the changes make of it behind them
 abbrev pub with_changes : ℕ → List KeyChange → List Version → List ℕ → List Version

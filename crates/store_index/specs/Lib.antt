@@ -4,5 +4,7 @@ pub mod Listings
 pub mod Bounds
 pub mod Adding
 pub mod Seen
+pub mod Leases
+pub mod Count
 pub mod Kept
 pub mod Index

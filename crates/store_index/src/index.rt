@@ -1,14 +1,18 @@
-ghost use Rattle.std.specs.Prelude.{◌≡◌, ◌≤◌, ◌<◌, ◌^◌, ◌-◌, [], get_or, IfOk, OnOk, OnErr};
+ghost use Rattle.std.specs.Prelude.{◌≡◌, ◌≤◌, ◌<◌, ◌^◌, ◌-◌, [], get_or, min, IfOk, OnOk, OnErr};
 ghost use Rattle.std.specs.Option.{option_copied};
 ghost use Rattle.store_model.specs.History.{History, newest, with_revision};
 ghost use Rattle.store_model.specs.Records.{record_now};
 ghost use Rattle.store_model.specs.Ranges.{records_now, records_in};
 ghost use Rattle.kept_model.specs.Versions.{kept_versions};
 ghost use Rattle.kept_model.specs.Places.{changed_keys};
+ghost use Rattle.store_model.specs.Leases.{attached};
 ghost use Rattle.store_index.specs.Maps.{HaveVersions};
+ghost use Rattle.store_index.specs.Count.{count_kept};
 ghost use Rattle.store_index.specs.Kept.{KeepsSome};
 
-use crate::places::{Places, changed_keys};
+use crate::changes::Changes;
+use crate::leased::LeasedVersions;
+use crate::places::{Keys, Places};
 use crate::reading::left_now;
 use crate::versions::Versions;
 use etcd_types::{Bytes, KeyRange, Kv, List, NoMemory};
@@ -21,7 +25,7 @@ use store_model::KeyChange;
 #[derive(Debug, Drop)]
 pub struct Index {
     pub(crate) alloc: Global,
-    pub(crate) versions: Versions,
+    pub(crate) versions: LeasedVersions,
     pub(crate) places: Places,
     /// The revision of the last compaction, 0 where there was none.
     pub compacted: u64,
@@ -43,7 +47,7 @@ impl Index {
     {
         Index {
             alloc,
-            versions: Versions::new(alloc),
+            versions: LeasedVersions::new(alloc),
             places: Places::new(alloc),
             compacted: 0,
             newest: 1,
@@ -81,8 +85,23 @@ impl Index {
             return Ok(records);
         }
         let mut seen = Versions::of_records(self.alloc, records.as_slice())?;
-        seen.add_changes(self.newest + 1, made)?;
+        seen.add_copies(self.newest + 1, made)?;
         Ok(seen.records(range, None)?)
+    }
+
+    /// The records whose key is attached to the lease, in the order of the keys. Leases have numbers from 1.
+    pub fn attached(&self, lease: u64) -> Result<List<Kv>, NoMemory>
+        requires { 0 < lease }
+        ensures { IfOk result (λ kvs. (h : History) → HoldsKept self.now h → kvs ≡ attached h lease) }
+    {
+        Ok(self.versions.attached(lease)?)
+    }
+
+    /// How many versions are kept of all keys together, or the last number of 64 bits where there are more. It takes no memory.
+    pub fn kept(&self) -> u64
+        ensures { (h : History) → HoldsKept self.now h → result ≡ min (count_kept h self.now.compacted) 0xffff_ffff_ffff_ffff }
+    {
+        self.versions.count()
     }
 
     /// The versions of the key that are kept, by rising revisions.
@@ -103,18 +122,19 @@ impl Index {
     }
 
     /// Adds the changes as one revision, where there are any. Where memory was wanting all is as before.
-    pub fn add(&mut self, changes: &[KeyChange]) -> Result<(), NoMemory>
+    pub fn add(&mut self, changes: Changes) -> Result<(), NoMemory>
         requires { self.old.newest < 2 ^ 63 }
-        ensures ok { OnOk result ((h : History) → HoldsKept self.old h → HoldsKept self.new (with_revision h changes.now)) }
+        ensures ok { OnOk result ((h : History) → HoldsKept self.old h → HoldsKept self.new (with_revision h changes)) }
         ensures compacted { OnOk result (self.new.compacted ≡ self.old.compacted) }
         ensures err { OnErr result (self.new ≡ self.old) }
     {
-        if changes.is_empty() {
+        if changes.as_slice().is_empty() {
             return Ok(());
         }
-        let keys = changed_keys(self.alloc, changes)?;
+        let keys = Keys::of_changes(self.alloc, changes.as_slice())?;
         self.places.push(keys)?;
-        match self.versions.add_changes(self.newest + 1, changes) {
+        let keys = self.places.at(self.places.len() - 1);
+        match self.versions.add_changes(self.newest + 1, changes, keys) {
             Ok(()) => {
                 self.newest += 1;
                 Ok(())

@@ -1,4 +1,5 @@
-ghost use Rattle.std.specs.Prelude.{◌≡◌, ◌++◌, OnOk, IfOk};
+ghost use Rattle.std.specs.Prelude.{◌≡◌, ◌++◌, length, min, OnOk, IfOk};
+ghost use Rattle.std.specs.List.{flat_map};
 ghost use Rattle.std.specs.Option.{option_to_list};
 ghost use Rattle.std.specs.Range.Bound.{bound_map};
 ghost use Rattle.etcd_types.specs.Keys.{is_zero};
@@ -29,6 +30,18 @@ pub(crate) fn records_in(
         add_left(alloc, &mut kvs, versions.as_slice(), up_to)?;
     }
     Ok(kvs)
+}
+
+/// How many versions there are, or the last number of 64 bits where there are more.
+pub(crate) fn count_versions(map: &BTreeMap<Bytes, KeyVersions>) -> u64
+    ensures count { result ≡ min (length (flat_map (λ e. e.1) map.now.entries)) 0xffff_ffff_ffff_ffff }
+    ensures ordered { AreOrdered map.now.entries }
+{
+    let mut count: u64 = 0;
+    for (_, versions) in map.iter() {
+        count = count.saturating_add(versions.as_slice().len() as u64);
+    }
+    count
 }
 
 /// Adds the record that the versions left, where there is one.

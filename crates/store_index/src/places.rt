@@ -1,18 +1,50 @@
 ghost use Rattle.std.specs.Prelude.{◌≡◌, ◌-◌, ◌<◌, [], ◌∷◌, ◌++◌, length, take, drop, get_or, IfOk, OnOk, OnErr};
-ghost use Rattle.std.specs.Option.{option_copied};
 ghost use Rattle.kept_model.specs.Places.{changed_keys};
-ghost use Rattle.store_model.specs.History.{changed_key};
 
-use etcd_types::{Bytes, List, NoMemory};
+use crate::changes::changed_key;
+use etcd_types::{Bytes, NoMemory};
 use std::alloc::Global;
 use std::collections::VecDeque;
 use std::marker::Model;
 use store_model::KeyChange;
 
+/// The keys that one revision changed, in the order of its changes. Contracts see it as the list of them.
+#[derive(Debug, Drop)]
+pub(crate) struct Keys {
+    items: Vec<Bytes>,
+}
+
+impl Model for Keys {
+    ghost use Rattle.std.specs.Prelude.{List, ℕ};
+
+    ghost Value = { List (List ℕ) };
+
+    ghost view = { λ k. k.items.items };
+}
+
+impl Keys {
+    /// The keys of the changes, with room for them alone, since most revisions change one.
+    pub(crate) fn of_changes(alloc: Global, changes: &[KeyChange]) -> Result<Keys, NoMemory>
+        ensures { IfOk result (λ keys. keys ≡ changed_keys changes.now) }
+    {
+        let mut items = Vec::with_capacity(alloc, changes.len())?;
+        for change in changes {
+            items.push(changed_key(change).copy(alloc)?)?;
+        }
+        Ok(Keys { items })
+    }
+
+    pub(crate) fn as_slice(&self) -> &[Bytes]
+        ensures { result.now ≡ self.now }
+    {
+        self.items.as_slice()
+    }
+}
+
 /// Which keys each revision changed, in the order of its changes. Contracts see it as the list of these lists of keys.
 #[derive(Debug, Drop)]
-pub struct Places {
-    revisions: VecDeque<List<Bytes>>,
+pub(crate) struct Places {
+    revisions: VecDeque<Keys>,
 }
 
 impl Model for Places {
@@ -49,7 +81,7 @@ impl Places {
     }
 
     /// Adds the keys that a further revision changed. Where memory was wanting all is as before.
-    pub fn push(&mut self, keys: List<Bytes>) -> Result<(), NoMemory>
+    pub fn push(&mut self, keys: Keys) -> Result<(), NoMemory>
         ensures ok { OnOk result (self.new ≡ self.old ++ keys ∷ []) }
         ensures err { OnErr result (self.new ≡ self.old) }
     {
@@ -72,26 +104,5 @@ impl Places {
             self.revisions.pop_front();
         }
         self.revisions.shrink_to_fit();
-    }
-}
-
-/// The keys of the changes, in their order.
-pub fn changed_keys(alloc: Global, changes: &[KeyChange]) -> Result<List<Bytes>, NoMemory>
-    ensures { IfOk result (λ keys. keys ≡ changed_keys changes.now) }
-{
-    let mut keys = List::new(alloc);
-    for change in changes {
-        keys.push(changed_key(change).copy(alloc)?)?;
-    }
-    Ok(keys)
-}
-
-/// The key that a change is about.
-pub(crate) fn changed_key(change: &KeyChange) -> &Bytes
-    ensures { result.now ≡ changed_key change.now }
-{
-    match change {
-        KeyChange::Put { key, .. } => key,
-        KeyChange::Delete { key } => key,
     }
 }

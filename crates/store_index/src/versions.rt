@@ -1,12 +1,16 @@
-ghost use Rattle.std.specs.Prelude.{◌≡◌, ℕ, List as Values, [], IfOk, OnOk, OnErr};
+ghost use Rattle.std.specs.Prelude.{◌≡◌, ℕ, List as Values, [], true, length, min, IfOk, OnOk, OnErr};
+ghost use Rattle.std.specs.List.{flat_map};
+ghost use Rattle.std.specs.Option.{option_copied};
+ghost use Rattle.store_model.specs.History.{changed_key};
 ghost use Rattle.kept_model.specs.Versions.{kept};
+ghost use Rattle.kept_model.specs.Places.{changed_keys};
 ghost use Rattle.store_index.specs.Maps.{versions_of, added, taken, HaveVersions, AreOrdered, left_by, shown_by};
-ghost use Rattle.store_index.specs.Adding.{version_of, with_change, added_all, taken_all};
+ghost use Rattle.store_index.specs.Adding.{version_from, with_change, added_all, taken_all};
 ghost use Rattle.store_index.specs.Seen.{with_record, with_records};
 
+use crate::changes::{Changes, after_put, changed_key, copy_change};
 use crate::key_versions::KeyVersions;
-use crate::listing::records_in;
-use crate::places::changed_key;
+use crate::listing::{count_versions, records_in};
 use crate::reading::left_now;
 use etcd_types::{Bytes, KeyRange, Kv, List, NoMemory};
 use kept_model::Version;
@@ -44,8 +48,7 @@ impl Versions {
 
     /// Of each of these records one version, which left it. Where a key has several, they come in their order.
     pub fn of_records(alloc: Global, records: &[Kv]) -> Result<Versions, NoMemory>
-        ensures held { IfOk result (λ versions. versions ≡ with_records records.now []) }
-        ensures there { IfOk result (λ versions. HaveVersions versions) }
+        ensures { IfOk result (λ versions. versions ≡ with_records records.now []) }
     {
         let mut versions = Versions::new(alloc);
         for record in records {
@@ -83,6 +86,22 @@ impl Versions {
         records_in(self.alloc, &self.map, range, up_to)
     }
 
+    /// Whether there is no version.
+    pub fn is_empty(&self) -> bool
+        ensures empty { result ≡ true → self.now ≡ [] }
+        ensures ordered { AreOrdered self.now }
+    {
+        self.map.len() == 0
+    }
+
+    /// How many versions there are, or the last number of 64 bits where there are more. It takes no memory.
+    pub fn count(&self) -> u64
+        ensures count { result ≡ min (length (flat_map (λ e. e.1) self.now)) 0xffff_ffff_ffff_ffff }
+        ensures ordered { AreOrdered self.now }
+    {
+        count_versions(&self.map)
+    }
+
     /// Puts a version behind those of its key. Where memory was wanting all is as before.
     pub fn add(&mut self, key: &Bytes, version: Version) -> Result<(), NoMemory>
         ensures ok { OnOk result (self.new ≡ added key.now version self.old) }
@@ -114,18 +133,26 @@ impl Versions {
         }
     }
 
-    /// Adds the versions that the changes of a revision make. Where memory was wanting all is as before.
-    pub fn add_changes(&mut self, revision: u64, changes: &[KeyChange]) -> Result<(), NoMemory>
-        requires { HaveVersions self.old }
-        ensures ok { OnOk result (self.new ≡ added_all revision changes.now self.old) }
+    /// Adds the versions that the changes of a revision make, where `keys` are their keys. The changes' values go into the
+    /// versions as they are. Where memory was wanting all is as before.
+    pub fn add_changes(
+        &mut self,
+        revision: u64,
+        changes: Changes,
+        keys: &[Bytes],
+    ) -> Result<(), NoMemory>
+        requires there { HaveVersions self.old }
+        requires keys { keys.now ≡ changed_keys changes }
+        ensures ok { OnOk result (self.new ≡ added_all revision changes self.old) }
         ensures there { HaveVersions self.new }
         ensures err { OnErr result (self.new ≡ self.old) }
     {
-        for (index, change) in changes.iter().enumerate() {
-            match self.add_change(revision, change) {
-                Ok(()) => {}
+        let mut count = 0;
+        for change in changes.into_vec() {
+            match self.add_change(revision, change, &keys[count]) {
+                Ok(()) => count += 1,
                 Err(error) => {
-                    self.take_all_back(&changes[..index]);
+                    self.take_all_back(&keys[..count]);
                     return Err(error);
                 }
             }
@@ -133,42 +160,42 @@ impl Versions {
         Ok(())
     }
 
-    fn add_change(&mut self, revision: u64, change: &KeyChange) -> Result<(), NoMemory>
-        ensures ok { OnOk result (self.new ≡ with_change revision change.now self.old) }
+    /// Adds the versions that copies of these changes make.
+    pub fn add_copies(&mut self, revision: u64, changes: &[KeyChange]) -> Result<(), NoMemory>
+        ensures { OnOk result (self.new ≡ added_all revision changes.now self.old) }
+    {
+        for change in changes {
+            let copy = copy_change(self.alloc, change)?;
+            self.add_change(revision, copy, changed_key(change))?;
+        }
+        Ok(())
+    }
+
+    /// Adds the version that the change makes, where `key` is its key. Where memory was wanting all is as before.
+    fn add_change(&mut self, revision: u64, change: KeyChange, key: &Bytes) -> Result<(), NoMemory>
+        requires { key.now ≡ changed_key change }
+        ensures ok { OnOk result (self.new ≡ with_change revision change self.old) }
         ensures err { OnErr result (self.new ≡ self.old) }
     {
-        let version = self.version(revision, change)?;
-        self.add(changed_key(change), version)
-    }
-
-    /// The version that a change makes.
-    fn version(&self, revision: u64, change: &KeyChange) -> Result<Version, NoMemory>
-        ensures { IfOk result (λ version. version ≡ version_of revision change.now self.now) }
-    {
-        match change {
-            KeyChange::Put { key, value, lease } => {
-                let old = left_now(self.of(key));
-                let left = Kv::after_put(self.alloc, old, key, value, *lease, revision)?;
-                Ok(Version {
-                    revision,
-                    left: Some(left),
-                })
-            }
-            KeyChange::Delete { .. } => Ok(Version {
-                revision,
-                left: None,
-            }),
+        if let Some(versions) = self.map.get_mut(key) {
+            let version = version_from(revision, change, left_now(versions.as_slice()));
+            versions.push(version)?;
+            return Ok(());
         }
+        let versions = KeyVersions::one(self.alloc, version_from(revision, change, None))?;
+        let key = key.copy(self.alloc)?;
+        self.map.insert(key, versions)?;
+        Ok(())
     }
 
-    /// Takes back what these changes added, the last one first. It takes no memory.
-    fn take_all_back(&mut self, changes: &[KeyChange])
-        ensures { self.new ≡ taken_all changes.now self.old }
+    /// Takes back the newest version of each of these keys, that of the last one first. It takes no memory.
+    fn take_all_back(&mut self, keys: &[Bytes])
+        ensures { self.new ≡ taken_all keys.now self.old }
     {
-        let mut count = changes.len();
+        let mut count = keys.len();
         while count > 0 {
             count -= 1;
-            self.take_back(changed_key(&changes[count]));
+            self.take_back(&keys[count]);
         }
     }
 
@@ -181,5 +208,21 @@ impl Versions {
             versions.compact(revision);
             !versions.is_empty()
         });
+    }
+}
+
+/// The version that the change makes, where `old` is its key's record before it. It takes no memory.
+fn version_from(revision: u64, change: KeyChange, old: Option<&Kv>) -> Version
+    ensures { result ≡ version_from revision change (option_copied old.entry) }
+{
+    match change {
+        KeyChange::Put { key, value, lease } => Version {
+            revision,
+            left: Some(after_put(old, key, value, lease, revision)),
+        },
+        KeyChange::Delete { .. } => Version {
+            revision,
+            left: None,
+        },
     }
 }

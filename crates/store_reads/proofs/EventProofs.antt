@@ -1,13 +1,12 @@
 -- What a watch is told of a change is told by the version that it made and the one before it.
-use Rattle.std.proofs.Common.{◌≡◌, ℕ, suc, ◌+◌, ◌-◌, ◌≤◌, ◌<◌, ◌==◌, nat_lt, nat_le, not, ◌&&◌, ◌||◌, Bool, true, false, cond, List, [], ◌∷◌, ◌++◌, Option, None, Some, length, take, drop, get_or, map, refl, sym, ◌∙◌, ap, subst, arith, append_assoc, length-append, length-take-le}
+use Rattle.std.proofs.Common.{◌≡◌, ℕ, ◌+◌, ◌-◌, ◌≤◌, ◌<◌, nat_lt, nat_le, not, ◌&&◌, Bool, true, false, cond, List, [], ◌∷◌, ◌++◌, Option, None, Some, length, take, drop, get_or, refl, sym, ◌∙◌, ap, subst, arith, append_assoc, length-append, length-take-le}
 use Rattle.std.specs.List.{slice_get}
 use Rattle.std.proofs.Math.Seq.{take-append_seam}
-use Rattle.std.proofs.lemmas.List.{take-append-drop, drop_more}
+use Rattle.std.proofs.lemmas.List.{drop_more}
 use Rattle.std.proofs.lemmas.Bool.Decides.{nat_tests}
 use Rattle.etcd_types.specs.declared.record.Kv.{Kv}
 use Rattle.etcd_types.specs.declared.request.WatchAsk.{WatchAsk}
 use Rattle.etcd_types.specs.declared.watch.Event.{Event}
-use Rattle.etcd_types.specs.declared.watch.Change.{Change}
 use Rattle.etcd_types.specs.declared.watch.Change.TheVariants as event
 use Rattle.etcd_types.specs.Keys.{same}
 use Rattle.etcd_types.specs.Ranges.{contains}
@@ -18,7 +17,7 @@ use Rattle.store_model.specs.declared.history.KeyChange.{KeyChange}
 use Rattle.store_model.specs.declared.history.KeyChange.TheVariants.{Put, Delete}
 use Rattle.store_model.specs.History.{History, newest, with_revision, changed_key}
 use Rattle.store_model.specs.Records.{after_change, after_changes, record_now}
-use Rattle.store_model.specs.Events.{event_of, event_revision, visible_prev, told_event}
+use Rattle.store_model.specs.Events.{event_of, visible_prev, told_event}
 use Rattle.store_model.specs.Watches.{next_after}
 use Rattle.store_model.proofs.HistoryLemmas.{record_now-with_revision}
 use Rattle.store_history.specs.Batches.{told_prev, kind_passes, concerns, told_of}
@@ -30,8 +29,8 @@ use Rattle.kept_model.specs.Places.{changed_keys}
 use Rattle.kept_model.proofs.VersionProofs.{last_left-append, last_in}
 use Rattle.kept_model.proofs.ChangeProofs.{versions_in-append}
 use Rattle.store_reads.specs.Places.{count_same, IsFirstFrom}
-use Rattle.store_reads.specs.Told.{left_change, left_passes, told_left}
-use Rattle.store_reads.proofs.SplitProofs.{AllFrom, StartsAt, Split, coming, coming_from, splits, front_leaves, first_place}
+use Rattle.store_reads.specs.Told.{left_passes, told_left}
+use Rattle.store_reads.proofs.SplitProofs.{StartsAt, Split, coming, coming_from, splits, front_leaves, first_place}
 
 -- as many versions as changes of the key
 counted : (r : ℕ) (k : List ℕ) (cs : List KeyChange) (old : Option Kv) → length (versions_in r k cs old) ≡ count_same k (changed_keys cs)
@@ -200,6 +199,7 @@ pub record Tells (c : ℕ) (ask : WatchAsk) (h : History) (r : ℕ) (made : List
   pub told : told_of c ask (take (r - 2) h) made x
       ≡ cond (contains ask.range (changed_key x)) (told_left c ask r (changed_key x) (last_left (take at vs) None) version.left) []
   pub passes : left_passes ask version.left ≡ kind_passes ask x
+  pub revision : version.revision ≡ r
 
 kind_left : (ask : WatchAsk) (r : ℕ) (x : KeyChange) (old : Option Kv) → left_passes ask (after_change r (changed_key x) x old) ≡ kind_passes ask x
 kind_left ask r (Put key value lease) old = ap (λ (b : Bool). left_passes ask (cond b (Some (after_put old key value lease r)) old)) (same-itself key)
@@ -247,6 +247,7 @@ kept_tell c ask h r made others x at place is le begins here =
       told = told_so c ask h r made x (last_left (take at (kept_versions h c k)) None) first long
           (prev_at c ask h r k made s.front (take at (kept_versions h c k)) first le (λ later. front_leaves h c r k first later s) bare long seam.1);
       passes = kind_left ask r x (old_of h r made k);
+      revision = refl;
     }
 
 pub tells : (c : ℕ) (ask : WatchAsk) (h : History) (r : ℕ) (made others : List KeyChange) (x : KeyChange) (vs : List Version) (at place : ℕ) → IsChange h r made x others → c ≤ r

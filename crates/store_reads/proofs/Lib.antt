@@ -1,3 +1,4 @@
 pub mod SplitProofs
 pub mod EventProofs
 pub mod TellingProofs
+pub mod PassedProofs

@@ -4,12 +4,11 @@ use Rattle.std.specs.List.{slice_get}
 use Rattle.std.proofs.lemmas.List.{append-nil, take-append-drop}
 use Rattle.std.proofs.lemmas.List.Elements.{filter-append}
 use Rattle.std.proofs.lemmas.Bool.Decides.{nat_tests}
-use Rattle.std.proofs.lemmas.Option.{slice_get_past, slice_get-get_or}
 use Rattle.etcd_types.specs.declared.record.Kv.{Kv}
 use Rattle.etcd_types.specs.Keys.{same}
 use Rattle.store_model.specs.declared.history.KeyChange.{KeyChange}
 use Rattle.store_model.specs.History.{History, changed_key}
-use Rattle.store_model.specs.Records.{after_change, after_changes, record_now, record_at}
+use Rattle.store_model.specs.Records.{after_change, after_changes, record_now}
 use Rattle.kept_model.specs.declared.version.Version.{Version}
 use Rattle.kept_model.specs.Versions.{versions_in, versions_from, versions, last_left, up_to, is_up_to, held_left, held_of, held_list, kept_with, kept_versions}
 use Rattle.kept_model.proofs.KeptProofs.{kept_give_earlier}

@@ -1,5 +1,5 @@
 -- The changes of a revision, told one after the other by the kept versions of their keys.
-use Rattle.std.proofs.Common.{◌≡◌, ℕ, ◌+◌, ◌-◌, ◌≤◌, ◌<◌, ◌&&◌, Bool, true, false, cond, List, [], ◌∷◌, ◌++◌, None, Some, length, take, drop, get_or, map, refl, sym, ◌∙◌, ap, subst, arith, append_assoc, length-take-le, drop_of_length-le}
+use Rattle.std.proofs.Common.{◌≡◌, ℕ, ◌+◌, ◌-◌, ◌≤◌, ◌<◌, ◌&&◌, Bool, true, false, cond, List, [], ◌++◌, None, Some, length, take, drop, get_or, refl, sym, ◌∙◌, ap, subst, arith, append_assoc, length-take-le, drop_of_length-le}
 use Rattle.std.specs.List.{slice_get}
 use Rattle.std.proofs.lemmas.List.{take-append-drop, drop_more, get_or-map, length-map, take-map}
 use Rattle.std.proofs.lemmas.Option.{get_or_from_slice_get, slice_get-get_or}
@@ -11,7 +11,7 @@ use Rattle.store_model.specs.declared.history.KeyChange.TheVariants.{Delete}
 use Rattle.store_model.specs.History.{History, changed_key}
 use Rattle.store_model.specs.Watches.{next_after}
 use Rattle.store_model.specs.Events.{events_of_changes, events_after}
-use Rattle.store_history.specs.Batches.{told, told_of, concerns, kind_passes}
+use Rattle.store_history.specs.Batches.{told, told_of, kind_passes}
 use Rattle.store_history.proofs.EventLemmas.{told-at, told-revision_at, next_after-append}
 use Rattle.kept_model.specs.declared.version.Version.{Version}
 use Rattle.kept_model.specs.Versions.{last_left, kept_versions}
@@ -76,6 +76,7 @@ pub record Here (c : ℕ) (ask : WatchAsk) (h : History) (r place : ℕ) (k : Li
   pub version : Version
   pub there : slice_get vs at ≡ Some version
   pub within : at < length vs
+  pub revision : version.revision ≡ r
   pub step : contains ask.range k ≡ true
       → left_to_tell c ask h r place ≡ told_left c ask r k (last_left (take at vs) None) version.left ++ left_to_tell c ask h r (place + 1)
   pub next : contains ask.range k ≡ true → (n : ℕ) → next_after n (told_left c ask r k (last_left (take at vs) None) version.left) ≡ cond (left_passes ask version.left) (r + 1) n
@@ -98,6 +99,7 @@ here_told c ask h r place keys vs at begins a x le kept first here =
       version = t.version;
       there = t.there;
       within = t.within;
+      revision = t.revision;
       step = λ within. left_step c ask h r place keys x ∙ ap (λ (es : List Event). es ++ left_to_tell c ask h r (place + 1)) (all within);
       next = λ within n.
           ap (next_after n) (sym (all within)) ∙ next_told c ask h r (take place cs) x.change n a.first long

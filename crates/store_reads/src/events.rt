@@ -6,9 +6,10 @@ ghost use Rattle.store_model.specs.Watches.{next_after};
 ghost use Rattle.store_history.specs.Batches.{told_prev};
 ghost use Rattle.kept_model.specs.Places.{changed_keys};
 ghost use Rattle.store_index.specs.Index.{HoldsKept};
+ghost use Rattle.store_reads.specs.Places.{ArePassed};
 ghost use Rattle.store_reads.specs.Told.{left_change, left_passes, told_left, left_to_tell};
 
-use crate::places::{count_same, first_from};
+use crate::places::{Counts, first_from};
 use etcd_types::{Bytes, Change, Event, Kv, List, NoMemory, WatchAsk};
 use std::alloc::Global;
 use store_history::Batch;
@@ -52,13 +53,15 @@ fn add_events(
         → batch.new.next ≡ next_after batch.old.next (left_to_tell index.now.compacted ask.now h revision 0)) }
 {
     let keys = index.changed_at(revision);
+    let mut passed = Counts::new(alloc);
     for place in 0..keys.len() {
-        tell_change(alloc, batch, index, ask, revision, keys, place)?;
+        tell_change(alloc, batch, index, ask, revision, keys, place, &mut passed)?;
     }
     Ok(())
 }
 
-/// Adds what the watch is told of the change at this place of a revision, where `keys` are those that it changed.
+/// Adds what the watch is told of the change at this place of a revision, where `keys` are those that it changed and `passed`
+/// counts those before the place.
 fn tell_change(
     alloc: Global,
     batch: &mut Batch,
@@ -67,12 +70,16 @@ fn tell_change(
     revision: u64,
     keys: &[Bytes],
     place: usize,
+    passed: &mut Counts,
 ) -> Result<(), NoMemory>
     requires first { 2 ≤ revision }
     requires from { index.now.compacted ≤ revision }
     requires last { revision ≤ index.now.newest }
     requires keys { (h : History) → HoldsKept index.now h → keys.now ≡ changed_keys (get_or h (revision - 2) []) }
     requires place { place < length keys.now }
+    requires fits { length keys.now < 2 ^ 64 }
+    requires passed { ArePassed ask.now.range passed.old keys.now place }
+    ensures passed { OnOk result (ArePassed ask.now.range passed.new keys.now (place + 1)) }
     ensures events { OnOk result ((h : History) → HoldsKept index.now h
         → batch.new.events ++ left_to_tell index.now.compacted ask.now h revision (place + 1) ≡ batch.old.events ++ left_to_tell index.now.compacted ask.now h revision place) }
     ensures next { OnOk result ((h : History) → HoldsKept index.now h
@@ -83,7 +90,8 @@ fn tell_change(
         return Ok(());
     }
     let versions = index.kept_versions(key);
-    let at = first_from(versions, revision) + count_same(key, &keys[..place]);
+    let first = first_from(versions, revision);
+    let at = first + passed.pass(key, versions, first, revision)?;
     let left = versions[at].left.as_ref();
     let old = left_now(&versions[..at]);
     add_event(alloc, batch, index.compacted, ask, revision, key, left, old)?;

@@ -1,5 +1,5 @@
 -- A member applies revisions, on whatever history the index keeps.
-use Rattle.std.proofs.Common.{◌≡◌, ℕ, ◌-◌, ◌==◌, ◌||◌, nat_lt, Bool, false, cond, List, set, Result, Ok, Err, length, sym, ◌∙◌, ap, subst}
+use Rattle.std.proofs.Common.{◌≡◌, ℕ, ◌-◌, ◌||◌, nat_lt, Bool, false, cond, set, Result, Ok, Err, sym, ◌∙◌, ap, subst}
 use Rattle.etcd_types.proofs.Bools.{or_none}
 use Rattle.store_model.specs.declared.store_fault.StoreFault.{StoreFault}
 use Rattle.store_model.specs.declared.store_fault.StoreFault.TheVariants as fault

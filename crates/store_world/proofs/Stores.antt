@@ -1,10 +1,10 @@
 -- What is known of the states that a store stands for, though they may be many.
-use Rattle.std.proofs.Common.{◌≡◌, ℕ, ◌<◌, ◌≤◌, ◌^◌, [], arith, refl, sym, ◌∙◌, ap, subst, length}
+use Rattle.std.proofs.Common.{ℕ, ◌<◌, ◌≤◌, ◌^◌, [], arith, refl, sym, ◌∙◌, ap, subst, length}
 use Rattle.std.proofs.Math.Bridge.{le_prop}
 use Rattle.std.proofs.Math.Logic.{∥∥₁_map, ∥∥₁_elim}
 use Rattle.store_model.specs.History.{newest}
 use Rattle.store_model.specs.State.{State, HasMember}
-use Rattle.store_world.specs.Store.{state_of, Stands, Agree, StandForStates, StatesAgree}
+use Rattle.store_world.specs.Store.{state_of, Stands, StandForStates, StatesAgree}
 use Rattle.store_world.specs.declared.store.Store.{Store}
 
 pub stand_for_states : StandForStates

@@ -1,4 +1,4 @@
-pub mod ShortLeases
+pub mod ProperLeases
 pub mod Store
 pub mod Running
 pub mod Faults

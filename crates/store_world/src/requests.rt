@@ -12,10 +12,9 @@ ghost use Rattle.store_world.specs.Running.{ran_of};
 
 use crate::store::Store;
 use etcd_types::{
-    Answer, Body, DeleteAsk, Header, List, NoMemory, PutAsk, RangeAsk, Refusal, Reply, Request,
-    TxnAsk,
+    Answer, Body, DeleteAsk, Header, NoMemory, PutAsk, RangeAsk, Refusal, Reply, Request, TxnAsk,
 };
-use store_model::KeyChange;
+use store_index::Changes;
 use store_reads::read;
 use store_refusals as refusals;
 use store_refusals::first_refusal_of_txn;
@@ -88,7 +87,7 @@ impl Store {
         ensures step { IfOk result (λ answer. (h : History) → HoldsKept self.old.index h → Takes self.new answer (settled (state_of self.old h) member (run_txn (state_of self.old h) txn.now []))) }
         ensures err { OnErr result (self.new ≡ self.old) }
     {
-        let mut made = List::new(self.alloc);
+        let mut made = Changes::new(self.alloc);
         let told = self.run_txn(txn, &mut made)?;
         Ok(self.settle(member, made, told)?)
     }
@@ -115,7 +114,7 @@ impl Store {
         if ask.serializable {
             return Ok(self.read_applied(member, ask)?);
         }
-        let made = List::new(self.alloc);
+        let made = Changes::new(self.alloc);
         let told = self.run_range(ask, &made)?;
         Ok(self.settle(member, made, told)?)
     }
@@ -128,7 +127,7 @@ impl Store {
         if ask.key.is_empty() {
             return Ok(Answer::Refused(refusals::key_not_provided(self.alloc)?));
         }
-        let mut made = List::new(self.alloc);
+        let mut made = Changes::new(self.alloc);
         let told = self.run_put(ask, &mut made)?;
         Ok(self.settle(member, made, told)?)
     }
@@ -141,7 +140,7 @@ impl Store {
         if ask.range.key.is_empty() {
             return Ok(Answer::Refused(refusals::key_not_provided(self.alloc)?));
         }
-        let mut made = List::new(self.alloc);
+        let mut made = Changes::new(self.alloc);
         let told = self.run_delete(ask, &mut made)?;
         Ok(self.settle(member, made, told)?)
     }
@@ -150,7 +149,7 @@ impl Store {
     fn settle(
         &mut self,
         member: u32,
-        made: List<KeyChange>,
+        made: Changes,
         told: Result<Body, Refusal>,
     ) -> Result<Answer, NoMemory>
         requires room { self.old.index.newest < 2 ^ 63 }
@@ -163,22 +162,22 @@ impl Store {
         }
     }
 
-    fn commit(&mut self, member: u32, made: List<KeyChange>, body: Body) -> Result<Answer, NoMemory>
+    fn commit(&mut self, member: u32, made: Changes, body: Body) -> Result<Answer, NoMemory>
         requires room { self.old.index.newest < 2 ^ 63 }
         ensures step { IfOk result (λ answer. (h : History) → HoldsKept self.old.index h → Takes self.new answer (done (record (state_of self.old h) { history = with_revision h made }) member body)) }
         ensures err { OnErr result (self.new ≡ self.old) }
     {
-        self.add_revision(&made)?;
+        self.add_revision(made)?;
         Ok(self.done(member, body))
     }
 
-    pub(crate) fn add_revision(&mut self, made: &List<KeyChange>) -> Result<(), NoMemory>
+    pub(crate) fn add_revision(&mut self, made: Changes) -> Result<(), NoMemory>
         requires { self.old.index.newest < 2 ^ 63 }
-        ensures ok { OnOk result ((h : History) → HoldsKept self.old.index h → Stands self.new (record (state_of self.old h) { history = with_revision h made.now })) }
+        ensures ok { OnOk result ((h : History) → HoldsKept self.old.index h → Stands self.new (record (state_of self.old h) { history = with_revision h made })) }
         ensures leases { self.new.leases ≡ self.old.leases }
         ensures err { OnErr result (self.new ≡ self.old) }
     {
-        self.index.add(made.as_slice())?;
+        self.index.add(made)?;
         Ok(())
     }
 

@@ -9,6 +9,7 @@ ghost use Rattle.store_world.specs.Running.{Runs, RunsAll};
 use crate::store::Store;
 use etcd_types::{Body, DeleteAsk, Kv, List, NoMemory, Op, PutAsk, RangeAsk, Refusal, TxnAsk};
 use std::alloc::Global;
+use store_index::Changes;
 use store_model::KeyChange;
 use store_reads::{all_hold, latest, read, record_now};
 use store_refusals as refusals;
@@ -21,7 +22,7 @@ impl Store {
     pub(crate) fn run(
         &self,
         operation: &Op,
-        made: &mut List<KeyChange>,
+        made: &mut Changes,
     ) -> Result<Result<Body, Refusal>, NoMemory>
         ensures { IfOk result (λ told. (h : History) → HoldsKept self.now.index h → Runs told made.new (run (state_of self.now h) operation.now made.old)) }
     {
@@ -37,7 +38,7 @@ impl Store {
     pub(crate) fn run_txn(
         &self,
         txn: &TxnAsk,
-        made: &mut List<KeyChange>,
+        made: &mut Changes,
     ) -> Result<Result<Body, Refusal>, NoMemory>
         ensures { IfOk result (λ told. (h : History) → HoldsKept self.now.index h → Runs told made.new (run_txn (state_of self.now h) txn.now made.old)) }
     {
@@ -57,7 +58,7 @@ impl Store {
     fn run_all(
         &self,
         operations: &List<Op>,
-        made: &mut List<KeyChange>,
+        made: &mut Changes,
     ) -> Result<Result<List<Body>, Refusal>, NoMemory>
         ensures { IfOk result (λ told. (h : History) → HoldsKept self.now.index h → RunsAll told made.new (run_all (state_of self.now h) operations.now made.old)) }
     {
@@ -74,7 +75,7 @@ impl Store {
     pub(crate) fn run_range(
         &self,
         ask: &RangeAsk,
-        made: &List<KeyChange>,
+        made: &Changes,
     ) -> Result<Result<Body, Refusal>, NoMemory>
         ensures { IfOk result (λ told. (h : History) → HoldsKept self.now.index h → Runs told made.now (run_range (state_of self.now h) ask.now made.now)) }
     {
@@ -87,7 +88,7 @@ impl Store {
     pub(crate) fn run_put(
         &self,
         ask: &PutAsk,
-        made: &mut List<KeyChange>,
+        made: &mut Changes,
     ) -> Result<Result<Body, Refusal>, NoMemory>
         ensures { IfOk result (λ told. (h : History) → HoldsKept self.now.index h → Runs told made.new (run_put (state_of self.now h) ask.now made.old)) }
     {
@@ -101,7 +102,7 @@ impl Store {
     pub(crate) fn run_delete(
         &self,
         ask: &DeleteAsk,
-        made: &mut List<KeyChange>,
+        made: &mut Changes,
     ) -> Result<Result<Body, Refusal>, NoMemory>
         ensures { IfOk result (λ told. (h : History) → HoldsKept self.now.index h → Runs told made.new (run_delete (state_of self.now h) ask.now made.old)) }
     {
@@ -114,7 +115,7 @@ impl Store {
 fn put_on(
     alloc: Global,
     ask: &PutAsk,
-    made: &mut List<KeyChange>,
+    made: &mut Changes,
     old: Option<Kv>,
 ) -> Result<Result<Body, Refusal>, NoMemory>
     ensures { IfOk result (λ told. Runs told made.new (put_on ask.now made.old old)) }
@@ -153,7 +154,7 @@ fn put_change(alloc: Global, ask: &PutAsk, lease: u64) -> Result<KeyChange, NoMe
 fn delete_all(
     alloc: Global,
     ask: &DeleteAsk,
-    made: &mut List<KeyChange>,
+    made: &mut Changes,
     gone: List<Kv>,
 ) -> Result<Result<Body, Refusal>, NoMemory>
     ensures { IfOk result (λ told. Runs told made.new (delete_all ask.now made.old gone)) }
@@ -164,11 +165,7 @@ fn delete_all(
     Ok(Ok(Body::Delete { deleted, prevs }))
 }
 
-pub(crate) fn add_deletions(
-    alloc: Global,
-    made: &mut List<KeyChange>,
-    gone: &[Kv],
-) -> Result<(), NoMemory>
+pub(crate) fn add_deletions(alloc: Global, made: &mut Changes, gone: &[Kv]) -> Result<(), NoMemory>
     ensures { OnOk result (made.new ≡ made.old ++ map deletion gone.now) }
 {
     for record in gone {

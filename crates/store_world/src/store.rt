@@ -1,4 +1,4 @@
-ghost use Rattle.std.specs.Prelude.{◌≡◌, ◌<◌, ◌≤◌, ◌^◌, false, length, IfOk, IfErr, OnErr};
+ghost use Rattle.std.specs.Prelude.{◌≡◌, ◌<◌, ◌≤◌, ◌^◌, false, length, min, IfOk, IfErr, OnErr};
 ghost use Rattle.etcd_types.specs.declared.request.Request.TheVariants as request;
 ghost use Rattle.store_model.specs.History.{newest};
 ghost use Rattle.store_model.specs.State.{State, HasMember, starting};
@@ -6,6 +6,7 @@ ghost use Rattle.store_model.specs.Step.{exec, IsExecuted};
 ghost use Rattle.store_model.specs.Leases.{expired};
 ghost use Rattle.store_model.specs.Members.{applied};
 ghost use Rattle.store_model.specs.Watches.{opened, pushed, progressed};
+ghost use Rattle.store_index.specs.Count.{count_kept};
 
 use crate::leases::Leases;
 use crate::table::Table;
@@ -59,6 +60,15 @@ impl Store {
         ensures { (s : State) → Stands self.now s → result ≡ length s.applied }
     {
         self.applied.as_slice().len() as u64
+    }
+
+    /// How many versions it keeps of all keys together: those from its compaction on, and of each key whose last change at or
+    /// below it is a put below it, that put. More than 64 bits can count are told as the last number of 64 bits. It takes no
+    /// memory.
+    pub fn kept(&self) -> u64
+        ensures { (s : State) → Stands self.now s → result ≡ min (count_kept s.history s.compacted) 0xffff_ffff_ffff_ffff }
+    {
+        self.index.kept()
     }
 
     /// Does the request at member 1. Its one refusal is want of memory, and the store is then as before.

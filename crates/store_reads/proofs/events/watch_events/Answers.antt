@@ -1,5 +1,5 @@
 -- One revision is told, and the rest is left.
-use Rattle.std.proofs.Common.{◌≡◌, ◌+◌, ◌-◌, ◌<◌, ◌≤◌, List, length, arith}
+use Rattle.std.proofs.Common.{◌≡◌, ◌+◌, ◌-◌, ◌<◌, List, length, arith}
 use Rattle.etcd_types.specs.declared.watch.Event.{Event}
 use Rattle.store_history.proofs.EventLemmas.{telling_on, going_on}
 use Rattle.store_reads.specs.Told.{left_to_tell}

@@ -19,7 +19,7 @@ returns c = λ h holds.
     c.in_ok-records-2.ensures.shown
     ∙ seen_with_changes (c.args.self.now.newest + 1) h c.args.range.now c.args.made.now c.in_ok-records.records _ (ap (λ n. n + 1) holds.same_newest)
     (c.in_ok-records.ensures.shown ∙ records_held c.args.self.now h c.args.range.now holds c.in_ok-records.ensures.ordered)
-    (c.in_ok-add_changes.ensures.ok
+    (c.in_ok-add_copies.ensures
     ∙ ap (λ (es : Entries). added_all (c.args.self.now.newest + 1) c.args.made.now es)
-    (c.in_ok-seen.ensures.held ∙ ap (λ (kvs : List Kv). with_records kvs []) c.as_slice.ensures))
+    (c.in_ok-seen.ensures ∙ ap (λ (kvs : List Kv). with_records kvs []) c.as_slice.ensures))
     c.in_ok-records-2.ensures.ordered

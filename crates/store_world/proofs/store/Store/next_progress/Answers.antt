@@ -1,5 +1,4 @@
 use Rattle.std.proofs.Common.{sym}
-use Rattle.store_model.specs.History.{History}
 use Rattle.store_model.proofs.WatchLemmas.{progressed-some}
 use Rattle.store_world.specs.Store.{state_of}
 use Rattle.store_world.proofs.PushLemmas.{push_found, fault_found}

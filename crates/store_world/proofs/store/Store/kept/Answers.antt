@@ -1,0 +1,9 @@
+use Rattle.std.proofs.Common.{sym, ◌∙◌, ap, min}
+use Rattle.store_model.specs.State.{State}
+use Rattle.store_index.specs.Count.{count_kept}
+use Rattle.store_world.proofs.store.Store.kept.Goals as goal
+
+pub returns : goal.returns
+returns c = λ s stands.
+    c.kept.ensures s.history stands.history
+    ∙ ap (λ n. min (count_kept s.history n) 0xffff_ffff_ffff_ffff) (sym (ap (λ (t : State). t.compacted) stands.rest))
