@@ -10,6 +10,7 @@ use Rattle.watch_model.specs.State.{Stream, Watch, Broadcasts}
 use Rattle.watch_model.specs.Lookups.{stream_at}
 use Rattle.watch_model.specs.Merging.{kept_by, merged_number, merged_place, merged_stream, merged_watch, merged}
 use Rattle.watch_model.proofs.Streams.{at_number}
+use Rattle.watch_streams.specs.Rows.{row_of}
 use Rattle.watch_merge.specs.Twins.{is_twin, has_twins}
 
 neither : (a b : Bool) → (not a || b) ≡ false → (a ≡ true) × (b ≡ false)
@@ -50,3 +51,7 @@ watches_stay range ss (w ∷ ws) e = λ i. record w { place = place_stays range 
 
 pub nothing_merges : (range : KeyRange) (b : Broadcasts) → has_twins range b.streams ≡ false → merged range b ≡ b
 nothing_merges range b e = λ i. record b { streams = streams_stay range b.streams b.step b.streams e i; watches = watches_stay range b.streams b.watches e i }
+
+-- a merge leaves each stream's number and range
+pub merged_row : (range : KeyRange) (ss : List Stream) (step : ℕ) (s : Stream) → row_of (merged_stream range ss step s) ≡ row_of s
+merged_row range ss step s = elim (kept_by range ss s == s.number) as (λ b. row_of (cond b s (record s { phase = phase.Closing step })) ≡ row_of s) [ true ↦ refl | false ↦ refl ]

@@ -13,7 +13,7 @@ use std::alloc::Global;
 use std::marker::Model;
 use watch_model::{Stream, StreamPhase};
 use watch_queue::{Watching, renumber};
-use watch_streams::{is_closing, place_of, reopen};
+use watch_streams::{RangeIndex, is_closing, place_of, range_of, reopen};
 
 mod cancellations;
 mod deliveries;
@@ -27,6 +27,7 @@ mod takes;
 pub struct Broadcasts {
     alloc: Global,
     streams: Vec<Stream>,
+    index: RangeIndex,
     watches: Vec<Watching>,
     given: u64,
     step: u64,
@@ -35,14 +36,14 @@ pub struct Broadcasts {
 impl Model for Broadcasts {
     ghost use Rattle.std.specs.Prelude.{map};
     ghost use Rattle.watch_model.specs.State.{Broadcasts as Parts};
-    ghost use Rattle.watch_model.specs.Lookups.{InOrder};
     ghost use Rattle.watch_queue.specs.Watching.{shown};
+    ghost use Rattle.watch_merge.specs.Standing.{Stands};
 
     ghost Value = { Parts };
 
     ghost view = { λ b. record { streams = b.streams.items; watches = map shown b.watches.items; given = b.given; step = b.step } };
 
-    ghost invariant = { λ b. InOrder b.given b.streams.items (map shown b.watches.items) };
+    ghost invariant = { λ b. Stands b.given b.streams.items (map shown b.watches.items) b.index };
 }
 
 impl Broadcasts {
@@ -53,6 +54,7 @@ impl Broadcasts {
         Broadcasts {
             alloc,
             streams: Vec::new(alloc),
+            index: RangeIndex::new(alloc),
             watches: Vec::new(alloc),
             given: 0,
             step: 0,
@@ -109,11 +111,13 @@ impl Broadcasts {
         ensures state { self.new ≡ cut_at self.old (stream_at stream self.old.streams) }
     {
         let at = place_of(stream, &self.streams)?;
+        self.index.dropped(stream);
         if is_closing(self.streams[at].phase) {
             drop(self.streams.remove(at));
             return None;
         }
         self.given += 1;
+        self.index.opened(self.given, range_of(&self.streams[at]));
         reopen(at, self.given, self.step, &mut self.streams);
         renumber(stream, self.given, &mut self.watches);
         Some(self.given)

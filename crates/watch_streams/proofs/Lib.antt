@@ -1,1 +1,4 @@
+mod Halving
+pub mod Indexing
+mod Rising
 pub mod Places

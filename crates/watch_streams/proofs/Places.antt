@@ -60,6 +60,13 @@ pub again_is : (low high i number step : ℕ) (ss : List Stream) (d : Stream) �
 again_is low high i number step ss d h l =
     sym (reopened_is i number step ss d l) ∙ ap (λ (t : List Stream). t ++ again number step (get_or ss i d) ∷ []) (removed_is low high i ss d h l)
 
+-- the same by its number
+pub gone_is : (n i high : ℕ) (ss : List Stream) (d : Stream) → numbered 0 high ss ≡ true → IsAt n ss i → remove ss i ≡ without_stream n ss
+gone_is n i high ss d h p = removed_is 0 high i ss d h p.bound ∙ ap (λ (k : ℕ). without_stream k ss) (at_number n ss (get_or ss i d) (p.is d))
+
+pub gone_again : (n i number step high : ℕ) (ss : List Stream) (d : Stream) → numbered 0 high ss ≡ true → IsAt n ss i → reopened_at i number step ss ≡ without_stream n ss ++ again number step (get_or ss i d) ∷ []
+gone_again n i number step high ss d h p = again_is 0 high i number step ss d h p.bound ∙ ap (λ (k : ℕ). without_stream k ss ++ again number step (get_or ss i d) ∷ []) (at_number n ss (get_or ss i d) (p.is d))
+
 -- A cut, by what code does.
 
 pub cut_away : (b : Broadcasts) (n i : ℕ) (s : Stream) → numbered 0 b.given b.streams ≡ true → IsAt n b.streams i → s ≡ get_or b.streams i s → is_closing s.phase ≡ true

@@ -3,12 +3,15 @@
 #![tactic(auto)]
 
 mod due;
+mod index;
+mod rows;
 mod seats;
 mod streams;
 
 pub use due::first_due;
+pub use index::RangeIndex;
 pub use seats::stream_to_join;
 pub use streams::{
     advance, begin, copy_range, create, created_next, drop_stream, empty, is_awaited, is_begun,
-    is_closing, next_of, open, place_of, reopen,
+    is_closing, next_of, open, place_of, range_of, reopen,
 };

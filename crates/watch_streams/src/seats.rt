@@ -36,7 +36,7 @@ fn best_of<'a>(range: &KeyRange, limit: u64, streams: &'a [Stream]) -> Option<&'
     best
 }
 
-fn best_of_two<'a>(
+pub fn best_of_two<'a>(
     range: &KeyRange,
     limit: u64,
     best: Option<&'a Stream>,
@@ -87,7 +87,7 @@ fn opening_from_now<'a>(range: &KeyRange, streams: &'a [Stream]) -> Option<&'a S
     None
 }
 
-fn is_opening_from_now(range: &KeyRange, stream: &Stream) -> bool
+pub fn is_opening_from_now(range: &KeyRange, stream: &Stream) -> bool
     ensures { result ≡ is_opening_from_now range.now stream.now }
 {
     stream.stream.reopen().0 == range && !is_closing(stream.phase) && next_of(stream) == 0

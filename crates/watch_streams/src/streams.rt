@@ -1,4 +1,4 @@
-ghost use Rattle.std.specs.Prelude.{◌≡◌, ◌<◌, ◌≤◌, ◌+◌, ◌++◌, ◌∷◌, [], length, vec_len, IfSome, IfNone, IfOk, None};
+ghost use Rattle.std.specs.Prelude.{◌≡◌, ◌<◌, ◌≤◌, ◌+◌, ◌++◌, ◌∷◌, [], length, nat_lt, vec_len, IfSome, IfNone, IfOk, None};
 ghost use Rattle.std.specs.Vec.{vec_capacity};
 ghost use Rattle.watch_model.specs.Lookups.{stream_at, is_closing, is_begun, is_due, is_other, with_stream, without_stream, changed_stream};
 ghost use Rattle.watch_model.specs.Delivery.{advanced, is_awaited, created_stream};
@@ -6,7 +6,8 @@ ghost use Rattle.watch_model.specs.Due.{begun};
 ghost use Rattle.watch_model.specs.Joining.{new_stream};
 ghost use Rattle.proxy_model.specs.Upstream.{created};
 ghost use Rattle.watch_model.specs.Splitting.{closed, emptied_as};
-ghost use Rattle.watch_streams.specs.Places.{IsAt, reopened_at};
+ghost use Rattle.watch_streams.specs.Places.{IsAt, sooner, reopened_at};
+ghost use Rattle.watch_streams.specs.Rows.{IsNumbered};
 
 use etcd_types::{KeyRange, NoMemory};
 use std::alloc::Global;
@@ -26,6 +27,32 @@ pub fn place_of(number: u64, streams: &[Stream]) -> Option<usize>
     None
 }
 
+/// The place of the stream with this number, among rising numbers.
+pub fn place_by_number(number: u64, streams: &[Stream]) -> Option<usize>
+    requires { IsNumbered streams.now }
+    ensures found { IfSome result (IsAt number streams.now) }
+    ensures none { IfNone result (stream_at number streams.now ≡ None) }
+{
+    let at = sooner(number, streams);
+    if at == streams.len() || streams[at].number != number {
+        return None;
+    }
+    Some(at)
+}
+
+/// How many streams have a smaller number.
+fn sooner(number: u64, streams: &[Stream]) -> usize
+    requires { IsNumbered streams.now }
+    ensures bound { result ≤ length streams.now }
+    ensures count { result ≡ sooner number streams.now }
+{
+    streams.partition_point(
+        |stream: &Stream| -> bool
+            ensures { result ≡ nat_lt stream.now.number number }
+        { stream.number < number },
+    )
+}
+
 /// Whether it is due to be closed.
 pub fn is_closing(phase: StreamPhase) -> bool
     ensures { result ≡ is_closing phase }
@@ -40,7 +67,7 @@ pub fn is_begun(phase: StreamPhase) -> bool
     matches!(phase, StreamPhase::Begun)
 }
 
-fn is_due(phase: StreamPhase) -> bool
+pub fn is_due(phase: StreamPhase) -> bool
     ensures { result ≡ is_due phase }
 {
     matches!(phase, StreamPhase::Due { .. })
@@ -68,6 +95,13 @@ pub fn next_of(stream: &Stream) -> u64
     ensures { result ≡ stream.now.stream.next }
 {
     stream.stream.reopen().1
+}
+
+/// Its range.
+pub fn range_of(stream: &Stream) -> &KeyRange
+    ensures { result.now ≡ stream.now.stream.range }
+{
+    stream.stream.reopen().0
 }
 
 /// A copy of its range.

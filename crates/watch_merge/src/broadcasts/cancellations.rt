@@ -61,6 +61,7 @@ impl Broadcasts {
     {
         ready_to_leave(self.alloc, cancellation, &mut self.watches)?;
         self.streams.reserve(seats(cancellation, &self.watches))?;
+        self.index.forget();
         drop_stream(cancellation.stream, &mut self.streams);
         self.given = leave_all(
             cancellation,

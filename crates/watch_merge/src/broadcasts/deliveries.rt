@@ -112,6 +112,7 @@ impl Broadcasts {
         give(stream, next, header, &batch, &mut self.watches)?;
         advance(stream, last_revision(events), &mut self.streams);
         if !has_member(stream, &self.watches) {
+            self.index.emptied(stream, &self.streams);
             empty(stream, self.step, &mut self.streams);
         }
         Ok(())

@@ -30,6 +30,7 @@ impl Broadcasts {
         match found.phase {
             StreamPhase::Begun => Ok(None),
             StreamPhase::Closing { .. } => {
+                self.index.dropped(stream);
                 drop_stream(stream, &mut self.streams);
                 Ok(Some(StreamJob::Close { stream }))
             }

@@ -9,7 +9,7 @@ use crate::watches::insert_watch;
 use etcd_types::{Header, NoMemory, WatchAsk};
 use watch_model::{Joined, WatchPlace};
 use watch_queue::{Watching, new_watch, seat};
-use watch_streams::{next_of, open, stream_to_join};
+use watch_streams::{next_of, open};
 
 impl Broadcasts {
     /// A watch is asked for, by a ticket that isn't known; `last` is the highest header that was delivered. It joins the
@@ -34,12 +34,11 @@ impl Broadcasts {
         ensures state { OnOk result (self.new ≡ joined_as self.old (seated self.old.streams self.old.given self.old.step last (shown watch))) }
         ensures err { OnErr result (self.new ≡ self.old) }
     {
-        let found = match stream_to_join(
-            &self.streams,
-            &watch.ask.range,
-            watch.next,
-            last.revision,
-        ) {
+        self.index.build(&self.streams);
+        let found = match self
+            .index
+            .stream_to_join(&self.streams, &watch.ask.range, watch.next, last.revision)
+        {
             None => return self.join_fresh(watch),
             Some(found) => found,
         };
@@ -80,6 +79,7 @@ impl Broadcasts {
         self.streams.reserve(1)?;
         let range = watch.ask.range.copy(self.alloc)?;
         let number = self.given + 1;
+        self.index.opened(number, &range);
         open(number, self.step, range, watch.next, &mut self.streams);
         let mut seated = watch;
         seated.place = WatchPlace::In(number);

@@ -46,6 +46,7 @@ impl Broadcasts {
         match place {
             WatchPlace::In(stream) => {
                 if !has_member(stream, &self.watches) {
+                    self.index.emptied(stream, &self.streams);
                     empty(stream, self.step, &mut self.streams);
                 }
             }

@@ -13,7 +13,7 @@ use crate::watches::{drop_watch, ends, index_of, joins_again, take_into};
 use etcd_types::{Header, NoMemory, WatchItem};
 use watch_model::WatchPlace;
 use watch_queue::{take_and_seat, take_item};
-use watch_streams::{next_of, open, stream_to_join};
+use watch_streams::{next_of, open};
 
 impl Broadcasts {
     /// The first item of a watch's queue, which is taken, or none exactly where the queue is empty. A watch that was split
@@ -46,12 +46,11 @@ impl Broadcasts {
         if !joins_again(watch) {
             return self.take_only(at);
         }
-        let found = match stream_to_join(
-            &self.streams,
-            &watch.ask.range,
-            watch.next,
-            last.revision,
-        ) {
+        self.index.build(&self.streams);
+        let found = match self
+            .index
+            .stream_to_join(&self.streams, &watch.ask.range, watch.next, last.revision)
+        {
             None => return self.take_and_open(at),
             Some(found) => found,
         };
@@ -119,6 +118,7 @@ impl Broadcasts {
             drop_watch(ticket, &mut self.watches);
             return Ok(item);
         }
+        self.index.opened(number, &range);
         open(number, self.step, range, next, &mut self.streams);
         self.given = number;
         Ok(item)

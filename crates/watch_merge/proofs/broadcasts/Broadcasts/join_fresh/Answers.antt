@@ -6,6 +6,7 @@ use Rattle.watch_model.specs.Joining.{new_stream}
 use Rattle.watch_model.proofs.Streams.{numbered-push}
 use Rattle.watch_model.proofs.Tickets.{tickets-new}
 use Rattle.watch_queue.specs.Watching.{shown}
+use Rattle.watch_streams.specs.Rows.{Backed}
 use Rattle.watch_merge.proofs.broadcasts.Broadcasts.join_fresh.Goals as goal
 
 pub invariant_of-self-2 : goal.invariant_of-self-2
@@ -17,6 +18,9 @@ invariant_of-self-2 c =
     let v : Watch = record (shown c.args.watch) { place = place.In (given + 1) } in
     let absent : watch_at c.args.watch.ticket ws ≡ None = ap (λ (b : Broadcasts). watch_at c.args.watch.ticket b.watches) c.self.view_is ∙ c.requires.new in
     record {
+      index =
+          subst (Backed c.opened.new.self) (sym (c.open.ensures.opened ∙ ap (λ (l : List Stream). l ++ new ∷ []) c.reserve-2.ensures.items))
+          (c.opened.ensures ss new refl refl c.self.invariant.index);
       numbers =
           subst (λ (t : List Stream). numbered 0 (given + 1) t ≡ true) (sym (c.open.ensures.opened ∙ ap (λ (l : List Stream). l ++ new ∷ []) c.reserve-2.ensures.items))
           (numbered-push 0 given ss new (omega arith) refl c.self.invariant.numbers);

@@ -15,5 +15,6 @@ invariant_of-self-2 c =
     let absent : watch_at v.ticket ws ≡ None = ap (λ (t : ℕ). watch_at t ws) same ∙ ap (λ (b : Broadcasts). watch_at c.args.watch.ticket b.watches) c.self.view_is ∙ c.requires in
     record {
       numbers = c.self.invariant.numbers;
+      index = c.self.invariant.index;
       tickets = subst (λ (t : List Watch). tickets_from 0 t ≡ true) (sym (c.insert_watch.ensures ∙ ap (λ l. with_new_watch v (map shown l)) c.reserve.ensures.items)) (tickets-new v 0 ws (omega arith) absent c.self.invariant.tickets);
     }

@@ -8,7 +8,9 @@ use Rattle.watch_model.proofs.Tickets.{tickets-map}
 use Rattle.watch_queue.specs.Watching.{shown}
 use Rattle.watch_merge.specs.contracts.broadcasts.Broadcasts.{the_view}
 use Rattle.watch_merge.specs.Twins.{has_twins}
-use Rattle.watch_merge.proofs.Twins.{nothing_merges}
+use Rattle.watch_merge.proofs.Twins.{nothing_merges, merged_row}
+use Rattle.watch_streams.specs.Rows.{Backed}
+use Rattle.watch_streams.proofs.Indexing.{rows_map, backed_same}
 use Rattle.watch_merge.proofs.broadcasts.Broadcasts.merge_equal.Goals as goal
 
 pub returns-then-not-has_twins : goal.returns-then-not-has_twins
@@ -21,7 +23,9 @@ pub invariant_of-self : goal.invariant_of-self
 invariant_of-self c =
     let ss = c.self.inside.streams.items in
     let ws = map shown c.self.inside.watches.items in
+    let f = merged_stream c.args.range.now ss c.self.inside.step in
     record {
+      index = subst (Backed c.self.inside.index) (sym c.close_others.ensures) (backed_same c.self.inside.index ss (map f ss) (rows_map f (merged_row c.args.range.now ss c.self.inside.step) ss) c.self.invariant.index);
       numbers =
           subst (λ (t : List Stream). numbered 0 c.self.inside.given t ≡ true) (sym c.close_others.ensures)
           (numbered-map (merged_stream c.args.range.now ss c.self.inside.step) (merged-keeps c.args.range.now ss c.self.inside.step) 0 c.self.inside.given ss c.self.invariant.numbers);

@@ -8,6 +8,7 @@ use Rattle.watch_merge.proofs.broadcasts.Broadcasts.remove.Goals as goal
 pub invariant_of-self : goal.invariant_of-self
 invariant_of-self c = record {
   numbers = c.self.invariant.numbers;
+  index = c.self.invariant.index;
   tickets =
       subst (λ (t : List Watch). tickets_from 0 t ≡ true) (sym c.drop_watch.ensures)
       (tickets-without c.args.ticket 0 (map shown c.self.inside.watches.items) c.self.invariant.tickets);

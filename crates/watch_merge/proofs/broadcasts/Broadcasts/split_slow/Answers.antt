@@ -11,6 +11,7 @@ invariant_of-self c =
     let f = split c.args.next in
     record {
       numbers = c.self.invariant.numbers;
+      index = c.self.invariant.index;
       tickets =
           subst (λ (t : List Watch). tickets_from 0 t ≡ true) (sym c.split.ensures)
           (tickets-map (watch_changed c.args.ticket f) (changed-keeps_ticket c.args.ticket f (λ w. refl)) 0 (map shown c.self.inside.watches.items) c.self.invariant.tickets);

@@ -12,6 +12,7 @@ use Rattle.watch_queue.specs.Watching.{shown}
 use Rattle.watch_merge.specs.contracts.broadcasts.Broadcasts.{the_view}
 use Rattle.watch_merge.specs.Taking.{taken_to, opened_for}
 use Rattle.watch_merge.proofs.Takings.{put_tickets, is_shown, take_stays, take_goes, bound_of, same_watch}
+use Rattle.watch_streams.specs.Rows.{Backed}
 use Rattle.watch_merge.proofs.broadcasts.Broadcasts.take_and_open.Goals as goal
 
 pub invariant_of-self-then-ends : goal.invariant_of-self-then-ends
@@ -24,6 +25,7 @@ invariant_of-self-then-ends c =
     let k : x.ticket ≡ y.ticket = ap (λ (u : Watch). u.ticket) c.in_ok-item.ensures.ok in
     let after = put_tickets ws c.args.at x y (shown x) h l c.index_mut.ensures.value refl k in
     record {
+      index = subst (Backed c.self.inside.index) (sym c.reserve.ensures.items) c.self.invariant.index;
       numbers = subst (λ (t : List Stream). numbered 0 c.self.inside.given t ≡ true) (sym c.reserve.ensures.items) c.self.invariant.numbers;
       tickets = subst (λ (t : List Watch). tickets_from 0 t ≡ true) (sym c.drop_watch.ensures) (tickets-without c.index-watch.result.now.ticket 0 (map shown (set ws c.args.at x)) after);
     }
@@ -38,6 +40,9 @@ invariant_of-self-2 c =
     let k : x.ticket ≡ c.index_mut.result.now.ticket = ap (λ (u : Watch). u.ticket) c.in_ok-item.ensures.ok in
     let new : Stream = new_stream (given + 1) c.self.inside.step c.in_ok-range.range c.index-watch.result.now.next in
     record {
+      index =
+          subst (Backed c.opened.new.self) (sym (c.open.ensures.opened ∙ ap (λ (l : List Stream). l ++ new ∷ []) c.reserve.ensures.items))
+          (c.opened.ensures ss new refl refl c.self.invariant.index);
       numbers =
           subst (λ (t : List Stream). numbered 0 (given + 1) t ≡ true) (sym (c.open.ensures.opened ∙ ap (λ (l : List Stream). l ++ new ∷ []) c.reserve.ensures.items))
           (numbered-push 0 given ss new (omega arith) refl c.self.invariant.numbers);

@@ -1,0 +1,3 @@
+mod Runs
+pub mod Touches
+mod Waiting
