@@ -1,0 +1,3 @@
+mod Hearing
+mod Messages
+mod ShownBytes

@@ -1,0 +1,12 @@
+//! The machine of one proxy: each event is handled as its definition says, and takes all memory before it changes anything.
+#![tactic(auto)]
+
+mod asking;
+mod calls;
+mod events;
+mod proxy;
+mod sending;
+mod work;
+
+pub use core_model::{CoreEvent, Job, Outcome, Settings, StepFault};
+pub use proxy::Core;
