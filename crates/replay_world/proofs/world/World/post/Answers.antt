@@ -1,0 +1,14 @@
+-- The line is a turn of its proxy.
+use Rattle.std.proofs.Common.{ℕ, ◌+◌, sym, ◌∙◌, ap}
+use Rattle.replay_places.specs.declared.turn.Turn.TheVariants as turn
+use Rattle.replay_world.proofs.ProxyLines.{posted_turn}
+use Rattle.replay_world.proofs.Turns.{turn_line}
+use Rattle.replay_world.specs.Refusals.{ticket_fault}
+use Rattle.world_model.specs.Places.{kept_at}
+use Rattle.world_model.specs.State.{Numbered, Place}
+use Rattle.replay_world.proofs.world.World.post.Goals as goal
+
+pub returns-clause-step : goal.returns-clause-step
+returns-clause-step g c w s =
+    turn_line _ _ w c.args.proxy (turn.Post c.args.ticket c.args.path c.args.body c.args.word) c.turn.new.self c.turn.result _ c.self.view_is s c.turn.ensures
+    (posted_turn w c.args.proxy c.args.ticket c.args.path c.args.body c.args.word (c.requires ∙ ap (λ (n : ℕ). n + 2) (sym s.lines)) (ap (λ (t : Numbered Place). ticket_fault c.args.proxy c.args.ticket (kept_at t c.args.proxy)) s.places ∙ sym c.ticket_fault.ensures ∙ c.in_default.is))

@@ -1,0 +1,4 @@
+pub mod World
+pub mod Refusals
+pub mod Calls
+pub mod Step
