@@ -4,3 +4,4 @@ pub mod TrueAnswers
 pub mod Watches
 pub mod Lines
 pub mod Counting
+pub mod Effects

@@ -416,7 +416,7 @@ counted_by s w (Err why) g = tt
 counts : (s : Seen) (x : Step) → StepGoes s x → TakenGoes s (counted (step x))
 counts s x g = counted_by s x.world x.gained g
 
-taken_goes : (s : Seen) (w : World) (l : Line) → Tells s w → TakenGoes s (taken w l)
+pub taken_goes : (s : Seen) (w : World) (l : Line) → Tells s w → TakenGoes s (taken w l)
 taken_goes s w (line.World members namespace leasing) h = tt
 taken_goes s w (line.Start p) h = counts s (started w p) (started_goes s w p (place_at w p) h)
 taken_goes s w (line.Clock p millis) h = counts s (clock_set w p millis) (clock_goes s w p millis h)

@@ -1,0 +1,13 @@
+pub mod OwnNaming
+pub mod ReadNaming
+pub mod Bare
+pub mod CoreNaming
+pub mod JobNaming
+pub mod StepNaming
+pub mod Alls
+pub mod Inductions
+pub mod WorldsUnder
+pub mod Images
+pub mod Hearing
+pub mod Moving
+pub mod OneImage

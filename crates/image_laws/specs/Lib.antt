@@ -1,0 +1,5 @@
+pub mod Named
+pub mod Laws
+pub mod Worlds
+pub mod Moves
+pub mod One
