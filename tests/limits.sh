@@ -35,7 +35,7 @@ ends_with 'a line of 1,048,577 bytes' 6 limit
 
 # so many lines
 lines() {
-    script -v count="$1" 'BEGIN { for (i = 3; i <= count; i++) print "ask 1 " i " range a ~ 0 0 -" }'
+    script -v count="$1" 'BEGIN { for (i = 3; i <= count; i++) print "clock 1 " i }'
 }
 lines 1000000 > "$work/script"
 ends_with '1,000,000 lines' 0 ''

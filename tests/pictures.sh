@@ -17,6 +17,9 @@ agree() {
 for transcript in "$@"; do
     python3 "$draw" < "$transcript" > "$work/picture"
     python3 -c 'import sys, xml.dom.minidom; xml.dom.minidom.parse(sys.argv[1])' "$work/picture"
+    # a picture that stands beside its transcript is the one that is drawn of it
+    picture=${transcript%.transcript}.svg
+    [ ! -e "$picture" ] || cmp -s "$picture" "$work/picture" || { echo "pictures: $picture isn't what is drawn" >&2; exit 1; }
     agree "$transcript" executed 'class="arrow call"'
     agree "$transcript" answered 'class="arrow answer"'
     agree "$transcript" 'opened|closed|delivered' 'class="arrow message"'

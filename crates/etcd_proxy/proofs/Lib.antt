@@ -1,5 +1,1 @@
-pub mod Feeding
-pub mod Replays
-pub mod Scripts
-pub mod Turns
-pub mod Worlds
+pub mod Complete

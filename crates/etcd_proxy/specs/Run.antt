@@ -1,16 +1,17 @@
 -- What `replay` answers, and what it tells.
-use Rattle.std.specs.Prelude.{◌≡◌, ℕ, ◌++◌, Bool, true, false, List, [], Option, Result, Ok, Err, codes}
+use Rattle.std.specs.Prelude.{◌≡◌, ℕ, ◌++◌, Bool, true, false, List, [], Option, Some, Result, Ok, Err, codes}
 use Rattle.std.specs.Io.KnownBytes.{Appends}
 use Rattle.std.specs.Fmt.{decimal}
 use Rattle.outside.specs.Faults.{Rose}
 use Rattle.outside.specs.Streams.{WritesFront}
-use Rattle.replay_model.specs.Refusals.{refusal_text}
-use Rattle.replay_model.specs.declared.fault.LineRefusal.{LineRefusal}
+use Rattle.world_model.specs.Refusals.{refusal_text}
+use Rattle.world_model.specs.declared.fault.LineRefusal.{LineRefusal}
+use Rattle.replay_model.specs.Progress.{finished}
 use Rattle.replay_model.specs.declared.ending.Ending.{Ending}
 use Rattle.replay_model.specs.declared.ending.Ending.TheVariants as ending
-use Rattle.etcd_proxy.specs.Replays.{Replays, Stops}
-use Rattle.etcd_proxy.specs.declared.stop.Stop.{Stop}
-use Rattle.etcd_proxy.specs.declared.stop.Stop.TheVariants as stop
+use Rattle.replay_input.specs.Replays.{Replays, Stops}
+use Rattle.replay_input.specs.declared.stop.Stop.{Stop}
+use Rattle.replay_input.specs.declared.stop.Stop.TheVariants as stop
 
 abbrev pub status_of : Result Ending Stop → ℕ
 status_of (Ok ending.Open) = 0
@@ -51,6 +52,12 @@ pub record Runs (left left' written written' told told' : Option (List ℕ)) (fa
   pub status_is : status ≡ status_of outcome
   pub leaves : Leaves left left' written written' outcome
   pub tells : Tells told told' faults faults' (text_of_status outcome)
+
+-- The input tells its bytes, and they are a script within the limits whose lines can all be taken.
+pub record IsWholeScript (left : Option (List ℕ)) : Type 0 where
+  pub bytes : List ℕ
+  pub told : left ≡ Some bytes
+  pub taken : (finished bytes).ending ≡ ending.Open
 
 -- A text is written to the output with status 0, and nothing is told; or the output failed with status 4, a front of the text is
 -- written, and that is told.

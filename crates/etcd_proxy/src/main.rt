@@ -1,17 +1,8 @@
-//! The command `etcd_proxy`: so far `replay`, which runs a script over a small store and writes what happened.
+//! The command `etcd_proxy`: so far `replay`, which runs a script over proxies and a small store, and writes what happened.
 #![tactic(auto)]
 
-mod built;
-mod proxy;
-mod refused;
-mod replay;
 mod run;
-mod script;
-mod stop;
-#[cfg(test)]
-mod tests;
 mod words;
-mod world;
 
 use crate::words::NoWords;
 use outside::{Reading, Writing};

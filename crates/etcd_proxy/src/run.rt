@@ -2,16 +2,15 @@ ghost use Rattle.std.specs.Prelude.{◌≡◌, ◌≢◌, ◌↔◌, Some, None,
 ghost use Rattle.std.specs.Io.KnownBytes.{Appends};
 ghost use Rattle.outside.specs.Faults.{Rose};
 ghost use Rattle.outside.specs.Streams.{WritesFront};
-ghost use Rattle.etcd_proxy.specs.Run.{Runs, Tells, Prints, status_of, text_of_status, refused_text};
+ghost use Rattle.etcd_proxy.specs.Run.{Runs, Tells, Prints, IsWholeScript, status_of, text_of_status, refused_text};
 ghost use Rattle.etcd_proxy.specs.Texts.{usage_text, help_text, version_text};
 ghost use Rattle.etcd_proxy.specs.Words.{command_of};
 
-use crate::replay::replay_script;
-use crate::stop::Stop;
 use crate::words::{Command, NoWords, command_of};
 use etcd_types::NoMemory;
 use outside::{Failed, Sink, Source, write_whole};
-use replay_model::{Ending, LineRefusal};
+use proxy_core::Core;
+use replay_input::{Ending, LineRefusal, Stop, replay_script};
 use std::alloc::Global;
 
 const USAGE: &[u8] = b"usage: etcd_proxy replay\n";
@@ -55,10 +54,14 @@ pub fn run<S: Source, K: Sink, E: Sink>(
         (E.written errors.old) (E.written errors.new) (E.faults errors.old) (E.faults errors.new) version_text result }
     ensures unread { command_of words.now ≢ Some Command.Replay → input.new ≡ input.old }
 
-    // A script's transcript is written, and each of its answers is the store's.
+    // A script's transcript is written; each of its answers is the store's, and so is each message of a stream.
     ensures replays { command_of words.now ≡ Some Command.Replay
         → Runs (S.left input.old) (S.left input.new) (K.written output.old) (K.written output.new)
         (E.written errors.old) (E.written errors.new) (E.faults errors.old) (E.faults errors.new) result }
+
+    // A script within the limits whose lines can all be taken is never refused: nothing but a stream that fails or want of memory keeps
+    // it from its end.
+    ensures complete { command_of words.now ≡ Some Command.Replay → IsWholeScript (S.left input.old) → (result ≢ 1) × (result ≢ 6) }
 
     ensures read_fault { result ≡ 3 → Rose (S.faults input.old) (S.faults input.new) }
     ensures write_fault { result ≡ 4 → Rose (K.faults output.old) (K.faults output.new) }
@@ -102,11 +105,12 @@ fn replay<S: Source, K: Sink, E: Sink>(
 ) -> u8
     ensures runs { Runs (S.left input.old) (S.left input.new) (K.written output.old) (K.written output.new)
         (E.written errors.old) (E.written errors.new) (E.faults errors.old) (E.faults errors.new) result }
+    ensures complete { IsWholeScript (S.left input.old) → (result ≢ 1) × (result ≢ 6) }
     ensures no_usage { result ≢ 2 }
     ensures read_fault { result ≡ 3 → Rose (S.faults input.old) (S.faults input.new) }
     ensures write_fault { result ≡ 4 → Rose (K.faults output.old) (K.faults output.new) }
 {
-    let outcome = replay_script(alloc, input, output);
+    let outcome = replay_script::<Core, S, K>(alloc, input, output);
     match text_of(alloc, &outcome) {
         Ok(text) => {
             tell(errors, text.as_slice());

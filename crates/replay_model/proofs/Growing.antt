@@ -1,5 +1,5 @@
 -- What more bytes do to a progress: what it gains comes behind what it had gained, and behind a refused line nothing comes.
-use Rattle.std.proofs.Common.{◌≡◌, ◌≤◌, ℕ, ◌+◌, Bool, true, false, cond, ◌==◌, ◌||◌, ⊎_elim, inl, inr, List, [], ◌∷◌, ◌++◌, length, nat_lt, Result, Ok, Err, refl, sym, ◌∙◌, ap, subst, append_assoc, append-nil, length-append, arith}
+use Rattle.std.proofs.Common.{◌≡◌, ◌≤◌, ℕ, ◌+◌, Bool, true, false, cond, ◌==◌, ◌||◌, inl, inr, List, [], ◌∷◌, ◌++◌, length, nat_lt, Result, Ok, Err, refl, sym, ◌∙◌, ap, subst, append_assoc, append-nil, length-append, arith}
 use Rattle.std.proofs.lemmas.Bool.{lt-ltb, ltb-true}
 use Rattle.std.proofs.lemmas.Grind.{flat_map-append}
 use Rattle.etcd_types.proofs.Bools.{or_left, or_right, or_either}
@@ -11,11 +11,12 @@ use Rattle.script_text.specs.Lines.{line_at}
 use Rattle.replay_model.specs.Endings.{is_open}
 use Rattle.replay_model.specs.Progress.{Progress, progress, finished, on_line, after_line, after_reading, after_step, is_past, passes_limit, size_of, next_number, HasPassed}
 use Rattle.replay_model.specs.Script.{begun_line, line_feed}
-use Rattle.replay_model.specs.Transcript.{Taken, next, transcript_text}
+use Rattle.replay_model.specs.Transcript.{transcript_text}
+use Rattle.world_model.specs.Transcript.{Taken, next}
 use Rattle.replay_model.specs.declared.ending.Ending.{Ending}
 use Rattle.replay_model.specs.declared.ending.Ending.TheVariants as ending
 use Rattle.replay_model.specs.declared.limits.TheConstants.{MOST_LINE_BYTES, MOST_LINES, MOST_BYTES}
-use Rattle.replay_model.proofs.Progresses.{on_open, progress-append_one, finished-whole, finished-begun, past_limit}
+use Rattle.replay_model.proofs.Progresses.{on_open, progress-append_one, finished-begun, past_limit}
 use Rattle.replay_model.proofs.ScriptLines.{begun_line-append_one}
 
 pub is_open-true : (e : Ending) → is_open e ≡ true → e ≡ ending.Open

@@ -1,3 +1,5 @@
+pub mod FewLines
 pub mod Growing
 pub mod Progresses
 pub mod ScriptLines
+pub mod Transcripts

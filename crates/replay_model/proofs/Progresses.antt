@@ -1,11 +1,11 @@
 -- How a progress goes on by a byte.
-use Rattle.std.proofs.Common.{◌≡◌, ℕ, Bool, true, false, cond, ◌==◌, List, [], ◌∷◌, ◌++◌, length, refl, sym, ◌∙◌, ap, arith, add-zero}
+use Rattle.std.proofs.Common.{◌≡◌, ℕ, Bool, true, false, cond, ◌==◌, List, [], ◌∷◌, ◌++◌, length, refl, ◌∙◌, ap, arith, add-zero}
 use Rattle.etcd_types.specs.Keys.{is_empty}
 use Rattle.replay_model.specs.Endings.{is_open}
 use Rattle.replay_model.specs.Progress.{Progress, beginning, passes_limit, after_line, on_line, on_lines, progress, finished, after_reading, size_of, next_number}
 use Rattle.replay_model.specs.Script.{line_feed, whole_lines, begun_line}
 use Rattle.replay_model.specs.declared.ending.Ending.TheVariants as ending
-use Rattle.replay_model.proofs.ScriptLines.{whole_lines-append_one, begun_line-append_one}
+use Rattle.replay_model.proofs.ScriptLines.{whole_lines-append_one}
 use Rattle.script_text.specs.Lines.{line_at}
 
 pub on_lines-append_one : (p : Progress) (lines : List (List ℕ)) (line : List ℕ) → on_lines p (lines ++ line ∷ []) ≡ on_line (on_lines p lines) line true

@@ -1,5 +1,5 @@
 -- How the lines of a script grow by a byte, and that they make up the script.
-use Rattle.std.proofs.Common.{◌≡◌, ℕ, Bool, true, false, cond, ◌==◌, List, [], ◌∷◌, ◌++◌, refl, sym, ◌∙◌, ap, subst, append_assoc, eqb-true}
+use Rattle.std.proofs.Common.{◌≡◌, ℕ, Bool, true, false, cond, ◌==◌, List, [], ◌∷◌, ◌++◌, refl, sym, ◌∙◌, ap, eqb-true}
 use Rattle.std.specs.Prelude.{flat_map}
 use Rattle.replay_model.specs.Script.{line_feed, onto_first, whole_lines, begun_from, begun_line}
 

@@ -1,9 +1,5 @@
-pub mod Answers
-pub mod Built
 pub mod Endings
-pub mod Fits
+pub mod Laws
 pub mod Progress
-pub mod Refusals
 pub mod Script
 pub mod Transcript
-pub mod World

@@ -6,13 +6,13 @@ use Rattle.script_text.specs.declared.line.Line.{Line}
 use Rattle.script_text.specs.declared.item.Item.{Item}
 use Rattle.script_text.specs.Lines.{line_at}
 use Rattle.replay_model.specs.Endings.{is_open}
-use Rattle.replay_model.specs.World.{World}
+use Rattle.world_model.specs.State.{World}
 use Rattle.replay_model.specs.Script.{whole_lines, begun_line}
-use Rattle.replay_model.specs.Transcript.{Taken, next}
+use Rattle.world_model.specs.Transcript.{Taken, next}
 use Rattle.replay_model.specs.declared.limits.TheConstants.{MOST_LINE_BYTES, MOST_LINES, MOST_BYTES}
 use Rattle.replay_model.specs.declared.ending.Ending.{Ending}
 use Rattle.replay_model.specs.declared.ending.Ending.TheVariants as ending
-use Rattle.replay_model.specs.declared.fault.LineRefusal.TheVariants as refusal
+use Rattle.world_model.specs.declared.fault.LineRefusal.TheVariants as refusal
 
 -- the lines taken and what they gained, the bytes that they took with their line feeds, the world that they left
 pub record Progress : Type 0 where

@@ -1,5 +1,5 @@
 -- A script's bytes, cut into lines by line feeds.
-use Rattle.std.specs.Prelude.{ℕ, Bool, true, false, ◌==◌, if◌then◌else◌, List, [], ◌∷◌}
+use Rattle.std.specs.Prelude.{ℕ, ◌==◌, if◌then◌else◌, List, [], ◌∷◌}
 
 abbrev pub line_feed : ℕ
 line_feed = 10

@@ -1,7 +1,7 @@
 ghost use Rattle.std.specs.Prelude.{◌≡◌};
 ghost use Rattle.replay_model.specs.Endings.{is_open};
 
-use crate::fault::LineRefusal;
+use world_model::LineRefusal;
 
 /// How far a script was taken.
 #[derive(Clone, Copy, Debug, PartialEq, Eq)]

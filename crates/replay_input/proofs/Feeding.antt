@@ -1,0 +1,117 @@
+-- A piece of a script, byte by byte, and what of its transcript is written and what is pending.
+use Rattle.std.proofs.Common.{◌≡◌, ◌<◌, ℕ, ◌+◌, true, false, List, [], ◌∷◌, ◌++◌, length, take, drop, get_or, refl, sym, ◌∙◌, ap, subst, append_assoc, append-nil}
+use Rattle.std.specs.Prelude.{Option}
+use Rattle.std.proofs.lemmas.List.{take_more, take-append-drop}
+use Rattle.std.proofs.KnownBytes.{Appends-trans}
+use Rattle.std.specs.Io.KnownBytes.{Appends}
+use Rattle.outside.specs.Streams.{WritesFront}
+use Rattle.replay_model.specs.Endings.{is_open}
+use Rattle.replay_model.specs.Progress.{Progress}
+use Rattle.replay_model.specs.Transcript.{transcript_text}
+use Rattle.replay_model.proofs.Growing.{is_open-true, progress_grows, progress_stays, passed_more, passed_adds_nothing}
+use Rattle.replay_model.specs.declared.ending.Ending.{Ending}
+use Rattle.replay_model.specs.declared.ending.Ending.TheVariants as ending
+use Rattle.replay_input.specs.Replay.{Follows, Writes, HasRefused, TakesByte, Fed, Stopped, Feeds, text_so_far}
+use Rattle.replay_input.specs.declared.replay.Replay.{Replay}
+
+-- what is added to the text is added to what is pending
+pub writes_more : {start written : Option (List ℕ)} {pending text : List ℕ} (pending' text' added : List ℕ) → Writes start written pending text
+    → pending' ≡ pending ++ added → text' ≡ text ++ added → Writes start written pending' text'
+writes_more pending' text' added w p t = record {
+  front = w.front;
+  parts = t ∙ ap (λ (bs : List ℕ). bs ++ added) w.parts ∙ append_assoc w.front _ added ∙ ap (λ (bs : List ℕ). w.front ++ bs) (sym p);
+  written = w.written;
+}
+
+pub writes_front : {start written : Option (List ℕ)} {pending text : List ℕ} → Writes start written pending text → WritesFront start written text
+writes_front {pending = pending} w = record { front = w.front; rest = pending; parts = w.parts; written = w.written }
+
+-- what was pending was written
+pub flushed : (start old new : Option (List ℕ)) (pending text : List ℕ) → Writes start old pending text → Appends old new pending → Writes start new [] text
+flushed start old new pending text w a = record {
+  front = w.front ++ pending;
+  parts = w.parts ∙ sym (append-nil (w.front ++ pending));
+  written = Appends-trans start old new w.front pending w.written a;
+}
+
+-- or a front of it
+pub broke : (start old new : Option (List ℕ)) (pending text : List ℕ) → Writes start old pending text → WritesFront old new pending → WritesFront start new text
+broke start old new pending text w b = record {
+  front = w.front ++ b.front;
+  rest = b.rest;
+  parts = w.parts ∙ ap (λ (bs : List ℕ). w.front ++ bs) b.parts ∙ sym (append_assoc w.front b.front b.rest);
+  written = Appends-trans start old new w.front b.front w.written b.written;
+}
+
+pub next_front : (bytes piece : List ℕ) (i byte : ℕ) → i < length piece → byte ≡ get_or piece i 0
+    → bytes ++ take (i + 1) piece ≡ (bytes ++ take i piece) ++ byte ∷ []
+next_front bytes piece i byte within is =
+    ap (λ (bs : List ℕ). bytes ++ bs) (take_more piece i 0 within)
+    ∙ ap (λ b. bytes ++ (take i piece ++ b ∷ [])) (sym is)
+    ∙ sym (append_assoc bytes (take i piece) (byte ∷ []))
+
+fed_byte : {C : _} {g : _} (start written : Option (List ℕ)) (old new : Replay C g) (bytes : List ℕ) (byte : ℕ) → Fed start written old bytes
+    → TakesByte old new bytes byte ending.Open → Fed start written new (bytes ++ byte ∷ [])
+fed_byte start written old new bytes byte f t =
+    record { follows = t.follows refl; writes = writes_more new.pending.items (text_so_far (bytes ++ byte ∷ [])) t.added f.writes t.pending t.text }
+
+-- one byte more of a piece was taken
+pub fed_more : {C : _} {g : _} (start written : Option (List ℕ)) (old new : Replay C g) (bytes piece : List ℕ) (i byte : ℕ) (e : Ending) → i < length piece → byte ≡ get_or piece i 0
+    → is_open e ≡ true → Fed start written old (bytes ++ take i piece) → TakesByte old new (bytes ++ take i piece) byte e
+    → Fed start written new (bytes ++ take (i + 1) piece)
+fed_more start written old new bytes piece i byte e within is opened f t =
+    subst (Fed start written new) (sym (next_front bytes piece i byte within is))
+    (fed_byte start written old new (bytes ++ take i piece) byte f (subst (TakesByte old new (bytes ++ take i piece) byte) (is_open-true e opened) t))
+
+-- a refused line is the first one whatever follows
+refused_more : (e : Ending) (bytes more : List ℕ) → HasRefused bytes e → HasRefused (bytes ++ more) e
+refused_more ending.Open bytes more h = absurd h
+refused_more (ending.Refused number refusal) bytes more h = ap (λ (p : Progress). p.ending) (progress_stays bytes more (ap is_open h)) ∙ h
+refused_more ending.PastLimit bytes more h = passed_more bytes more h
+
+text_stays : (e : Ending) (bytes more : List ℕ) → HasRefused bytes e → text_so_far (bytes ++ more) ≡ text_so_far bytes
+text_stays ending.Open bytes more h = absurd h
+text_stays (ending.Refused number refusal) bytes more h = ap (λ (p : Progress). transcript_text p.items) (progress_stays bytes more (ap is_open h))
+text_stays ending.PastLimit bytes more h = ap transcript_text (passed_adds_nothing bytes more h)
+
+feeds_by : {C : _} {g : _} (start written : Option (List ℕ)) (new : Replay C g) (bytes : List ℕ) (e : Ending) → Stopped start written new bytes e → Feeds start written new bytes e
+feeds_by start written new bytes ending.Open s = absurd s.refused
+feeds_by start written new bytes (ending.Refused number refusal) s = s
+feeds_by start written new bytes ending.PastLimit s = s
+
+parts_of : (bytes piece : List ℕ) (n : ℕ) → (bytes ++ take n piece) ++ drop n piece ≡ bytes ++ piece
+parts_of bytes piece n = append_assoc bytes (take n piece) (drop n piece) ∙ ap (λ (bs : List ℕ). bytes ++ bs) (take-append-drop n piece)
+
+-- a byte refused a line
+pub refused_at : {C : _} {g : _} (start written : Option (List ℕ)) (old new : Replay C g) (bytes piece : List ℕ) (i byte : ℕ) (e : Ending) → i < length piece → byte ≡ get_or piece i 0
+    → is_open e ≡ false → Fed start written old (bytes ++ take i piece) → TakesByte old new (bytes ++ take i piece) byte e
+    → Feeds start written new (bytes ++ piece) e
+refused_at start written old new bytes piece i byte e within is closed f t =
+    let cut = (bytes ++ take i piece) ++ byte ∷ [] in
+    let more = drop (i + 1) piece in
+    let all : cut ++ more ≡ bytes ++ piece =
+    ap (λ (bs : List ℕ). bs ++ more) (sym (next_front bytes piece i byte within is)) ∙ parts_of bytes piece (i + 1) in
+    let refused = t.refused closed in
+    let written_of_cut : Writes start written new.pending.items (text_so_far cut) =
+    writes_more new.pending.items (text_so_far cut) t.added f.writes t.pending t.text in
+    subst (λ (bs : List ℕ). Feeds start written new bs e) all (feeds_by start written new (cut ++ more) e (record {
+      refused = refused_more e cut more refused;
+      writes = subst (Writes start written new.pending.items) (sym (text_stays e cut more refused)) written_of_cut;
+    }))
+
+-- what stands written is of a front of the bytes, and so of all
+pub stopped_at : (start written : Option (List ℕ)) (bytes piece : List ℕ) (i : ℕ)
+    → WritesFront start written (text_so_far (bytes ++ take i piece)) → WritesFront start written (text_so_far (bytes ++ piece))
+stopped_at start written bytes piece i w =
+    let g = progress_grows (bytes ++ take i piece) (drop i piece) in
+    subst (λ (bs : List ℕ). WritesFront start written (text_so_far bs)) (parts_of bytes piece i) (record {
+      front = w.front;
+      rest = w.rest ++ g.added;
+      parts = g.text ∙ ap (λ (bs : List ℕ). bs ++ g.added) w.parts ∙ append_assoc w.front w.rest g.added;
+      written = w.written;
+    })
+
+-- what is pending says nothing of the bytes that were taken
+pub kept_follows : {C : _} {g : _} (old new : Replay C g) (bytes : List ℕ) → new ≡ record old { pending = new.pending } → Follows old bytes → Follows new bytes
+kept_follows old new bytes same f =
+    subst (λ (r : _). Follows r bytes) (sym same) (record { stands = f.stands; within = f.within; ready = f.ready; begun = f.begun })

@@ -1,0 +1,4 @@
+pub mod Feeding
+pub mod Replays
+pub mod Scripts
+pub mod Turns

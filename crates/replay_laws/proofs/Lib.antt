@@ -1,4 +1,0 @@
-pub mod StoreSteps
-pub mod Transcripts
-pub mod TrueAnswers
-pub mod WorldFits

@@ -1,5 +1,0 @@
-use Rattle.replay_model.proofs.ScriptLines.{lines_make_bytes}
-use Rattle.replay_laws.proofs.lines_make_the_script.Goals as goal
-
-pub returns : goal.returns
-returns c = lines_make_bytes

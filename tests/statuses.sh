@@ -1,0 +1,60 @@
+#!/bin/sh
+# Each exit status of the command, with what it tells on its errors and what it writes.
+# Usage: tests/statuses.sh PROGRAM
+set -eu
+program=$1
+work=$(mktemp -d)
+trap 'rm -rf "$work"' EXIT
+
+failures=0
+
+# a script, the words, and the status, the output and the errors that have to come
+comes_to() {
+    script=$1 words=$2 status=$3 output=$4 errors=$5
+    got=0
+    # The words are split where they stand.
+    # shellcheck disable=SC2086
+    printf "$script" | "$program" $words > "$work/output" 2> "$work/errors" || got=$?
+    printf "$output" > "$work/wanted_output"
+    printf "$errors" > "$work/wanted_errors"
+    if [ "$got" -ne "$status" ] || ! cmp -s "$work/output" "$work/wanted_output" || ! cmp -s "$work/errors" "$work/wanted_errors"; then
+        echo "statuses: '$words' on '$script': status $got, $(cat "$work/errors"), and not $status, $errors" >&2
+        failures=$((failures + 1))
+    fi
+}
+
+usage='usage: etcd_proxy replay\n'
+comes_to '' 'replay' 0 '' ''
+comes_to 'world 1 ~ ~\nstart 1' 'replay' 0 'world 1 ~ ~\nstarted 1\n' ''
+comes_to '' '--version' 0 'etcd_proxy 0.1.0\n' ''
+comes_to 'start 1\n' 'replay' 1 '' 'line 1: BadLine 1\n'
+comes_to 'world 1 ~ ~\r\n' 'replay' 1 '' 'line 1: BadLine 4\n'
+comes_to 'world 1 ~ ~\nsend 7\n' 'replay' 1 'world 1 ~ ~\n' 'line 2: NoSuchProxy 7\n'
+comes_to 'world 1 ~ ~\nstart 1\nclock 1 5\nclock 1 4\n' 'replay' 1 'world 1 ~ ~\nstarted 1\nclock 1 5\n' 'line 4: ClockBack 5 4\n'
+comes_to 'world 10 ~ ~\n' 'replay' 1 '' 'line 1: BadLine 2\n'
+comes_to '' '' 2 '' "$usage"
+comes_to '' 'replay x' 2 '' "$usage"
+comes_to '' "$(printf '\377')" 2 '' "$usage"
+
+"$program" --help | grep -q 'usage: etcd_proxy replay < SCRIPT' || {
+    echo 'statuses: --help shows no usage' >&2
+    failures=$((failures + 1))
+}
+
+# An input that can't be read, and an output that can't be written.
+got=0
+"$program" replay < "$work" > "$work/output" 2> "$work/errors" || got=$?
+[ "$got" -eq 3 ] && [ "$(cat "$work/errors")" = 'read fault' ] || {
+    echo "statuses: an input that can't be read: status $got" >&2
+    failures=$((failures + 1))
+}
+if [ -c /dev/full ]; then
+    got=0
+    printf 'world 1 ~ ~\n' | "$program" replay > /dev/full 2> "$work/errors" || got=$?
+    [ "$got" -eq 4 ] && [ "$(cat "$work/errors")" = 'write fault' ] || {
+        echo "statuses: an output that can't be written: status $got" >&2
+        failures=$((failures + 1))
+    }
+fi
+
+[ "$failures" -eq 0 ]
