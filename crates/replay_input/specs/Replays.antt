@@ -24,7 +24,8 @@ abbrev pub most_at_once : ℕ
 most_at_once = 65536
 
 -- Behind any of the lines, of each watch that was asked in the life that a proxy then has: the events that were taken of it are a front
--- of those that the history has for it from its start, each once and in order, with the records before that it asked for.
+-- of those that the history has for it from the start that it asked for, if it asked for one, each once and in order, with the records
+-- before that it asked for.
 abbrev pub EachWatchReceives : List Line → Type 0
 EachWatchReceives lines =
     (first rest : List Line) (p ticket : ℕ) (ask : WatchAsk)
