@@ -1,11 +1,14 @@
 -- Where tickets stand once and one request at most calls so, a change of those that do is one of its ticket.
-use Rattle.std.proofs.Common.{◌≡◌, ℕ, Bool, true, false, not, cond, ◌==◌, ◌&&◌, ◌||◌, List, [], ◌∷◌, map, filter, None, Some, refl, sym, ◌∙◌, ap, arith}
+use Rattle.std.proofs.Common.{◌≡◌, ℕ, Bool, true, false, not, cond, ◌==◌, ◌&&◌, ◌||◌, List, [], ◌∷◌, map, filter, Option, None, Some, refl, sym, ◌∙◌, ap, arith}
+use Rattle.std.specs.List.{list_all}
+use Rattle.std.specs.Option.{option_map}
 use Rattle.std.proofs.lemmas.Bool.Decides.{nat_tests}
 use Rattle.read_model.specs.declared.asked.Asked.{Asked}
 use Rattle.core_model.specs.Fits.{once, has_number, at_most_one}
 use Rattle.core_model.specs.Kinds.{has_some}
-use Rattle.core_model.specs.Lookups.{calls_as}
+use Rattle.core_model.specs.Lookups.{ask_at, calls_as, has_ticket}
 use Rattle.known_asks.specs.Asks.{one_changed}
+use Rattle.known_asks.specs.Callers.{IsCaller}
 use Rattle.call_ends.specs.Callers.{caller_of}
 
 abbrev tickets : List Asked → List ℕ
@@ -101,3 +104,54 @@ one_calls call t g (a ∷ xs) o m e = one (calls_as call a) m e (one_calls call 
         ap (λ b. cond b (g a) a ∷ one_changed t g xs) (alike a.ticket t same) ∙ ap (λ l. g a ∷ l) (none_has t g xs none ∙ sym (none_calls call g xs (none_left call xs m)))
     one false m e k =
         ap (λ b. cond b (g a) a ∷ one_changed t g xs) (other a.ticket t (tickets xs) alone (is_among call t xs e)) ∙ ap (λ l. a ∷ l) (k m e)
+
+-- Of those that are told by the index.
+
+pub nobody_changed : (call : ℕ) (g : Asked → Asked) (xs : List Asked) → list_all (λ a. not (calls_as call a)) xs ≡ true → xs ≡ changed call g xs
+nobody_changed call g [] h = refl
+nobody_changed call g (a ∷ xs) h = λ i.
+    cond (sym (not_true (calls_as call a) (first (not (calls_as call a)) (list_all (λ x. not (calls_as call x)) xs) h)) i) (g a) a ∷ nobody_changed call g xs (second (not (calls_as call a)) (list_all (λ x. not (calls_as call x)) xs) h) i
+
+equal_numbers : (m t : ℕ) → (m == t) ≡ true → m ≡ t
+equal_numbers m t e = grind (arith, nat_tests)
+
+first_caller : (call t : ℕ) (xs : List Asked) → option_map (calls_as call) (ask_at t xs) ≡ Some true → list_all (λ a. not (calls_as call a) || has_ticket t a) xs ≡ true → caller_of call xs ≡ Some t
+first_caller call t [] e h = absurd (cc)
+first_caller call t (a ∷ xs) e h =
+    by_call (λ f. first_caller call t xs f (second (not (calls_as call a) || has_ticket t a) (list_all (λ x. not (calls_as call x) || has_ticket t x) xs) h)) (calls_as call a) refl
+  where
+    skip : (option_map (calls_as call) (ask_at t xs) ≡ Some true → caller_of call xs ≡ Some t) → calls_as call a ≡ false → (b : Bool) → has_ticket t a ≡ b → option_map (calls_as call) (cond b (Some a) (ask_at t xs)) ≡ Some true → caller_of call xs ≡ Some t
+    skip k n true f e = absurd (let yes : calls_as call a ≡ true = cc in cc)
+    skip k n false f e = k e
+
+    by_call : (option_map (calls_as call) (ask_at t xs) ≡ Some true → caller_of call xs ≡ Some t) → (b : Bool) → calls_as call a ≡ b → cond (calls_as call a) (Some a.ticket) (caller_of call xs) ≡ Some t
+    by_call k true f =
+        let here : has_ticket t a ≡ true = ap (λ b. not b || has_ticket t a) (sym f) ∙ first (not (calls_as call a) || has_ticket t a) (list_all (λ x. not (calls_as call x) || has_ticket t x) xs) h in
+        ap (λ b. cond b (Some a.ticket) (caller_of call xs)) f ∙ ap Some (equal_numbers a.ticket t here)
+    by_call k false f = ap (λ b. cond b (Some a.ticket) (caller_of call xs)) f ∙ skip k f (has_ticket t a) refl e
+
+pub caller_is : (call t : ℕ) (xs : List Asked) → IsCaller t call xs → caller_of call xs ≡ Some t
+caller_is call t xs h = first_caller call t xs h.calls h.only
+
+-- A rule that leaves all others as they are.
+
+abbrev pub LeavesOthers : ℕ → (Asked → Asked) → Type 0
+LeavesOthers call f = (a : Asked) → calls_as call a ≡ false → f a ≡ a
+
+pub nobody_rules : (call : ℕ) (f : Asked → Asked) (xs : List Asked) → LeavesOthers call f → list_all (λ a. not (calls_as call a)) xs ≡ true → xs ≡ map f xs
+nobody_rules call f [] l h = refl
+nobody_rules call f (a ∷ xs) l h = λ i.
+    sym (l a (not_true (calls_as call a) (first (not (calls_as call a)) (list_all (λ x. not (calls_as call x)) xs) h))) i ∷ nobody_rules call f xs l (second (not (calls_as call a)) (list_all (λ x. not (calls_as call x)) xs) h) i
+
+pub one_rules : (call t : ℕ) (f : Asked → Asked) (xs : List Asked) → LeavesOthers call f → list_all (λ a. not (calls_as call a) || has_ticket t a) xs ≡ true → one_changed t f xs ≡ map f xs
+one_rules call t f [] l h = refl
+one_rules call t f (a ∷ xs) l h = λ i.
+    here (calls_as call a) refl (first (not (calls_as call a) || has_ticket t a) (list_all (λ x. not (calls_as call x) || has_ticket t x) xs) h) i ∷ one_rules call t f xs l (second (not (calls_as call a) || has_ticket t a) (list_all (λ x. not (calls_as call x) || has_ticket t x) xs) h) i
+  where
+    same_or : (b : Bool) → f a ≡ a → cond b (f a) a ≡ f a
+    same_or true e = refl
+    same_or false e = sym e
+
+    here : (b : Bool) → calls_as call a ≡ b → not (calls_as call a) || has_ticket t a ≡ true → cond (has_ticket t a) (f a) a ≡ f a
+    here true e g = ap (λ c. cond c (f a) a) (ap (λ b. not b || has_ticket t a) (sym e) ∙ g)
+    here false e g = same_or (has_ticket t a) (l a e)

@@ -4,8 +4,8 @@ ghost use Rattle.core_model.specs.Lookups.{calls_as};
 ghost use Rattle.read_model.specs.Acquires.{lost_once};
 ghost use Rattle.call_ends.specs.Callers.{lost_caller, stale_caller, lost_caller-ticket, stale_caller-ticket};
 
-use crate::callers::calls_as;
-use known_asks::{Asked, Asks, Rule, lose_once, refuse_stale};
+use crate::callers::change_caller;
+use known_asks::{Asked, Asks, Rule, calls_as, lose_once, refuse_stale};
 
 /// A read's own call was lost.
 #[derive(Drop)]
@@ -19,7 +19,7 @@ impl Rule for LostCall {
     ghost changed = { λ s. lost_caller s.call s.members s.step };
 
     fn change(&self, ask: &mut Asked) {
-        if calls_as(&ask.stage, self.call) {
+        if calls_as(ask, self.call) {
             lose_once(ask, self.members, self.step);
         }
     }
@@ -39,7 +39,7 @@ impl Rule for StaleCall {
     ghost changed = { λ s. stale_caller s.call s.members s.step };
 
     fn change(&self, ask: &mut Asked) {
-        if calls_as(&ask.stage, self.call) {
+        if calls_as(ask, self.call) {
             refuse_stale(ask, self.members, self.step);
         }
     }
@@ -52,11 +52,12 @@ impl Rule for StaleCall {
 pub fn lose_caller(asks: &mut Asks, call: u64, members: u32, step: u64)
     ensures { asks.new ≡ map (λ a. if calls_as call a then lost_once members step a else a) asks.old }
 {
-    asks.change_each(&LostCall {
+    let lost = LostCall {
         call,
         members,
         step,
-    });
+    };
+    change_caller(asks, call, &lost);
 }
 
 /// The own call of this number was answered by a stale reply: it is due again since this step, until there were five such for each
@@ -64,9 +65,10 @@ pub fn lose_caller(asks: &mut Asks, call: u64, members: u32, step: u64)
 pub fn refuse_caller(asks: &mut Asks, call: u64, members: u32, step: u64)
     ensures { asks.new ≡ map (λ a. if calls_as call a then stale_once members step a else a) asks.old }
 {
-    asks.change_each(&StaleCall {
+    let stale = StaleCall {
         call,
         members,
         step,
-    });
+    };
+    change_caller(asks, call, &stale);
 }

@@ -14,8 +14,3 @@ pub earliest_more : {A : Type 0} (f : A → List Placed) (xs : List A) (i : ℕ)
 earliest_more f xs i x first next last l e n h =
     let rest = flat_map f (drop (i + 1) xs) in
     ap (λ o. earliest o rest) n ∙ sym (earliest_append first (f x) rest) ∙ ap (λ y. earliest first (f y ++ rest)) e ∙ ap (λ ys. earliest first (flat_map f ys)) (sym (drop_more xs i x l)) ∙ h
-
--- what is due of the rows is due of the requests in them
-pub due_rows : (rows : List (ℕ × Asked)) → flat_map (λ r. due_ask r.1) rows ≡ flat_map due_ask (map (λ r. r.1) rows)
-due_rows [] = refl
-due_rows (r ∷ rows) = ap (λ ps. due_ask r.1 ++ ps) (due_rows rows)

@@ -55,7 +55,7 @@ told_by_phase s t (phase.Closing a) phase.Begun h i n = cc
 told_by_phase s t (phase.Due a) phase.Begun h i n = cc
 
 -- the first of three, from the left or from the right
-chosen : (first : Option Placed) (p q : Placed) → earlier (Some (earlier first q)) p ≡ cond (is_earlier p.place q.place) (earlier first p) (earlier first q)
+pub chosen : (first : Option Placed) (p q : Placed) → earlier (Some (earlier first q)) p ≡ cond (is_earlier p.place q.place) (earlier first p) (earlier first q)
 chosen None p q = refl
 chosen (Some f) p q = by_second (is_earlier q.place f.place) refl
   where

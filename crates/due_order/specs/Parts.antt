@@ -24,3 +24,8 @@ first_job_of seat entries writes acquires asks leasing streams =
 abbrev pub with_first_stream : Option Placed → Option Stream → Option Placed
 with_first_stream first None = first
 with_first_stream first (Some s) = earliest first (due_stream s)
+
+-- the first one, or what is due of the request that comes first among requests
+abbrev pub with_first_ask : Option Placed → Option Asked → Option Placed
+with_first_ask first None = first
+with_first_ask first (Some a) = earliest first (due_ask a)

@@ -5,7 +5,7 @@ ghost use Rattle.due_order.specs.Seen.{job_seen, first_seen};
 ghost use Rattle.due_order.specs.Parts.{due_of, first_job_of};
 
 use crate::jobs::{DueJob, Placed};
-use crate::parts::{with_acquires, with_asks, with_opening, with_stream, with_writes};
+use crate::parts::{with_acquires, with_first_ask, with_opening, with_stream, with_writes};
 use core_model::Acquire;
 use core_parts::{Opening, Seat};
 use keyed_rows::Rows;
@@ -80,7 +80,7 @@ fn earliest<'a>(
 {
     let first = with_writes(None, writes);
     let first = with_acquires(first, acquires.as_slice());
-    let first = with_asks(first, asks.rows());
+    let first = with_first_ask(first, asks.first_due());
     let first = with_opening(first, leasing);
     with_stream(first, watches.first_due())
 }

@@ -5,7 +5,7 @@ ghost use Rattle.wait_model.specs.declared.due.JobKind.TheVariants.{Call};
 ghost use Rattle.wait_model.specs.DueOrder.{place_at};
 ghost use Rattle.core_model.specs.DueJobs.{earliest, due_writes, due_acquire, due_ask, lease_of, due_at, due_opening, due_stream};
 ghost use Rattle.due_order.specs.Seen.{first_seen};
-ghost use Rattle.due_order.specs.Parts.{with_first_stream};
+ghost use Rattle.due_order.specs.Parts.{with_first_ask, with_first_stream};
 
 use crate::jobs::{DueJob, Placed, earlier};
 use core_model::Acquire;
@@ -71,18 +71,17 @@ fn call_at(since: u64, ticket: u64) -> Place
     }
 }
 
-/// The first one, or the first due call of a request, where that is earlier.
-pub(crate) fn with_asks<'a>(
+/// The first one, or the call of the request that is due first, where that is earlier.
+pub(crate) fn with_first_ask<'a>(
     first: Option<Placed<'a>>,
-    rows: &'a [(u64, Asked)],
+    ask: Option<&'a Asked>,
 ) -> Option<Placed<'a>>
-    ensures { first_seen result ≡ earliest (first_seen first.entry) (flat_map (λ r. due_ask r.1) rows.now) }
+    ensures { first_seen result ≡ with_first_ask (first_seen first.entry) (option_copied ask.entry) }
 {
-    let mut first = first;
-    for row in rows {
-        first = with_ask(first, &row.1);
+    match ask {
+        None => first,
+        Some(ask) => with_ask(first, ask),
     }
-    first
 }
 
 fn with_ask<'a>(first: Option<Placed<'a>>, ask: &'a Asked) -> Option<Placed<'a>>

@@ -14,8 +14,7 @@ pub fn group_stage(step: u64, lease: u64, calls: &Calls, asks: &Asks) -> Stage
     if calls.has_group(lease) {
         return Stage::Grouped(None);
     }
-    let since = group_since(lease, asks.rows());
-    joining(step, since)
+    joining(step, due_group(lease, asks))
 }
 
 fn joining(step: u64, since: Option<u64>) -> Stage
@@ -24,6 +23,16 @@ fn joining(step: u64, since: Option<u64>) -> Stage
     match since {
         Some(since) => Stage::Grouped(Some(Sending::Due { since })),
         None => Stage::Grouped(Some(Sending::Due { since: step })),
+    }
+}
+
+/// Since when a group of the lease is due, where one is. Where nothing is due it takes logarithmic time.
+fn due_group(lease: u64, asks: &Asks) -> Option<u64>
+    ensures { result ≡ group_since lease asks.now }
+{
+    match asks.first_due() {
+        Some(_) => group_since(lease, asks.rows()),
+        None => None,
     }
 }
 

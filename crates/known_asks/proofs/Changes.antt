@@ -1,12 +1,10 @@
 -- Where tickets stand once, the changes of a rule one by one are the rule on each.
 use Rattle.std.proofs.Common.{◌≡◌, ℕ, ◌<◌, ◌+◌, zero, suc, Bool, true, false, not, cond, ◌==◌, ◌&&◌, ◌||◌, List, [], ◌∷◌, ◌++◌, map, take, length, get_or, Option, None, Some, refl, sym, ◌∙◌, ap, subst, add-one, arith}
-use Rattle.std.specs.List.{list_any}
 use Rattle.std.proofs.lemmas.Bool.Decides.{nat_tests}
 use Rattle.read_model.specs.declared.asked.Asked.{Asked}
 use Rattle.read_model.specs.declared.asked.Stage.{Stage}
 use Rattle.read_model.specs.PlainRead.{in_stage}
 use Rattle.core_model.specs.Fits.{once, has_number}
-use Rattle.core_model.specs.Lookups.{has_ticket}
 use Rattle.known_asks.specs.Asks.{one_changed}
 use Rattle.numbered_rows.specs.Numbered.{Numbered}
 use Rattle.known_asks.proofs.Tickets.{asks}

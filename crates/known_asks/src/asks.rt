@@ -6,12 +6,19 @@ ghost use Rattle.core_model.specs.Lookups.{ask_at, without_ask};
 ghost use Rattle.core_model.specs.Takes.{least_ready};
 ghost use Rattle.read_model.specs.PlainRead.{in_stage};
 ghost use Rattle.known_asks.specs.Asks.{one_changed, none_times_out};
+ghost use Rattle.known_asks.specs.Callers.{AreCallers, IsFirstCaller};
+ghost use Rattle.known_asks.specs.Waiting.{none_waits};
+ghost use Rattle.known_asks.specs.Firsts.{IsNext, IsNextOf, IsFirstDueOf};
 
-use crate::places::{bound, change_one, change_rows, oldest_of, places, set_row};
+use crate::callers::{Callers, callers_before, calls_as};
+use crate::marks::{CALL_OUT, DUE, REPLIED, mark_of};
+use crate::places::{bound, change_one, change_rows, oldest_of, places, row_of, set_row};
 use crate::rule::Rule;
-use crate::stages::least_of;
+use crate::stages::ready_ticket;
 use crate::times::{REQUEST_TIME, TimeOut};
+use crate::waiting::waits_at_key;
 use etcd_types::NoMemory;
+use mark_rows::{Mark, MarkRows};
 use numbered_rows::place;
 use read_model::{Asked, Stage};
 use std::alloc::Global;
@@ -24,6 +31,8 @@ pub struct Asks {
     rows: Vec<(u64, Asked)>,
     /// The number of each ticket's row, by ticket.
     index: Vec<(u64, u64)>,
+    /// The number of each row, by what its request waits for.
+    marks: MarkRows,
     /// The number of the next row.
     next: u64,
     /// Those without a reply were all asked then or later, in milliseconds of the proxy's clock.
@@ -44,7 +53,7 @@ impl Model for Asks {
 
     ghost view = { λ a. map (λ r. r.1) a.rows.items };
 
-    ghost invariant = { λ a. IsKept a.rows.items a.index.items a.next a.oldest };
+    ghost invariant = { λ a. IsKept a.rows.items a.index.items a.marks a.next a.oldest };
 }
 
 impl Asks {
@@ -55,6 +64,7 @@ impl Asks {
         Asks {
             rows: Vec::new(alloc),
             index: Vec::new(alloc),
+            marks: MarkRows::new(alloc),
             next: 0,
             oldest: u64::MAX,
         }
@@ -90,6 +100,7 @@ impl Asks {
         }
         self.rows.reserve(1)?;
         self.index.reserve(1)?;
+        self.marks.put(mark_of(&ask), self.next)?;
         let ticket = ask.ticket;
         match place(&self.index, ticket) {
             Ok(_) => unreachable!(),
@@ -111,7 +122,9 @@ impl Asks {
         match places(&self.rows, &self.index, ticket) {
             Some((at, row)) => {
                 self.index.remove(at);
-                Some(self.rows.remove(row).1)
+                let taken = self.rows.remove(row);
+                self.marks.remove(&mark_of(&taken.1));
+                Some(taken.1)
             }
             None => None,
         }
@@ -122,7 +135,7 @@ impl Asks {
         ensures { self.new ≡ one_changed ticket (in_stage stage) self.old }
     {
         if let Some((_, row)) = places(&self.rows, &self.index, ticket) {
-            self.oldest = set_row(&mut self.rows[row], stage, self.oldest);
+            self.oldest = set_row(&mut self.rows[row], &mut self.marks, stage, self.oldest);
         }
     }
 
@@ -131,7 +144,7 @@ impl Asks {
         ensures { self.new ≡ one_changed ticket (R.changed rule.now) self.old }
     {
         if let Some((_, row)) = places(&self.rows, &self.index, ticket) {
-            self.oldest = change_one(&mut self.rows[row], rule, self.oldest);
+            self.oldest = change_one(&mut self.rows[row], &mut self.marks, rule, self.oldest);
         }
     }
 
@@ -139,7 +152,7 @@ impl Asks {
     pub fn change_each<R: Rule>(&mut self, rule: &R)
         ensures { self.new ≡ map (R.changed rule.now) self.old }
     {
-        change_rows(&mut self.rows, rule);
+        change_rows(&mut self.rows, &mut self.marks, rule);
         self.oldest = oldest_of(&self.rows);
     }
 
@@ -161,10 +174,71 @@ impl Asks {
     pub fn ready(&self) -> Option<u64>
         ensures { result ≡ least_ready None self.now }
     {
-        let mut least = None;
-        for row in &self.rows {
-            least = least_of(least, &row.1);
+        match self.first_from(&Mark::new(REPLIED, 0, 0)) {
+            Some(ask) => ready_ticket(ask),
+            None => None,
         }
-        least
+    }
+
+    /// The one that is due first: since the earliest step, and of one step the least ticket.
+    pub fn first_due(&self) -> Option<&Asked>
+        ensures { IsFirstDueOf (option_copied result) self.now }
+    {
+        self.first_from(&Mark::new(DUE, 0, 0))
+    }
+
+    /// Those whose own call this is.
+    pub fn callers(&self, call: u64) -> Callers
+        ensures callers { AreCallers result call self.now }
+        ensures once { once (map (λ a. a.ticket) self.now) ≡ true }
+    {
+        let _rows = self.rows();
+        match self.first_from(&Mark::new(CALL_OUT, call, 0)) {
+            Some(ask) => self.callers_at(ask, call),
+            None => Callers::Nobody,
+        }
+    }
+
+    /// Those whose own call this is, where this request is the first one that can be such.
+    fn callers_at(&self, ask: &Asked, call: u64) -> Callers
+        requires { IsNext (5 ∷ call ∷ 0 ∷ []) ask.now self.now }
+        ensures { AreCallers result call self.now }
+    {
+        if calls_as(ask, call) {
+            self.callers_from(ask.ticket, call)
+        } else {
+            Callers::Nobody
+        }
+    }
+
+    /// Those whose own call this is, where the request of this ticket is the first of them.
+    fn callers_from(&self, ticket: u64, call: u64) -> Callers
+        requires { IsFirstCaller ticket call self.now }
+        ensures { AreCallers result call self.now }
+    {
+        match self.first_from(&Mark::new(CALL_OUT, call, ticket.saturating_add(1))) {
+            Some(ask) => callers_before(ask, ticket, call),
+            None => Callers::One(ticket),
+        }
+    }
+
+    /// Whether a read waits at its key. It takes logarithmic time.
+    pub fn has_waiting(&self) -> bool
+        ensures { result ≡ false → none_waits self.now ≡ true }
+    {
+        match self.first_from(&Mark::new(0, 0, 0)) {
+            Some(ask) => waits_at_key(&ask.stage),
+            None => false,
+        }
+    }
+
+    /// The first one, in the order of marks, that doesn't come before this mark.
+    fn first_from(&self, mark: &Mark) -> Option<&Asked>
+        ensures { IsNextOf mark.now (option_copied result) self.now }
+    {
+        match self.marks.from(mark) {
+            [row, ..] => Some(row_of(&self.rows, row.1)),
+            [] => None,
+        }
     }
 }

@@ -3,17 +3,22 @@
 #![tactic(auto)]
 
 mod asks;
+mod callers;
 mod losses;
+mod marks;
 mod places;
 mod restage;
 mod rule;
 mod stages;
 mod times;
+mod waiting;
 
 pub use asks::Asks;
+pub use callers::{Callers, calls_as};
 pub use losses::{lose_once, refuse_stale};
 pub use read_model::{Asked, Stage, Verdict};
 pub use restage::{Restage, restage_each, set_stages, stage_changes};
 pub use rule::Rule;
 pub use stages::is_replied;
 pub use times::times_out;
+pub use waiting::{change_waiting, restage_waiting};

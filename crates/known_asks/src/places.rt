@@ -1,11 +1,16 @@
-ghost use Rattle.std.specs.Prelude.{◌≡◌, ◌≤◌, map, None, true, IfSome, IfNone};
-ghost use Rattle.numbered_rows.specs.Numbered.{at};
+ghost use Rattle.std.specs.Prelude.{◌≡◌, ◌≤◌, map, None, Some, true, IfSome, IfNone, IsTrue, is_some};
+ghost use Rattle.numbered_rows.specs.Numbered.{at, is_in_order};
+ghost use Rattle.proxy_model.specs.Keyed as keyed;
 ghost use Rattle.read_model.specs.PlainRead.{in_stage};
 ghost use Rattle.known_asks.specs.Asks.{is_since, all_since};
 ghost use Rattle.known_asks.specs.Indexed.{Indexed, IsAt};
+ghost use Rattle.known_asks.specs.Marked.{Marked};
+ghost use Rattle.known_asks.specs.Marks.{mark_of, moved};
 
+use crate::marks::mark_of;
 use crate::rule::Rule;
 use crate::stages::is_replied;
+use mark_rows::MarkRows;
 use numbered_rows::place;
 use read_model::{Asked, Stage};
 
@@ -28,39 +33,74 @@ pub(crate) fn places(
     }
 }
 
-/// Each is changed by the rule.
-pub(crate) fn change_rows<R: Rule>(rows: &mut Vec<(u64, Asked)>, rule: &R)
-    ensures { rows.new.items ≡ map (λ r. (r.0, R.changed rule.now r.1)) rows.old.items }
+/// The request of this number, which is there.
+pub(crate) fn row_of(rows: &[(u64, Asked)], number: u64) -> &Asked
+    requires in_order { IsTrue (is_in_order rows.now) }
+    requires there { is_some (at rows.now number) ≡ true }
+    ensures { Some result.now ≡ at rows.now number }
+{
+    match place(rows, number) {
+        Ok(at) => &rows[at].1,
+        Err(_) => unreachable!(),
+    }
+}
+
+/// Each is changed by the rule, and found by its mark as before.
+pub(crate) fn change_rows<R: Rule>(rows: &mut Vec<(u64, Asked)>, marks: &mut MarkRows, rule: &R)
+    requires in_order { IsTrue (is_in_order rows.old.items) }
+    requires marked { Marked rows.old.items marks.old }
+    ensures rows { rows.new.items ≡ map (λ r. (r.0, R.changed rule.now r.1)) rows.old.items }
+    ensures marked { Marked rows.new.items marks.new }
 {
     for row in rows.iter_mut() {
-        change_row(row, rule);
+        change_row(row, marks, rule);
     }
 }
 
 /// The row's request is in this stage now; a bound that held of the others holds of all.
-pub(crate) fn set_row(row: &mut (u64, Asked), stage: Stage, oldest: u64) -> u64
+pub(crate) fn set_row(
+    row: &mut (u64, Asked),
+    marks: &mut MarkRows,
+    stage: Stage,
+    oldest: u64,
+) -> u64
+    requires { keyed.at marks.old (mark_of row.old.1) ≡ Some row.old.0 }
     ensures row { row.new ≡ (row.old.0, in_stage stage row.old.1) }
+    ensures marks { marks.new ≡ moved row.old.1 row.new.1 row.old.0 marks.old }
     ensures all { result ≤ oldest }
     ensures it { is_since result row.new.1 ≡ true }
 {
+    let mark = mark_of(&row.1);
     row.1.stage = stage;
+    marks.turn(&mark, mark_of(&row.1), row.0);
     bound(oldest, &row.1)
 }
 
 /// The row's request is changed by the rule; a bound that held of the others holds of all.
-pub(crate) fn change_one<R: Rule>(row: &mut (u64, Asked), rule: &R, oldest: u64) -> u64
+pub(crate) fn change_one<R: Rule>(
+    row: &mut (u64, Asked),
+    marks: &mut MarkRows,
+    rule: &R,
+    oldest: u64,
+) -> u64
+    requires { keyed.at marks.old (mark_of row.old.1) ≡ Some row.old.0 }
     ensures row { row.new ≡ (row.old.0, R.changed rule.now row.old.1) }
+    ensures marks { marks.new ≡ moved row.old.1 row.new.1 row.old.0 marks.old }
     ensures all { result ≤ oldest }
     ensures it { is_since result row.new.1 ≡ true }
 {
-    change_row(row, rule);
+    change_row(row, marks, rule);
     bound(oldest, &row.1)
 }
 
-fn change_row<R: Rule>(row: &mut (u64, Asked), rule: &R)
-    ensures { row.new ≡ (row.old.0, R.changed rule.now row.old.1) }
+fn change_row<R: Rule>(row: &mut (u64, Asked), marks: &mut MarkRows, rule: &R)
+    requires { keyed.at marks.old (mark_of row.old.1) ≡ Some row.old.0 }
+    ensures row { row.new ≡ (row.old.0, R.changed rule.now row.old.1) }
+    ensures marks { marks.new ≡ moved row.old.1 row.new.1 row.old.0 marks.old }
 {
+    let mark = mark_of(&row.1);
     rule.change(&mut row.1);
+    marks.turn(&mark, mark_of(&row.1), row.0);
 }
 
 /// A reading at or before which none without a reply was asked.

@@ -1,6 +1,5 @@
-ghost use Rattle.std.specs.Prelude.{◌≡◌, if◌then◌else◌, Some};
+ghost use Rattle.std.specs.Prelude.{◌≡◌, if◌then◌else◌, Some, None};
 ghost use Rattle.core_model.specs.ClockWork.{is_replied};
-ghost use Rattle.core_model.specs.Takes.{lesser};
 
 use read_model::{Asked, Stage};
 
@@ -11,15 +10,9 @@ pub fn is_replied(stage: &Stage) -> bool
     matches!(stage, Stage::Replied(_))
 }
 
-/// The lesser one of this ticket and the request's, where its reply stands.
-pub(crate) fn least_of(least: Option<u64>, ask: &Asked) -> Option<u64>
-    ensures { result ≡ (if is_replied ask.now.stage then Some (lesser least ask.now.ticket) else least) }
+/// The request's ticket, where its reply stands.
+pub(crate) fn ready_ticket(ask: &Asked) -> Option<u64>
+    ensures { result ≡ (if is_replied ask.now.stage then Some ask.now.ticket else None) }
 {
-    if !is_replied(&ask.stage) {
-        return least;
-    }
-    match least {
-        Some(ticket) if ticket <= ask.ticket => least,
-        _ => Some(ask.ticket),
-    }
+    is_replied(&ask.stage).then_some(ask.ticket)
 }

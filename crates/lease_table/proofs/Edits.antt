@@ -1,27 +1,61 @@
 -- What an edit at a key's place does to the table.
-use Rattle.std.proofs.Common.{◌≡◌, ◌≢◌, ℕ, ◌-◌, true, List, [], ◌∷◌, map, get_or, set, IsTrue, None, Some, is_some, refl, sym, ap}
+use Rattle.std.proofs.Common.{◌≡◌, ◌≢◌, ℕ, zero, suc, ◌+◌, ◌-◌, ◌++◌, true, List, [], ◌∷◌, map, take, drop, get_or, set, IsTrue, None, Some, is_some, refl, sym, ◌∙◌, ap, subst, arith}
 use Rattle.std.specs.List.{insert, remove}
 use Rattle.std.specs.Ordering.{nat_cmp}
 use Rattle.std.specs.Cmp.Lexicographic.{slice_cmp}
 use Rattle.std.specs.FinMap.Entries.{below_all}
-use Rattle.etcd_types.specs.declared.key_range.KeyRange.{KeyRange}
+use Rattle.std.specs.Option.{option_map}
 use Rattle.proxy_model.specs.declared.lease.Entry.{Entry}
-use Rattle.proxy_model.specs.Keyed.{Keyed, at, with_at, is_in_order}
-use Rattle.proxy_model.specs.LeaseTable.{Table, change, hold, given_up, given_up_in}
+use Rattle.proxy_model.specs.Keyed.{Keyed, at, with_at, changed_at, is_in_order}
+use Rattle.proxy_model.specs.LeaseTable.{Table, change, hold}
 use Rattle.proxy_model.proofs.KeyedLaws.{to_T, in_order-with_at}
 use Rattle.keyed_rows.specs.Places.{IsPlace, IsGap}
-use Rattle.keyed_rows.proofs.Places.{changed-place, changed-gap, in_order-changed, place-is_some, put-gap, without-place, without-gap}
+use Rattle.lease_table.specs.Dues.{changed_in}
+use Rattle.keyed_rows.proofs.Places.{changed-gap, at-place, put-place, place-is_some, put-gap, without-place, without-gap}
 
--- Another entry at the place of the key.
+-- One row changed, by its place.
 
-pub changed_table : (t : Table) (k : List ℕ) (f : Entry → Entry) (i : ℕ) (row : List ℕ × Entry) → IsPlace t.entries k i → row ≡ get_or t.entries i row → ◌≡◌ {A = Table} (record t { entries = set t.entries i (row.0, f row.1) }) (change t k f)
-changed_table t k f i row p e = ap (λ (es : Keyed Entry). record t { entries = es }) (changed-place t.entries k i f row p e)
+set-changed : {A : Type 0} (es : Keyed A) (i : ℕ) (f : A → A) (d : List ℕ × A) → set es i ((get_or es i d).0, f (get_or es i d).1) ≡ changed_in es i f
+set-changed [] i f d = refl
+set-changed (e ∷ es) zero f d = refl
+set-changed (e ∷ es) (suc i) f d = ap (λ fs. e ∷ fs) (set-changed es i f d)
+
+pub set_is_changed : (es : Keyed Entry) (i : ℕ) (f : Entry → Entry) (row : List ℕ × Entry) → row ≡ get_or es i row → set es i (row.0, f row.1) ≡ changed_in es i f
+set_is_changed es i f row e =
+    let Claim : List ℕ × Entry → Type 0 = λ r. set es i (r.0, f r.1) ≡ changed_in es i f in subst Claim (sym e) (set-changed es i f row)
+
+pub changed_in-place : {A : Type 0} (es : Keyed A) (k : List ℕ) (i : ℕ) (f : A → A) → IsPlace es k i → changed_in es i f ≡ changed_at es k f
+changed_in-place [] k i f p = absurd p
+changed_in-place (e ∷ es) k i f p =
+    sym (set-changed (e ∷ es) i f e) ∙ sym (ap (λ o. with_at (e ∷ es) k (option_map f o)) (at-place (e ∷ es) k i e p) ∙ put-place (e ∷ es) k (f (get_or (e ∷ es) i e).1) i e p)
+
+pub changed_table : (t : Table) (k : List ℕ) (f : Entry → Entry) (i : ℕ) → IsPlace t.entries k i → ◌≡◌ {A = Table} (record t { entries = changed_in t.entries i f }) (change t k f)
+changed_table t k f i p = ap (λ (es : Keyed Entry). record t { entries = es }) (changed_in-place t.entries k i f p)
 
 pub unchanged_table : (t : Table) (k : List ℕ) (f : Entry → Entry) (i : ℕ) → IsTrue (is_in_order t.entries) → IsGap t.entries k i → t ≡ change t k f
 unchanged_table t k f i s g = ap (λ (es : Keyed Entry). record t { entries = es }) (changed-gap t.entries k i f s g)
 
-pub in_order-changed_table : (es : Keyed Entry) (k : List ℕ) (f : Entry → Entry) (i : ℕ) (row : List ℕ × Entry) → IsTrue (is_in_order es) → IsPlace es k i → row ≡ get_or es i row → IsTrue (is_in_order (set es i (row.0, f row.1)))
-in_order-changed_table es k f i row s p e = rw (changed-place es k i f row p e) (in_order-changed es k f s)
+below-changed : {A : Type 0} (k : List ℕ) (es : Keyed A) (i : ℕ) (f : A → A) → below_all (slice_cmp nat_cmp) k (changed_in es i f) ≡ below_all (slice_cmp nat_cmp) k es
+below-changed k [] i f = refl
+below-changed k (e ∷ es) zero f = refl
+below-changed k (e ∷ es) (suc i) f = rw (below-changed k es i f) refl
+
+pub in_order-changed_in : {A : Type 0} (es : Keyed A) (i : ℕ) (f : A → A) → is_in_order (changed_in es i f) ≡ is_in_order es
+in_order-changed_in [] i f = refl
+in_order-changed_in (e ∷ es) zero f = refl
+in_order-changed_in (e ∷ es) (suc i) f = rw (below-changed e.0 es i f, in_order-changed_in es i f) refl
+
+-- Each row up to a place is changed.
+
+done-next : {A : Type 0} (f : A → A) (es : Keyed A) (i : ℕ) → changed_in (map (λ e. (e.0, f e.1)) (take i es) ++ drop i es) i f ≡ map (λ e. (e.0, f e.1)) (take (suc i) es) ++ drop (suc i) es
+done-next f [] zero = refl
+done-next f [] (suc i) = refl
+done-next f (e ∷ es) zero = refl
+done-next f (e ∷ es) (suc i) = ap (λ fs. (e.0, f e.1) ∷ fs) (done-next f es i)
+
+pub done_more : {A : Type 0} (f : A → A) (es : Keyed A) (i : ℕ) → changed_in (map (λ e. (e.0, f e.1)) (take i es) ++ drop i es) i f ≡ map (λ e. (e.0, f e.1)) (take (i + 1) es) ++ drop (i + 1) es
+done_more f es i =
+    let one_more : suc i ≡ i + 1 = omega arith in done-next f es i ∙ ap (λ (n : ℕ). map (λ e. (e.0, f e.1)) (take n es) ++ drop n es) one_more
 
 -- A new entry in the gap for the key.
 
@@ -44,16 +78,3 @@ removed es k i s p = sym (without-place es k i (to_T _ s) p)
 
 pub none_removed : (es : Keyed Entry) (k : List ℕ) (i : ℕ) → IsTrue (is_in_order es) → IsGap es k i → es ≡ with_at es k None
 none_removed es k i s g = sym (without-gap es k i (to_T _ s) g)
-
-abbrev pub given_up_row : List ℕ × Entry → List ℕ × Entry
-given_up_row row = (row.0, given_up row.1)
-
--- Each entry of a range given up: every key stays.
-
-below-given_up : (r : KeyRange) (k : List ℕ) (es : Keyed Entry) → below_all (slice_cmp nat_cmp) k (map (given_up_in r) es) ≡ below_all (slice_cmp nat_cmp) k es
-below-given_up r k [] = refl
-below-given_up r k (e ∷ es) = rw (below-given_up r k es) refl
-
-pub in_order-given_up : (r : KeyRange) (es : Keyed Entry) → is_in_order (map (given_up_in r) es) ≡ is_in_order es
-in_order-given_up r [] = refl
-in_order-given_up r (e ∷ es) = rw (below-given_up r e.0 es, in_order-given_up r es) refl

@@ -1,22 +1,32 @@
 //! The lease table of a proxy: what it has of each key that it owns, found by key in logarithmic time.
 //!
 //! It is a finite map from keys to entries, beside the number of entries for which room was made. Room is made first,
-//! by `reserve`, so that an entry can be added where no memory may be wanting.
+//! by `reserve`, so that an entry can be added where no memory may be wanting. The first rescind that is to be sent is found in
+//! constant time, and the entries of a range by its ends.
 #![tactic(auto)]
 
-ghost use Rattle.std.specs.Prelude.{◌≡◌, ◌<◌, ◌≤◌, ◌==◌, if◌then◌else◌, true, false, IsTrue, None, Some, OnOk, OnErr, length, [], is_some, IfOk, IfErr};
+ghost use Rattle.std.specs.Prelude.{◌≡◌, ◌<◌, ◌≤◌, ◌==◌, ◌&&◌, if◌then◌else◌, true, false, IsTrue, None, Some, OnOk, OnErr, length, [], is_some, IfOk, IfErr};
 ghost use Rattle.std.specs.List.{list_any};
 ghost use Rattle.std.specs.Ordering.{nat_cmp};
 ghost use Rattle.std.specs.Cmp.Lexicographic.{slice_cmp};
 ghost use Rattle.std.specs.Option.{option_copied};
 ghost use Rattle.keyed_rows.specs.Places.{IsPlace, IsGap};
-ghost use Rattle.etcd_types.specs.Ranges.{contains};
+ghost use Rattle.etcd_types.specs.Keys.{is_zero};
+ghost use Rattle.etcd_types.specs.Ranges.{contains, lowest};
 ghost use Rattle.proxy_model.specs.Keyed.{at, with_at, is_in_order};
-ghost use Rattle.proxy_model.specs.LeaseTable.{empty_table, room, is_held, is_writing, hold, change, leave_range, writing, written, unwritten, marked, leaving, in_phase, phase_after_write, phase_given_up, phase_left, given_up, given_up_in};
+ghost use Rattle.proxy_model.specs.LeaseTable.{empty_table, room, is_held, is_writing, hold, change, leave_range, writing, written, unwritten, marked, leaving, given_up};
 ghost use Rattle.wait_model.specs.DueOrder.{first_rescind};
 ghost use Rattle.wait_model.specs.Edits.{each};
-ghost use Rattle.wait_model.specs.Phases.{is_rescind_due, phase_sent, rescind_sent};
+ghost use Rattle.wait_model.specs.Phases.{rescind_sent};
+ghost use Rattle.lease_table.specs.Dues.{changed_in};
+ghost use Rattle.lease_table.specs.Starts.{IsStart, is_in};
+ghost use Rattle.lease_table.specs.Turns.{turned};
 
+mod dues;
+mod turns;
+
+use crate::dues::{count_changed, first_of_added, first_of_changed, first_of_removed};
+use crate::turns::{Turn, is_rescind_due, take_turn};
 use etcd_types::{Bytes, KeyRange, Kv, NoMemory};
 pub use proxy_model::{Entry, Phase};
 use std::alloc::Global;
@@ -27,19 +37,23 @@ use std::marker::Model;
 #[derive(Debug, Drop)]
 pub struct LeaseTable {
     rows: Vec<(Bytes, Entry)>,
+    /// How many rescinds are to be sent.
+    due: usize,
+    /// The place of the first entry whose rescind is, or behind all.
+    first: usize,
 }
 
 impl Model for LeaseTable {
-    ghost use Rattle.std.specs.Prelude.{IsTrue, ◌-◌, vec_len};
+    ghost use Rattle.std.specs.Prelude.{◌-◌, vec_len};
     ghost use Rattle.std.specs.Vec.{vec_capacity};
-    ghost use Rattle.proxy_model.specs.Keyed.{is_in_order};
     ghost use Rattle.proxy_model.specs.LeaseTable.{Table};
+    ghost use Rattle.lease_table.specs.Dues.{IsKept};
 
     ghost Value = { Table };
 
     ghost view = { λ t. record { entries = t.rows.items; spare = vec_capacity t.rows - vec_len t.rows } };
 
-    ghost invariant = { λ t. IsTrue (is_in_order t.rows.items) };
+    ghost invariant = { λ t. IsKept t.rows.items t.due t.first };
 }
 
 impl LeaseTable {
@@ -49,6 +63,8 @@ impl LeaseTable {
     {
         LeaseTable {
             rows: Vec::new(alloc),
+            due: 0,
+            first: 0,
         }
     }
 
@@ -92,7 +108,8 @@ impl LeaseTable {
     pub fn has_in(&self, range: &KeyRange) -> bool
         ensures { result ≡ list_any (λ e. contains range.now e.0) self.now.entries }
     {
-        self.rows.iter().any(|row| range.contains(&row.0))
+        let _all = self.entries();
+        self.is_in(range, self.start(range))
     }
 
     /// Adds an entry for a key that has none, in the room that was made.
@@ -103,7 +120,12 @@ impl LeaseTable {
     {
         match self.place(&key) {
             Ok(_) => unreachable!(),
-            Err(gap) => self.rows.insert(gap, (key, entry)).unwrap(),
+            Err(gap) => {
+                let is = is_rescind_due(&entry);
+                self.due = count_changed(self.due, false, is);
+                self.first = first_of_added(self.first, gap, is);
+                self.rows.insert(gap, (key, entry)).unwrap();
+            }
         }
     }
 
@@ -112,7 +134,7 @@ impl LeaseTable {
         requires { IsTrue (is_held (at self.old.entries key.now)) }
         ensures { self.new ≡ change self.old key.now writing }
     {
-        self.set_phase(key, Phase::Writing { revoked: false });
+        self.turn(key, Turn::To(Phase::Writing { revoked: false }));
     }
 
     /// The owner write was done, and left this record: the key is held again, or given up if it was marked.
@@ -120,11 +142,7 @@ impl LeaseTable {
         requires { IsTrue (is_writing (at self.old.entries key.now)) }
         ensures { self.new ≡ change self.old key.now (written kv) }
     {
-        if let Ok(place) = self.place(key) {
-            let entry = &mut self.rows[place].1;
-            entry.kv = kv;
-            entry.phase = phase_after_write(entry.phase);
-        }
+        self.turn(key, Turn::Wrote(kv));
     }
 
     /// The owner write wasn't done: the key is held again with its old record, or given up if it was marked.
@@ -132,10 +150,7 @@ impl LeaseTable {
         requires { IsTrue (is_writing (at self.old.entries key.now)) }
         ensures { self.new ≡ change self.old key.now unwritten }
     {
-        if let Ok(place) = self.place(key) {
-            let entry = &mut self.rows[place].1;
-            entry.phase = phase_after_write(entry.phase);
-        }
+        self.turn(key, Turn::Unwritten);
     }
 
     /// The key is given up once its owner write is answered.
@@ -143,7 +158,7 @@ impl LeaseTable {
         requires { IsTrue (is_writing (at self.old.entries key.now)) }
         ensures { self.new ≡ change self.old key.now marked }
     {
-        self.set_phase(key, Phase::Writing { revoked: true });
+        self.turn(key, Turn::To(Phase::Writing { revoked: true }));
     }
 
     /// The key is given up.
@@ -151,10 +166,7 @@ impl LeaseTable {
         requires { IsTrue (is_some (at self.old.entries key.now)) }
         ensures { self.new ≡ change self.old key.now leaving }
     {
-        if let Ok(place) = self.place(key) {
-            let entry = &mut self.rows[place].1;
-            entry.phase = phase_left(entry.phase);
-        }
+        self.turn(key, Turn::Left);
     }
 
     /// The key's entry, if there is one, is gone. There is room for as many entries in all as before.
@@ -163,7 +175,11 @@ impl LeaseTable {
         ensures room { room self.new ≡ room self.old }
     {
         if let Ok(place) = self.place(key) {
-            drop(self.rows.remove(place));
+            let row = self.rows.remove(place);
+            let was = is_rescind_due(&row.1);
+            drop(row);
+            self.due = count_changed(self.due, was, false);
+            self.first = first_of_removed(&self.rows, self.due, self.first, place);
         }
     }
 
@@ -173,14 +189,19 @@ impl LeaseTable {
         ensures room { room self.new ≡ room self.old }
     {
         self.rows.clear();
+        self.due = 0;
+        self.first = 0;
     }
 
     /// Each held key of the range is given up, and each that is being written is marked.
     pub fn leave_range(&mut self, range: &KeyRange)
         ensures { self.new ≡ leave_range self.old range.now }
     {
-        for row in self.rows.iter_mut() {
-            give_up_in(range, row);
+        let _all = self.entries();
+        let mut place = self.start(range);
+        while self.is_in(range, place) {
+            self.turn_at(place, Turn::GivenUp);
+            place += 1;
         }
     }
 
@@ -188,18 +209,15 @@ impl LeaseTable {
     pub fn give_up(&mut self, key: &Bytes)
         ensures { self.new ≡ change self.old key.now given_up }
     {
-        if let Ok(place) = self.place(key) {
-            let entry = &mut self.rows[place].1;
-            entry.phase = phase_given_up(entry.phase);
-        }
+        self.turn(key, Turn::GivenUp);
     }
 
     /// Each key is given up.
     pub fn give_up_all(&mut self)
         ensures { self.new ≡ record self.old { entries = each (λ k e. given_up e) self.old.entries } }
     {
-        for row in self.rows.iter_mut() {
-            give_up_row(row);
+        for place in 0..self.rows.len() {
+            self.turn_at(place, Turn::GivenUp);
         }
     }
 
@@ -207,31 +225,24 @@ impl LeaseTable {
     pub fn rescind_sent(&mut self, key: &Bytes)
         ensures { self.new ≡ change self.old key.now (rescind_sent true) }
     {
-        if let Ok(place) = self.place(key) {
-            let entry = &mut self.rows[place].1;
-            entry.phase = phase_sent(entry.phase, true);
-        }
+        self.turn(key, Turn::RescindSent);
     }
 
     /// The rescind of the key's ownership key of this create revision was lost, and is due again where that entry leaves.
     pub fn rescind_lost(&mut self, key: &Bytes, create: u64)
         ensures { self.new ≡ change self.old key.now (λ e. if e.create == create then rescind_sent false e else e) }
     {
-        if let Ok(place) = self.place(key) {
-            unsend(&mut self.rows[place].1, create);
-        }
+        self.turn(key, Turn::RescindLost(create));
     }
 
     /// The first entry that leaves and whose rescind is to be sent.
     pub fn first_rescind(&self) -> Option<&(Bytes, Entry)>
         ensures { option_copied result ≡ first_rescind self.now.entries }
     {
-        for row in &self.rows {
-            if is_rescind_due(&row.1) {
-                return Some(row);
-            }
+        match self.rows.get(self.first) {
+            Some(row) => Some(row),
+            None => None,
         }
-        None
     }
 
     /// Where the key's row is, or where it would go.
@@ -248,80 +259,66 @@ impl LeaseTable {
         )
     }
 
-    fn set_phase(&mut self, key: &Bytes, phase: Phase)
-        ensures { self.new ≡ change self.old key.now (in_phase phase) }
+    /// Where the first row that isn't below the range is, or behind all.
+    fn start(&self, range: &KeyRange) -> usize
+        ensures { IsStart (lowest range.now) self.now.entries result }
     {
-        if let Ok(place) = self.place(key) {
-            self.rows[place].1.phase = phase;
+        if is_all(range) {
+            return 0;
+        }
+        match self.place(&range.key) {
+            Ok(place) | Err(place) => place,
         }
     }
-}
 
-fn phase_after_write(phase: Phase) -> Phase
-    ensures { result ≡ phase_after_write phase }
-{
-    match phase {
-        Phase::Writing { revoked: false } => Phase::Held,
-        Phase::Writing { revoked: true } => Phase::Leaving { sent: false },
-        Phase::Held | Phase::Leaving { .. } => phase,
+    /// Whether there is a row at this place, and its key is in the range.
+    fn is_in(&self, range: &KeyRange, place: usize) -> bool
+        ensures { result ≡ is_in range.now self.now.entries place }
+    {
+        match self.rows.get(place) {
+            Some(row) => range.contains(&row.0),
+            None => false,
+        }
+    }
+
+    /// The key's entry, where there is one, takes this turn.
+    fn turn(&mut self, key: &Bytes, turn: Turn)
+        ensures { self.new ≡ change self.old key.now (turned turn) }
+    {
+        let _all = self.entries();
+        if let Ok(place) = self.place(key) {
+            self.turn_at(place, turn);
+        }
+    }
+
+    /// The entry at this place takes this turn.
+    fn turn_at(&mut self, place: usize, turn: Turn)
+        requires { place < length self.old.entries }
+        ensures { self.new ≡ record self.old { entries = changed_in self.old.entries place (turned turn) } }
+    {
+        let entry = &mut self.rows[place].1;
+        let was = is_rescind_due(entry);
+        take_turn(entry, turn);
+        let is = is_rescind_due(entry);
+        self.due = count_changed(self.due, was, is);
+        self.first = first_of_changed(&self.rows, self.due, self.first, place, is);
     }
 }
 
-fn phase_left(phase: Phase) -> Phase
-    ensures { result ≡ phase_left phase }
+/// Whether all keys are in the range.
+fn is_all(range: &KeyRange) -> bool
+    ensures { result ≡ (is_zero range.now.end && is_zero range.now.key) }
 {
-    match phase {
-        Phase::Held | Phase::Writing { .. } => Phase::Leaving { sent: false },
-        Phase::Leaving { .. } => phase,
-    }
+    is_zero(range.end.as_slice()) && is_zero(range.key.as_slice())
 }
 
-fn phase_given_up(phase: Phase) -> Phase
-    ensures { result ≡ phase_given_up phase }
+/// Whether these bytes are one zero byte.
+fn is_zero(bytes: &[u8]) -> bool
+    ensures { result ≡ is_zero bytes.now }
 {
-    match phase {
-        Phase::Held => Phase::Leaving { sent: false },
-        Phase::Writing { .. } => Phase::Writing { revoked: true },
-        Phase::Leaving { .. } => phase,
-    }
-}
-
-/// The phase where its rescind was sent or wasn't.
-fn phase_sent(phase: Phase, sent: bool) -> Phase
-    ensures { result ≡ phase_sent sent phase }
-{
-    match phase {
-        Phase::Leaving { .. } => Phase::Leaving { sent },
-        Phase::Held | Phase::Writing { .. } => phase,
-    }
-}
-
-fn unsend(entry: &mut Entry, create: u64)
-    ensures { entry.new ≡ (if entry.old.create == create then rescind_sent false entry.old else entry.old) }
-{
-    if entry.create == create {
-        entry.phase = phase_sent(entry.phase, false);
-    }
-}
-
-fn is_rescind_due(entry: &Entry) -> bool
-    ensures { result ≡ is_rescind_due entry.now }
-{
-    matches!(entry.phase, Phase::Leaving { sent: false })
-}
-
-fn give_up_row(row: &mut (Bytes, Entry))
-    ensures { row.new ≡ (row.old.0, given_up row.old.1) }
-{
-    row.1.phase = phase_given_up(row.1.phase);
-}
-
-/// Gives the row's key up where it is in the range.
-fn give_up_in(range: &KeyRange, row: &mut (Bytes, Entry))
-    ensures { row.new ≡ given_up_in range.now row.old }
-{
-    if range.contains(&row.0) {
-        row.1.phase = phase_given_up(row.1.phase);
+    match bytes {
+        [only] => *only == 0,
+        _ => false,
     }
 }
 

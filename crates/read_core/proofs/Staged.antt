@@ -1,15 +1,19 @@
 -- Each comes into the stage of the rule, or stays, as the definitions have it.
-use Rattle.std.proofs.Common.{◌≡◌, ℕ, Bool, true, false, cond, List, [], ◌∷◌, map, Some, None, refl}
+use Rattle.std.proofs.Common.{◌≡◌, ℕ, Bool, true, false, ◌&&◌, cond, List, [], ◌∷◌, map, Option, Some, None, refl, ap}
 use Rattle.etcd_types.specs.declared.record.Header.{Header}
 use Rattle.proxy_model.specs.declared.lease.Entry.{Entry}
 use Rattle.proxy_model.specs.Keyed.{Keyed, at}
 use Rattle.read_model.specs.declared.acquire.Acquire.{Acquire}
 use Rattle.read_model.specs.declared.asked.Asked.{Asked}
 use Rattle.read_model.specs.declared.asked.Stage.{Stage}
-use Rattle.read_model.specs.PlainRead.{ask_key, in_stage, read_turn}
-use Rattle.read_model.specs.Release.{in_place}
+use Rattle.etcd_types.specs.Keys.{same}
+use Rattle.read_model.specs.declared.asked.Stage.TheVariants as stage
+use Rattle.read_model.specs.Acquires.{is_acquiring, lost_once, told_lost}
+use Rattle.read_model.specs.PlainRead.{ask_key, called, in_stage, read_turn}
+use Rattle.read_model.specs.Release.{stands, in_place}
 use Rattle.known_asks.specs.Changes.{stage_or, staged_by}
-use Rattle.read_core.specs.Falls.{ground_at, stands_on, again_stage}
+use Rattle.known_asks.specs.Waiting.{waits_at_key}
+use Rattle.read_core.specs.Falls.{ground_at, stands_on, fallen, again_stage}
 
 stays_or : (b : Bool) (s : Stage) (a : Asked) → stage_or (cond b None (Some s)) a ≡ cond b a (in_stage s a)
 stays_or true s a = refl
@@ -19,3 +23,35 @@ pub all_again : (h : Header) (step : ℕ) (es : Keyed Entry) (acquires : Keyed A
 all_again h step es acquires [] = refl
 all_again h step es acquires (a ∷ xs) = λ i.
     stays_or (stands_on es acquires a) (read_turn h step (at es (ask_key a)) false None).stage a i ∷ all_again h step es acquires xs i
+
+-- What doesn't wait at its key stays.
+
+stands_alone : (t : ℕ) (e : Option Entry) (c : Option Acquire) (s : Stage) → waits_at_key s ≡ false → stands t e c s ≡ true
+stands_alone t e c (stage.Calling s) w = refl
+stands_alone t e c stage.Acquiring w = absurd (cc)
+stands_alone t e c stage.Joined w = absurd (cc)
+stands_alone t e c stage.Behind w = absurd (cc)
+stands_alone t e c stage.Writes w = refl
+stands_alone t e c (stage.Grouped s) w = refl
+stands_alone t e c (stage.Replied v) w = refl
+
+not_acquiring : (s : Stage) → waits_at_key s ≡ false → is_acquiring s ≡ false
+not_acquiring (stage.Calling s) w = refl
+not_acquiring stage.Acquiring w = absurd (cc)
+not_acquiring stage.Joined w = absurd (cc)
+not_acquiring stage.Behind w = absurd (cc)
+not_acquiring stage.Writes w = refl
+not_acquiring (stage.Grouped s) w = refl
+not_acquiring (stage.Replied v) w = refl
+
+pub fallen_stays : (step : ℕ) (es : Keyed Entry) (acquires : Keyed Acquire) (a : Asked) → waits_at_key a.stage ≡ false → fallen step es acquires a ≡ a
+fallen_stays step es acquires a w =
+    ap (λ b. cond b a (in_stage (called step) a)) (stands_alone a.ticket (at es (ask_key a)) (at acquires (ask_key a)) a.stage w)
+
+pub again_stays : (h : Header) (step : ℕ) (es : Keyed Entry) (acquires : Keyed Acquire) (a : Asked) → waits_at_key a.stage ≡ false → again_stage h step es acquires a ≡ None
+again_stays h step es acquires a w =
+    ap (λ b. cond b None (Some (read_turn h step (at es (ask_key a)) false None).stage)) (stands_alone a.ticket (at es (ask_key a)) (at acquires (ask_key a)) a.stage w)
+
+pub lost_stays : (members step : ℕ) (k : List ℕ) (a : Asked) → waits_at_key a.stage ≡ false → told_lost members step k a ≡ a
+lost_stays members step k a w =
+    ap (λ b. cond (b && same (ask_key a) k) (lost_once members step a) a) (not_acquiring a.stage w)

@@ -9,7 +9,7 @@ use crate::decisions::called;
 use crate::records::shown;
 use crate::standing::key_of;
 use etcd_types::{Bytes, Header, Kv, NoMemory};
-use known_asks::{Asked, Asks, Restage, Rule, Stage, lose_once, stage_changes};
+use known_asks::{Asked, Asks, Restage, Rule, Stage, change_waiting, lose_once, stage_changes};
 use std::alloc::Global;
 
 /// What the reads of a key come to when its acquire is answered.
@@ -109,10 +109,11 @@ fn acquires_at(ask: &Asked, own: &Bytes, key: &Bytes) -> bool
 pub fn lose_reader(alloc: Global, asks: &mut Asks, key: &Bytes, members: u32, step: u64)
     ensures { asks.new ≡ map (told_lost members step key.now) asks.old }
 {
-    asks.change_each(&LostReader {
+    let rule = LostReader {
         alloc,
         key,
         members,
         step,
-    });
+    };
+    change_waiting(asks, &rule);
 }

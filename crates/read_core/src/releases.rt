@@ -7,7 +7,7 @@ use crate::standing::{key_of, stands_at};
 use core_model::Acquire;
 use etcd_types::{Bytes, Header, NoMemory};
 use keyed_rows::Rows;
-use known_asks::{Asked, Asks, Restage, Rule, Stage, restage_each};
+use known_asks::{Asked, Asks, Restage, Rule, Stage, change_waiting, restage_waiting};
 use lease_table::LeaseTable;
 use std::alloc::Global;
 
@@ -81,12 +81,13 @@ pub fn release(
 )
     ensures { asks.new ≡ map (fallen step table.now.entries acquires.now) asks.old }
 {
-    asks.change_each(&Fallen {
+    let rule = Fallen {
         alloc,
         table,
         acquires,
         step,
-    });
+    };
+    change_waiting(asks, &rule);
 }
 
 /// Each read whose acquire or owner write is no more is answered from the entry of its key, waits for its owner write, or becomes a
@@ -108,6 +109,6 @@ pub fn release_again(
         acquires,
         step,
     };
-    restage_each(alloc, asks, &rule)?;
+    restage_waiting(alloc, asks, &rule)?;
     Ok(())
 }

@@ -1,5 +1,6 @@
 pub mod Passing
 pub mod Proper
+mod Resting
 pub mod Searches
 pub mod LossParts
 pub mod NoticeParts

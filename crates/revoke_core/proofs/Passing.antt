@@ -1,5 +1,5 @@
 -- The pass as a loop over places.
-use Rattle.std.proofs.Common.{◌≡◌, ℕ, ◌+◌, ◌<◌, ◌≤◌, Bool, true, false, ◌||◌, List, [], ◌∷◌, ◌++◌, length, take, drop, get_or, set, refl, sym, ◌∙◌, ap, arith}
+use Rattle.std.proofs.Common.{◌≡◌, ℕ, ◌+◌, ◌<◌, ◌≤◌, Bool, true, false, not, cond, ◌&&◌, ◌||◌, List, [], ◌∷◌, ◌++◌, length, take, drop, get_or, set, refl, sym, ◌∙◌, ap, arith}
 use mathlib.Core.List.{reverse}
 use Rattle.std.specs.List.{list_any}
 use Rattle.std.proofs.lemmas.List.{reverse-append, drop_more, take_more_set, drop-set-lt, take_all, drop_all, append-nil, length-set}
@@ -8,9 +8,10 @@ use Rattle.proxy_model.specs.declared.lease.Entry.{Entry}
 use Rattle.proxy_model.specs.Keyed.{Keyed}
 use Rattle.wait_model.specs.declared.write.Write.{Write}
 use Rattle.wait_model.specs.Covers.{shares}
-use Rattle.wait_model.specs.Passes.{turn_if, turn, Pass, passed}
+use Rattle.wait_model.specs.Passes.{goes, turn_if, turn, Pass, passed}
 use Rattle.wait_model.specs.SingleKeys.{Turn}
-use Rattle.revoke_core.specs.Steps.{first_shares, is_blocked}
+use Rattle.wait_model.specs.Stages.{is_waiting, staged, stage_on}
+use Rattle.revoke_core.specs.Steps.{first_blocked, is_blocked}
 
 -- what is left of the pass from the i-th write on ends where the whole pass ends
 pub record Passing (step : ℕ) (es₀ : Keyed Entry) (ss₀ : Keyed Bool) (ws₀ : List Write) (i : ℕ) (es : Keyed Entry) (ss : Keyed Bool) (ws : List Write) : Type 0 where
@@ -22,7 +23,7 @@ pub record Passing (step : ℕ) (es₀ : Keyed Entry) (ss₀ : Keyed Bool) (ws�
 pub passing_begins : (step : ℕ) (es : Keyed Entry) (ss : Keyed Bool) (ws : List Write) → Passing step es ss ws 0 es ss ws
 passing_begins step es ss ws = record { len = refl; entries = refl; spoiled = refl; writes = refl }
 
-any-reverse : {A : Type 0} (p : A → Bool) (xs : List A) → list_any p (reverse xs) ≡ list_any p xs
+pub any-reverse : {A : Type 0} (p : A → Bool) (xs : List A) → list_any p (reverse xs) ≡ list_any p xs
 any-reverse p [] = refl
 any-reverse p (x ∷ xs) =
     ap (list_any p) (reverse-append (x ∷ []) xs) ∙ list_any-append p (reverse xs) (x ∷ []) ∙ ap (λ b. b || (p x || false)) (any-reverse p xs) ∙ turned (list_any p xs) (p x)
@@ -33,9 +34,21 @@ any-reverse p (x ∷ xs) =
     turned false true = refl
     turned false false = refl
 
-blocked_is : (ws : List Write) (i : ℕ) (w : Write) → i < length ws → w ≡ get_or ws i w → is_blocked ws i ≡ list_any (shares w) (reverse (take i ws))
+-- a write that doesn't wait for its turn has the same one, held back or not
+only_waiting : (a b : Bool) → a && not (a && b) ≡ a && not b
+only_waiting true b = refl
+only_waiting false b = refl
+
+same_turn : (step : ℕ) (b : Bool) (es : Keyed Entry) (ss : Keyed Bool) (w : Write) → turn_if step (is_waiting (stage_on w.stage) && b) es ss w ≡ turn_if step b es ss w
+same_turn step b es ss w =
+    let v = staged w (stage_on w.stage) in
+    let as_it_is : Turn = record { entries = es; spoiled = ss; write = v } in
+    ap (λ c. cond c (goes step es ss v) as_it_is) (only_waiting (is_waiting (stage_on w.stage)) b)
+
+blocked_is : (ws : List Write) (i : ℕ) (w : Write) → i < length ws → w ≡ get_or ws i w → is_blocked ws i ≡ is_waiting (stage_on w.stage) && list_any (shares w) (reverse (take i ws))
 blocked_is ws i w l e =
-    ap (first_shares (take i ws)) (drop_more ws i w l) ∙ ap (λ x. list_any (shares x) (take i ws)) (sym e) ∙ sym (any-reverse (shares w) (take i ws))
+    let here = is_waiting (stage_on w.stage) in
+    ap (first_blocked (take i ws)) (drop_more ws i w l) ∙ ap (λ x. is_waiting (stage_on x.stage) && list_any (shares x) (take i ws)) (sym e) ∙ ap (λ b. here && b) (sym (any-reverse (shares w) (take i ws)))
 
 append-assoc : {A : Type 0} (xs : List A) (y : A) (zs : List A) → (xs ++ y ∷ []) ++ zs ≡ xs ++ y ∷ zs
 append-assoc [] y zs = refl
@@ -47,7 +60,7 @@ passing_more step es₀ ss₀ ws₀ i es ss ws w b h l e g =
     let earlier = reverse (take i ws) in
     let rest = drop (i + 1) ws in
     let t = turn_if step b es ss w in
-    let same : turn step earlier es ss w ≡ t = ap (λ x. turn_if step x es ss w) (sym (g ∙ blocked_is ws i w l e)) in
+    let same : turn step earlier es ss w ≡ t = sym (same_turn step (list_any (shares w) earlier) es ss w) ∙ ap (λ x. turn_if step x es ss w) (sym (g ∙ blocked_is ws i w l e)) in
     let d : drop i ws ≡ w ∷ rest = drop_more ws i w l ∙ ap (λ x. x ∷ rest) (sym e) in
     let q : Turn → Pass = λ u. passed step (u.write ∷ earlier) u.entries u.spoiled rest in
     let before : reverse (take (i + 1) (set ws i t.write)) ≡ t.write ∷ earlier = ap reverse (take_more_set ws i t.write l) ∙ reverse-append (take i ws) (t.write ∷ []) in
@@ -84,5 +97,7 @@ passing_ends step es₀ ss₀ ws₀ i es ss ws h l =
 pub passing_moved : (step : ℕ) (es₀ : Keyed Entry) (ss₀ : Keyed Bool) (ws₀ : List Write) (i j : ℕ) (es fs : Keyed Entry) (ss ts : Keyed Bool) (ws : List Write) (w v : Write) → fs ≡ es → ts ≡ ss → v ≡ w → Passing step es₀ ss₀ ws₀ j es ss (set ws i w) → Passing step es₀ ss₀ ws₀ j fs ts (set ws i v)
 passing_moved step es₀ ss₀ ws₀ i j es fs ss ts ws w v p q r h = rw (p, q, r) h
 
-pub shared_before : (ws : List Write) (i : ℕ) (w : Write) → i < length ws → w ≡ get_or ws i w → list_any (shares w) (take i ws) ≡ is_blocked ws i
-shared_before ws i w l e = sym (any-reverse (shares w) (take i ws)) ∙ sym (blocked_is ws i w l e)
+-- a write by the slice of those before it
+pub held_before : (ws : List Write) (i : ℕ) (w : Write) → i < length ws → w ≡ get_or ws i w → is_waiting (stage_on w.stage) && list_any (shares w) (take i ws) ≡ is_blocked ws i
+held_before ws i w l e =
+    ap (λ x. is_waiting (stage_on x.stage) && list_any (shares x) (take i ws)) e ∙ ap (first_blocked (take i ws)) (sym (drop_more ws i w l))

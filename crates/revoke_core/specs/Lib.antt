@@ -1,6 +1,7 @@
-pub mod Steps
-pub mod Losses
-pub mod Sends
-pub mod Told
 pub mod Answers
+pub mod Losses
 pub mod Readings
+pub mod Rests
+pub mod Sends
+pub mod Steps
+pub mod Told

@@ -10,6 +10,7 @@ use Rattle.wait_model.specs.declared.wait.Settled.{Settled}
 use Rattle.wait_model.specs.declared.wait.Settled.TheVariants as settled
 use Rattle.wait_model.specs.declared.write.Write.{Write}
 use Rattle.wait_model.specs.Covers.{shares, leased}
+use Rattle.wait_model.specs.Stages.{is_waiting, stage_on}
 use Rattle.wait_model.specs.Phases.{begun, let_go}
 use Rattle.wait_model.specs.Writes.{has_ticket, sends, asks}
 use Rattle.revoke_core.specs.declared.places.By.{By}
@@ -17,13 +18,13 @@ use Rattle.revoke_core.specs.declared.places.By.TheVariants as by
 use Rattle.revoke_calls.specs.declared.entries.Fate.{Fate}
 use Rattle.revoke_calls.specs.Fates.{fate_of, settled_entries}
 
--- the first of these shares a key with one of those before
-abbrev pub first_shares : List Write → List Write → Bool
-first_shares earlier [] = false
-first_shares earlier (w ∷ ws) = list_any (shares w) earlier
+-- the first of these waits for its turn, and shares a key with one of those before
+abbrev pub first_blocked : List Write → List Write → Bool
+first_blocked earlier [] = false
+first_blocked earlier (w ∷ ws) = is_waiting (stage_on w.stage) && list_any (shares w) earlier
 
 abbrev pub is_blocked : List Write → ℕ → Bool
-is_blocked writes i = first_shares (take i writes) (drop i writes)
+is_blocked writes i = first_blocked (take i writes) (drop i writes)
 
 -- the change of one key
 abbrev pub begun_at : List ℕ → List ℕ → Entry → Entry

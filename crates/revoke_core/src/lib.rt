@@ -8,6 +8,7 @@ mod losses;
 mod notices;
 mod passes;
 mod places;
+mod rests;
 mod sends;
 mod takes;
 mod turns;

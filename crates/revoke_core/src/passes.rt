@@ -1,10 +1,11 @@
-ghost use Rattle.std.specs.Prelude.{◌≡◌, ◌<◌, [], take, drop, length};
+ghost use Rattle.std.specs.Prelude.{◌≡◌, ◌<◌, ◌&&◌, [], take, drop, length};
 ghost use Rattle.std.specs.List.{list_any};
 ghost use Rattle.wait_model.specs.Covers.{covers, shares};
 ghost use Rattle.wait_model.specs.Passes.{passed};
+ghost use Rattle.wait_model.specs.Stages.{is_waiting, stage_on};
 ghost use Rattle.revoke_core.specs.Steps.{is_blocked};
 
-use crate::turns::{covers, shares, take_turn};
+use crate::turns::{covers, shares, take_turn, waits_now};
 use etcd_types::Bytes;
 use keyed_rows::Rows;
 use lease_table::LeaseTable;
@@ -27,15 +28,21 @@ pub(crate) fn pass(
     }
 }
 
-/// Whether the write at this place shares a key with an earlier one.
+/// Whether the write at this place waits for its turn and shares a key with an earlier one.
 fn is_blocked(writes: &[Write], at: usize) -> bool
     requires { at < length writes.now }
     ensures { result ≡ is_blocked writes.now at }
 {
-    shares_any(&writes[at], &writes[..at])
+    is_held_back(&writes[at], &writes[..at])
 }
 
-fn shares_any(write: &Write, earlier: &[Write]) -> bool
+fn is_held_back(write: &Write, earlier: &[Write]) -> bool
+    ensures { result ≡ (is_waiting (stage_on write.now.stage) && list_any (shares write.now) earlier.now) }
+{
+    waits_now(&write.stage) && shares_any(write, earlier)
+}
+
+pub(crate) fn shares_any(write: &Write, earlier: &[Write]) -> bool
     ensures { result ≡ list_any (shares write.now) earlier.now }
 {
     earlier.iter().any(|other| shares(write, other))

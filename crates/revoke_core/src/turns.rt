@@ -64,7 +64,14 @@ fn go_back(stage: &mut WriteStage)
     }
 }
 
-fn is_found_over(stage: &WriteStage) -> bool
+/// Whether it waits for its turn, or does so from now on.
+pub(crate) fn waits_now(stage: &WriteStage) -> bool
+    ensures { result ≡ is_waiting (stage_on stage.now) }
+{
+    is_waiting(stage) || is_found_over(stage)
+}
+
+pub(crate) fn is_found_over(stage: &WriteStage) -> bool
     ensures { result ≡ is_found_over stage.now }
 {
     match stage {
@@ -85,7 +92,7 @@ fn is_over(found: &Found) -> bool
     found.gone && !matches!(found.revoke, Asking::Out { .. })
 }
 
-fn is_waiting(stage: &WriteStage) -> bool
+pub(crate) fn is_waiting(stage: &WriteStage) -> bool
     ensures { result ≡ is_waiting stage.now }
 {
     matches!(stage, WriteStage::Waiting)

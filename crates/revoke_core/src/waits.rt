@@ -23,6 +23,7 @@ use crate::losses::{forget_write, lose_job};
 use crate::notices::take_all;
 use crate::passes::{is_covered, pass};
 use crate::places::{By, place_of, take_job};
+use crate::rests::{Left, known_rest, left_of};
 use crate::sends::{call_due, first_rescind, send_call, send_rescind};
 use crate::takes::{When, take_read};
 use etcd_types::{Answer, Bytes, Event, List, NoMemory, Request};
@@ -44,12 +45,13 @@ pub struct Waits {
     spoiled: Rows<bool>,
     quiet: Rows<u64>,
     out: Vec<WaitCall>,
+    /// What the last pass left of the writes, where none changed since.
+    left: Option<Left>,
 }
 
 impl Model for Waits {
-    ghost use Rattle.std.specs.Prelude.{IsTrue};
     ghost use Rattle.wait_model.specs.State.{Waits as Value'};
-    ghost use Rattle.wait_model.specs.Fits.{are_proper};
+    ghost use Rattle.revoke_core.specs.Rests.{IsKept};
     ghost use Rattle.std.specs.Coded.{codes};
     ghost use Rattle.etcd_types.specs.contracts.operation.Op as operation;
 
@@ -59,7 +61,7 @@ impl Model for Waits {
 
     ghost view = { λ w. record { prefix = w.prefix; step = w.step; writes = w.writes.items; spoiled = w.spoiled; quiet = w.quiet; out = w.out.items } };
 
-    ghost invariant = { λ w. IsTrue (are_proper w.writes.items) };
+    ghost invariant = { λ w. IsKept w.writes.items w.left };
 }
 
 impl Waits {
@@ -75,6 +77,7 @@ impl Waits {
             spoiled: Rows::new(alloc),
             quiet: Rows::new(alloc),
             out: Vec::new(alloc),
+            left: None,
         }
     }
 
@@ -93,6 +96,7 @@ impl Waits {
     {
         let write = new_write(self.alloc, ticket, request)?;
         self.writes.push(write)?;
+        self.left = None;
         Ok(())
     }
 
@@ -164,12 +168,16 @@ impl Waits {
         is_covered(&self.writes, key)
     }
 
-    /// Takes each waiting write as far as its rule lets it, in order of asking.
+    /// Takes each waiting write as far as its rule lets it, in order of asking. Where no write changed since the last time, and none
+    /// waits but behind an earlier one, it takes constant time.
     pub fn proceed(&mut self, table: &mut LeaseTable)
         ensures waits { self.new ≡ (proceeded (owned table.old.entries self.old)).waits }
         ensures entries { table.new.entries ≡ (proceeded (owned table.old.entries self.old)).entries }
     {
-        pass(&mut self.writes, &mut self.spoiled, table, self.step);
+        if !known_rest(&self.left) {
+            pass(&mut self.writes, &mut self.spoiled, table, self.step);
+            self.left = Some(left_of(&self.writes));
+        }
     }
 
     /// What the answer says to the call of this number. `Shape` comes exactly where it can't be one to the call, which then counts as
@@ -222,6 +230,7 @@ impl Waits {
             table,
         )?;
         drop(take_job(&mut self.out, call));
+        self.left = None;
         Ok(settled)
     }
 
@@ -242,6 +251,7 @@ impl Waits {
         ensures settled { result ≡ (lost call (owned table.old.entries self.old)).settled }
     {
         let job = take_job(&mut self.out, call);
+        self.left = None;
         lose_job(&mut self.writes, call, job, table)
     }
 
@@ -261,6 +271,7 @@ impl Waits {
         let notices = notices_of(self.alloc, &self.prefix, events)?;
         table.reserve(notices.len() as u64)?;
         take_all(notices, session, &mut self.writes, &mut self.spoiled, table);
+        self.left = None;
         Ok(())
     }
 
@@ -288,6 +299,7 @@ impl Waits {
                     call,
                     table,
                 )?;
+                self.left = None;
                 Ok(due)
             }
         }
@@ -315,13 +327,18 @@ impl Waits {
         ensures entries { table.new.entries ≡ (forgotten ticket (owned table.old.entries self.old)).entries }
     {
         forget_write(&mut self.writes, ticket, table);
+        self.left = None;
     }
 
     /// Where the first due call of a write stands among all due jobs; nothing where none is due. Due rescinds stand at the table.
+    /// It takes constant time where no write changed since the last pass.
     pub fn first_place(&self) -> Option<Place>
         ensures { result ≡ first_place self.now.writes }
     {
-        first_place(&self.writes)
+        match self.left {
+            Some(left) => left.first,
+            None => first_place(&self.writes),
+        }
     }
 
     /// The session ended: all entries are gone, and what was due under it becomes due without it.
@@ -331,6 +348,7 @@ impl Waits {
     {
         table.drop_all();
         end_all(&mut self.writes);
+        self.left = None;
     }
 
     /// The leasing stream began anew: all owners that were found count as gone.
@@ -338,6 +356,7 @@ impl Waits {
         ensures { self.new ≡ (resynced (owned [] self.old)).waits }
     {
         lose_all(&mut self.writes);
+        self.left = None;
     }
 
     /// The leasing stream lost what it was to tell: each key is given up, and each acquire is spoiled.

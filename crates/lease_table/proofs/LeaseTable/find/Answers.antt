@@ -15,4 +15,4 @@ returns-in-Ok c =
 pub returns-in-Err : goal.returns-in-Err
 returns-in-Err c =
     let gap = subst (λ (t : Table). IsGap t.entries c.args.key.now c.in-Err.field-0) (sym c.self.view_is) c.in-Err.ensures.absent in
-    sym (at-gap _ _ _ (to_T _ c.self.invariant) gap) ∙ ap (λ (t : Table). at t.entries c.args.key.now) c.self.view_is
+    sym (at-gap _ _ _ (to_T _ c.self.invariant.in_order) gap) ∙ ap (λ (t : Table). at t.entries c.args.key.now) c.self.view_is

@@ -1,21 +1,14 @@
--- Each row is done in its place, and keeps its key.
-use Rattle.std.proofs.Common.{◌≡◌, length, vec_len, IsTrue, List, ℕ, arith, sym, ap, ◌∙◌}
-use Rattle.std.proofs.lemmas.List.{take_all, drop_all, append-nil, with_items_is}
-use Rattle.std.proofs.lemmas.List.Edits.{map_over_more}
-use Rattle.proxy_model.specs.Keyed.{is_in_order}
-use Rattle.proxy_model.specs.LeaseTable.{given_up}
-use Rattle.wait_model.proofs.Tables.{in_order-each}
-use Rattle.lease_table.proofs.Edits.{given_up_row}
+-- One more row is done in its place.
+use Rattle.std.proofs.Common.{ap, ◌∙◌}
+use Rattle.proxy_model.specs.declared.lease.Entry.{Entry}
+use Rattle.proxy_model.specs.Keyed.{Keyed}
+use Rattle.proxy_model.specs.LeaseTable.{Table, given_up}
+use Rattle.lease_table.specs.Dues.{changed_in}
+use Rattle.lease_table.proofs.Edits.{done_more}
 use Rattle.lease_table.proofs.LeaseTable.give_up_all.Goals as goal
 
-pub invariant_of-self : goal.invariant_of-self
-invariant_of-self c =
-    let rows = c.deref_mut-row-items.result.now in
-    let same_length : length c.loop-row.row-items ≡ vec_len c.self.inside.rows = omega (arith, c.loop-row.auto.row-items, c.deref_mut-row-items.ensures.len) in
-    let in_order : IsTrue (is_in_order c.loop-row.row-items) = rw (c.loop-row.invariant, take_all c.loop-row.row-index rows c.loop-row-test.false, drop_all c.loop-row.row-index rows c.loop-row-test.false, append-nil, in_order-each (λ (k : List ℕ) e. given_up e) rows, c.deref_mut-row-items.ensures.value) c.self.invariant in
-    rw (with_items_is c.self.inside.rows c.loop-row.row-items same_length) in_order
-
-pub loop-row-preserved : goal.loop-row-preserved
-loop-row-preserved c =
-    rw (c.give_up_row.ensures ∙ ap given_up_row (sym c.row-item.is))
-    (map_over_more given_up_row _ _ _ _ c.loop-row-test.true c.loop-row.invariant c.row-item.is)
+pub loop-place-preserved : goal.loop-place-preserved
+loop-place-preserved c =
+    c.turn_at.ensures
+    ∙ ap (λ (t : Table). record t { entries = changed_in t.entries c.loop-place.place given_up }) c.loop-place.invariant
+    ∙ ap (λ (es : Keyed Entry). record c.args.self.now { entries = es }) (done_more given_up c.args.self.now.entries c.loop-place.place)

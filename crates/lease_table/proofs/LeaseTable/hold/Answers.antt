@@ -1,18 +1,41 @@
 -- The key has no entry, so there is a gap for it; and there is room, so the row is added in place.
-use Rattle.std.proofs.Common.{◌-◌, ◌<◌, vec_len, sym, ap, subst, ◌∙◌, arith}
+use Rattle.std.proofs.Common.{◌-◌, ◌<◌, ◌≤◌, List, ℕ, length, vec_len, sym, ap, subst, ◌∙◌, arith}
 use Rattle.std.specs.Vec.{vec_capacity}
+use Rattle.proxy_model.specs.declared.lease.Entry.{Entry}
 use Rattle.proxy_model.specs.LeaseTable.{Table, hold}
 use Rattle.keyed_rows.specs.Places.{IsGap}
+use Rattle.lease_table.specs.Dues.{one_if, first_of_added}
+use Rattle.lease_table.proofs.Counting.{one_at_most, at_most_all, within, kept-added}
 use Rattle.lease_table.proofs.Edits.{not_absent, in_order-held, held_table}
 use Rattle.lease_table.proofs.LeaseTable.hold.Goals as goal
 
 pub unreachable-requires : goal.unreachable-requires
 unreachable-requires c = not_absent _ _ _ c.in-Ok.ensures.found c.requires.absent
 
+pub count_changed-self-inside-requires-clause-room : goal.count_changed-self-inside-requires-clause-room
+count_changed-self-inside-requires-clause-room c =
+    let all = at_most_all c.self.inside.rows.items in
+    let one = one_at_most c.is_rescind_due-is.result in
+    let count = c.self.invariant.counted in
+    let o = c.self.inside.rows.ok in omega arith
+
+pub first_of_added-self-inside-requires : goal.first_of_added-self-inside-requires
+first_of_added-self-inside-requires c =
+    let all = within c.self.inside.rows.items in
+    let found = c.self.invariant.found in
+    let o = c.self.inside.rows.ok in omega arith
+
 pub invariant_of-self : goal.invariant_of-self
 invariant_of-self c =
-    let gap = subst (λ (t : Table). IsGap t.entries c.args.key c.in-Err.gap) (sym c.self.view_is) c.in-Err.ensures.absent in
-    rw (rw c.unwrap.ensures at c.insert.ensures.items) (in_order-held _ _ _ _ c.self.invariant gap)
+    let es = c.self.inside.rows.items in
+    let i = c.in-Err.gap in
+    let row : List ℕ × Entry = (c.args.key, c.args.entry) in
+    let gap = subst (λ (t : Table). IsGap t.entries c.args.key i) (sym c.self.view_is) c.in-Err.ensures.absent in
+    let l = subst (λ (t : Table). i ≤ length t.entries) (sym c.self.view_is) c.in-Err.ensures.up_to_end in
+    let is = ap one_if c.is_rescind_due-is.ensures in
+    let after = c.count_changed-self-inside.ensures in
+    let first = c.first_of_added-self-inside.ensures ∙ ap (first_of_added c.self.inside.first i) c.is_rescind_due-is.ensures in
+    rw (rw c.unwrap.ensures at c.insert.ensures.items) (kept-added es c.self.inside.due c.self.inside.first i row c.count_changed-self-inside.result c.first_of_added-self-inside.result c.self.invariant l (in_order-held es c.args.key c.args.entry i c.self.invariant.in_order gap) (omega (arith, is, after)) first)
 
 pub returns : goal.returns
 returns c =

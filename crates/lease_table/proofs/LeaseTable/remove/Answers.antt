@@ -1,22 +1,51 @@
 -- The row at the key's place is taken out, and where there is none all stays.
-use Rattle.std.proofs.Common.{◌≡◌, None, sym, ap, subst, ◌∙◌}
-use Rattle.proxy_model.specs.Keyed.{with_at}
+use Rattle.std.proofs.Common.{◌≡◌, ◌<◌, None, length, sym, ap, subst, ◌∙◌, arith}
+use Rattle.proxy_model.specs.declared.lease.Entry.{Entry}
+use Rattle.proxy_model.specs.Keyed.{Keyed, with_at}
 use Rattle.proxy_model.specs.LeaseTable.{Table}
 use Rattle.keyed_rows.specs.Places.{IsPlace, IsGap}
+use Rattle.lease_table.specs.Dues.{one_if, due_count, first_of_removed}
+use Rattle.lease_table.proofs.Counting.{counted_one, count-remove, kept-removed}
 use Rattle.lease_table.proofs.Edits.{in_order-removed, removed, none_removed}
 use Rattle.lease_table.proofs.LeaseTable.remove.Goals as goal
 
+pub count_changed-self-inside-requires-clause-counted : goal.count_changed-self-inside-requires-clause-counted
+count_changed-self-inside-requires-clause-counted c =
+    let es = c.self.inside.rows.items in
+    let i = c.in-Ok.place in
+    let l = subst (λ (t : Table). i < length t.entries) (sym c.self.view_is) c.in-Ok.ensures.in_range in
+    let one = counted_one es i c.remove-row.result l c.remove-row.ensures.value in
+    let was = ap one_if c.is_rescind_due-was.ensures in
+    let count = c.self.invariant.counted in omega (arith, one, was, count)
+
+pub first_of_removed-self-inside-requires-clause-counted : goal.first_of_removed-self-inside-requires-clause-counted
+first_of_removed-self-inside-requires-clause-counted c =
+    let es = c.self.inside.rows.items in
+    let i = c.in-Ok.place in
+    let l = subst (λ (t : Table). i < length t.entries) (sym c.self.view_is) c.in-Ok.ensures.in_range in
+    let counts = count-remove es i c.remove-row.result l c.remove-row.ensures.value in
+    let was = ap one_if c.is_rescind_due-was.ensures in
+    let count = c.self.invariant.counted in
+    let after = c.count_changed-self-inside.ensures in
+    let same = ap due_count (c.deref.ensures.value ∙ c.remove-row.ensures.items) in omega (arith, counts, was, count, after, same)
+
 pub invariant_of-self : goal.invariant_of-self
 invariant_of-self c =
-    let place = subst (λ (t : Table). IsPlace t.entries c.args.key.now c.in-Ok.place) (sym c.self.view_is) c.in-Ok.ensures.found in
-    rw c.remove.ensures.items (in_order-removed _ _ _ c.self.invariant place)
+    let es = c.self.inside.rows.items in
+    let i = c.in-Ok.place in
+    let l = subst (λ (t : Table). i < length t.entries) (sym c.self.view_is) c.in-Ok.ensures.in_range in
+    let place = subst (λ (t : Table). IsPlace t.entries c.args.key.now i) (sym c.self.view_is) c.in-Ok.ensures.found in
+    let was = ap one_if c.is_rescind_due-was.ensures in
+    let after = c.count_changed-self-inside.ensures in
+    let first = c.first_of_removed-self-inside.ensures ∙ ap (λ (rows : Keyed Entry). first_of_removed rows c.self.inside.first i) (c.deref.ensures.value ∙ c.remove-row.ensures.items) in
+    rw c.remove-row.ensures.items (kept-removed es c.self.inside.due c.self.inside.first i c.remove-row.result c.count_changed-self-inside.result c.first_of_removed-self-inside.result c.self.invariant l c.remove-row.ensures.value (in_order-removed es c.args.key.now i c.self.invariant.in_order place) (omega (arith, was, after)) first)
 
 pub returns-in-Ok-clause-entries : goal.returns-in-Ok-clause-entries
 returns-in-Ok-clause-entries c =
     let place = subst (λ (t : Table). IsPlace t.entries c.args.key.now c.in-Ok.place) (sym c.self.view_is) c.in-Ok.ensures.found in
-    c.remove.ensures.items ∙ removed _ _ _ c.self.invariant place ∙ ap (λ (t : Table). with_at t.entries c.args.key.now None) c.self.view_is
+    c.remove-row.ensures.items ∙ removed _ _ _ c.self.invariant.in_order place ∙ ap (λ (t : Table). with_at t.entries c.args.key.now None) c.self.view_is
 
 pub returns-in_default-clause-entries : goal.returns-in_default-clause-entries
 returns-in_default-clause-entries c =
     let gap = subst (λ (t : Table). IsGap t.entries c.args.key.now c.in_default.field-0) (sym c.self.view_is) c.in_default.ensures.absent in
-    subst (λ (t : Table). t.entries ≡ with_at t.entries c.args.key.now None) c.self.view_is (none_removed _ _ _ c.self.invariant gap)
+    subst (λ (t : Table). t.entries ≡ with_at t.entries c.args.key.now None) c.self.view_is (none_removed _ _ _ c.self.invariant.in_order gap)

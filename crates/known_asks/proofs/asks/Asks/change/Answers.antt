@@ -1,9 +1,9 @@
 -- The ticket's row is changed in its place, and where there is none all stays.
-use Rattle.std.proofs.Common.{◌≡◌, ap, subst, refl, ◌∙◌, List}
+use Rattle.std.proofs.Common.{◌≡◌, ap, subst, ◌∙◌, List}
 use Rattle.read_model.specs.declared.asked.Asked.{Asked}
-use Rattle.read_model.specs.PlainRead.{in_stage}
 use Rattle.known_asks.specs.Asks.{one_changed}
 use Rattle.known_asks.proofs.Tickets.{asks, fits-one_changed, its_change, no_change}
+use Rattle.known_asks.proofs.Moves.{marked-set, mark_stands}
 use Rattle.known_asks.proofs.Since.{all_lower, since-set}
 use Rattle.known_asks.proofs.asks.Asks.change.Goals as goal
 
@@ -11,6 +11,7 @@ pub invariant_of-self : goal.invariant_of-self
 invariant_of-self g c =
     let at = rw (c.deref.ensures.value, c.deref-2.ensures.value) at c.in-Some.ensures.found in
     record {
+      marked = rw (c.change_one-self-inside.ensures.marks, c.change_one-self-inside.ensures.row) (marked-set c.self.inside.rows.items c.self.inside.marks c.in-Some.row c.index_mut.result.now (g.R.Rule.changed c.args.rule.now) (g.met.R.Rule.keeps c.args.rule.now) c.self.invariant.marked c.self.invariant.fits.indexed.rows_rise at.rows_bound c.index_mut.ensures.value);
       fits = rw c.change_one-self-inside.ensures.row (fits-one_changed _ _ _ c.args.ticket _ _ (g.R.Rule.changed c.args.rule.now) c.index_mut.result.now (g.met.R.Rule.keeps c.args.rule.now) c.self.invariant.fits at c.index_mut.ensures.value);
       since = since-set c.change_one-self-inside.result c.self.inside.rows.items c.in-Some.row c.change_one-self-inside.new.row.0 c.change_one-self-inside.new.row.1 (all_lower c.change_one-self-inside.result c.self.inside.oldest (asks c.self.inside.rows.items) c.change_one-self-inside.ensures.all c.self.invariant.since) c.change_one-self-inside.ensures.it;
     }
@@ -19,6 +20,11 @@ pub returns-in-Some : goal.returns-in-Some
 returns-in-Some g c =
     let at = rw (c.deref.ensures.value, c.deref-2.ensures.value) at c.in-Some.ensures.found in
     rw c.change_one-self-inside.ensures.row (its_change _ _ c.args.ticket _ _ (g.R.Rule.changed c.args.rule.now) c.index_mut.result.now c.self.invariant.fits.indexed at c.index_mut.ensures.value ∙ ap (λ (s : List Asked). one_changed c.args.ticket (g.R.Rule.changed c.args.rule.now) s) c.self.view_is)
+
+pub change_one-self-inside-requires : goal.change_one-self-inside-requires
+change_one-self-inside-requires g c =
+    let at = rw (c.deref.ensures.value, c.deref-2.ensures.value) at c.in-Some.ensures.found in
+    mark_stands c.self.inside.rows.items c.self.inside.marks c.in-Some.row c.index_mut.result.now c.self.invariant.marked c.self.invariant.fits.indexed.rows_rise at.rows_bound c.index_mut.ensures.value
 
 pub returns-in_default : goal.returns-in_default
 returns-in_default g c =

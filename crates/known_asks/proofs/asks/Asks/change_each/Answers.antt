@@ -1,5 +1,5 @@
 -- Each row keeps its number and its ticket.
-use Rattle.std.proofs.Common.{List, map, ap, sym, ◌∙◌}
+use Rattle.std.proofs.Common.{List, map, ap, ◌∙◌}
 use Rattle.read_model.specs.declared.asked.Asked.{Asked}
 use Rattle.known_asks.proofs.Tickets.{fits-each_changed, asks-each_changed}
 use Rattle.known_asks.proofs.asks.Asks.change_each.Goals as goal
@@ -7,11 +7,12 @@ use Rattle.known_asks.proofs.asks.Asks.change_each.Goals as goal
 pub invariant_of-self : goal.invariant_of-self
 invariant_of-self g c =
     record {
-      fits = rw c.change_rows.ensures (fits-each_changed _ _ _ (g.R.Rule.changed c.args.rule.now) (g.met.R.Rule.keeps c.args.rule.now) c.self.invariant.fits);
+      marked = c.change_rows.ensures.marked;
+      fits = rw c.change_rows.ensures.rows (fits-each_changed _ _ _ (g.R.Rule.changed c.args.rule.now) (g.met.R.Rule.keeps c.args.rule.now) c.self.invariant.fits);
       since = rw c.deref.ensures.value at c.oldest_of-self-inside.ensures;
     }
 
 pub returns : goal.returns
 returns g c =
-    rw c.change_rows.ensures
+    rw c.change_rows.ensures.rows
     (asks-each_changed (g.R.Rule.changed c.args.rule.now) _ ∙ ap (λ (s : List Asked). map (g.R.Rule.changed c.args.rule.now) s) c.self.view_is)

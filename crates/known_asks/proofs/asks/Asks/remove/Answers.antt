@@ -3,13 +3,15 @@ use Rattle.std.proofs.Common.{◌≡◌, sym, ap, subst, ◌∙◌, List}
 use Rattle.read_model.specs.declared.asked.Asked.{Asked}
 use Rattle.core_model.specs.Lookups.{ask_at, without_ask}
 use Rattle.known_asks.proofs.Tickets.{fits-taken, taken, none_taken, found_row, found_none}
+use Rattle.known_asks.proofs.Moves.{marked-taken}
 use Rattle.known_asks.proofs.Since.{since-remove}
 use Rattle.known_asks.proofs.asks.Asks.remove.Goals as goal
 
 pub invariant_of-self : goal.invariant_of-self
 invariant_of-self c =
     let at = rw (c.deref.ensures.value, c.deref-2.ensures.value) at c.in-Some.ensures.found in
-    rw (c.remove.ensures.items, c.remove-in-Some.ensures.items) (record {
+    rw (c.remove.ensures.items, c.remove-taken.ensures.items) (record {
+      marked = rw (c.remove-in-Some.ensures, c.mark_of.ensures) (marked-taken c.self.inside.rows.items c.self.inside.marks c.in-Some.row c.remove-taken.result c.self.invariant.marked c.self.invariant.fits.indexed.rows_rise at.rows_bound c.remove-taken.ensures.value);
       fits = fits-taken _ _ _ c.args.ticket _ _ c.self.invariant.fits at;
       since = since-remove c.self.inside.oldest c.self.inside.rows.items c.in-Some.row c.self.invariant.since;
     })
@@ -17,13 +19,13 @@ invariant_of-self c =
 pub returns-in-Some-clause-rest : goal.returns-in-Some-clause-rest
 returns-in-Some-clause-rest c =
     let at = rw (c.deref.ensures.value, c.deref-2.ensures.value) at c.in-Some.ensures.found in
-    rw c.remove-in-Some.ensures.items
+    rw c.remove-taken.ensures.items
     (taken _ _ c.args.ticket _ _ c.self.invariant.fits.indexed at ∙ ap (λ (s : List Asked). without_ask c.args.ticket s) c.self.view_is)
 
 pub returns-in-Some-clause-found : goal.returns-in-Some-clause-found
 returns-in-Some-clause-found c =
     let at = rw (c.deref.ensures.value, c.deref-2.ensures.value) at c.in-Some.ensures.found in
-    sym (found_row _ _ c.args.ticket _ _ _ c.self.invariant.fits.indexed at c.remove-in-Some.ensures.value) ∙ ap (λ (s : List Asked). ask_at c.args.ticket s) c.self.view_is
+    sym (found_row _ _ c.args.ticket _ _ _ c.self.invariant.fits.indexed at c.remove-taken.ensures.value) ∙ ap (λ (s : List Asked). ask_at c.args.ticket s) c.self.view_is
 
 pub returns-in-None : goal.returns-in-None
 returns-in-None c =

@@ -4,6 +4,7 @@ use Rattle.read_model.specs.declared.asked.Asked.{Asked}
 use Rattle.read_model.specs.PlainRead.{in_stage}
 use Rattle.known_asks.specs.Asks.{one_changed}
 use Rattle.known_asks.proofs.Tickets.{asks, fits-one_changed, its_change, no_change}
+use Rattle.known_asks.proofs.Moves.{marked-set, mark_stands}
 use Rattle.known_asks.proofs.Since.{all_lower, since-set}
 use Rattle.known_asks.proofs.asks.Asks.set_stage.Goals as goal
 
@@ -11,6 +12,7 @@ pub invariant_of-self : goal.invariant_of-self
 invariant_of-self c =
     let at = rw (c.deref.ensures.value, c.deref-2.ensures.value) at c.in-Some.ensures.found in
     record {
+      marked = rw (c.set_row-self-inside.ensures.marks, c.set_row-self-inside.ensures.row) (marked-set c.self.inside.rows.items c.self.inside.marks c.in-Some.row c.index_mut.result.now (in_stage c.args.stage) (λ a. refl) c.self.invariant.marked c.self.invariant.fits.indexed.rows_rise at.rows_bound c.index_mut.ensures.value);
       fits = rw c.set_row-self-inside.ensures.row (fits-one_changed _ _ _ c.args.ticket _ _ (in_stage c.args.stage) c.index_mut.result.now (λ a. refl) c.self.invariant.fits at c.index_mut.ensures.value);
       since = since-set c.set_row-self-inside.result c.self.inside.rows.items c.in-Some.row c.set_row-self-inside.new.row.0 c.set_row-self-inside.new.row.1 (all_lower c.set_row-self-inside.result c.self.inside.oldest (asks c.self.inside.rows.items) c.set_row-self-inside.ensures.all c.self.invariant.since) c.set_row-self-inside.ensures.it;
     }
@@ -19,6 +21,11 @@ pub returns-in-Some : goal.returns-in-Some
 returns-in-Some c =
     let at = rw (c.deref.ensures.value, c.deref-2.ensures.value) at c.in-Some.ensures.found in
     rw c.set_row-self-inside.ensures.row (its_change _ _ c.args.ticket _ _ (in_stage c.args.stage) c.index_mut.result.now c.self.invariant.fits.indexed at c.index_mut.ensures.value ∙ ap (λ (s : List Asked). one_changed c.args.ticket (in_stage c.args.stage) s) c.self.view_is)
+
+pub set_row-self-inside-requires : goal.set_row-self-inside-requires
+set_row-self-inside-requires c =
+    let at = rw (c.deref.ensures.value, c.deref-2.ensures.value) at c.in-Some.ensures.found in
+    mark_stands c.self.inside.rows.items c.self.inside.marks c.in-Some.row c.index_mut.result.now c.self.invariant.marked c.self.invariant.fits.indexed.rows_rise at.rows_bound c.index_mut.ensures.value
 
 pub returns-in_default : goal.returns-in_default
 returns-in_default c =

@@ -8,7 +8,7 @@ use Rattle.revoke_core.proofs.LossParts.{forgotten-parts, proper-without, waits_
 use Rattle.revoke_core.proofs.waits.Waits.forget.Goals as goal
 
 pub invariant_of-self : goal.invariant_of-self
-invariant_of-self c = rw c.forget_write.ensures.writes (proper-without (has_ticket c.args.ticket) c.self.inside.writes.items c.self.invariant)
+invariant_of-self c = record { proper = rw c.forget_write.ensures.writes (proper-without (has_ticket c.args.ticket) c.self.inside.writes.items c.self.invariant.proper); left = tt }
 
 pub returns-clause-waits : goal.returns-clause-waits
 returns-clause-waits c =

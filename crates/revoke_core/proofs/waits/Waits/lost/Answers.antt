@@ -8,7 +8,7 @@ use Rattle.revoke_core.proofs.LossParts.{lost-parts, proper-lost, waits_same}
 use Rattle.revoke_core.proofs.waits.Waits.lost.Goals as goal
 
 pub invariant_of-self : goal.invariant_of-self
-invariant_of-self c = rw c.lose_job.ensures.writes (proper-lost c.args.call c.take_job-job.result c.self.inside.writes.items c.self.invariant)
+invariant_of-self c = record { proper = rw c.lose_job.ensures.writes (proper-lost c.args.call c.take_job-job.result c.self.inside.writes.items c.self.invariant.proper); left = tt }
 
 pub returns-clause-waits : goal.returns-clause-waits
 returns-clause-waits c =

@@ -8,7 +8,10 @@ use Rattle.revoke_core.proofs.waits.Waits.notice.Goals as goal
 
 pub invariant_of-self : goal.invariant_of-self
 invariant_of-self c =
-    rw c.take_all.ensures.writes (told_proper c.args.session c.in_ok-notices.notices.items (record { entries = c.reserve.new.self.entries; spoiled = c.self.inside.spoiled; writes = c.self.inside.writes.items }) c.self.invariant)
+    record {
+      proper = rw c.take_all.ensures.writes (told_proper c.args.session c.in_ok-notices.notices.items (record { entries = c.reserve.new.self.entries; spoiled = c.self.inside.spoiled; writes = c.self.inside.writes.items }) c.self.invariant.proper);
+      left = tt;
+    }
 
 pub returns-clause-waits : goal.returns-clause-waits
 returns-clause-waits c =

@@ -1,0 +1,45 @@
+-- The mark that a request is found by: what it waits for, since which step or by which call, and its ticket. A request that is due
+-- comes behind those that aren't, the one that is due longest first.
+use Rattle.std.specs.Prelude.{ℕ, List, [], ◌∷◌, Some, None}
+use Rattle.proxy_model.specs.Keyed.{Keyed, with_at}
+use Rattle.wait_model.specs.declared.sending.Sending.{Sending}
+use Rattle.wait_model.specs.declared.sending.Sending.TheVariants as sending
+use Rattle.read_model.specs.declared.asked.Asked.{Asked}
+use Rattle.read_model.specs.declared.asked.Stage.{Stage}
+use Rattle.read_model.specs.declared.asked.Stage.TheVariants as stage
+
+abbrev pub call_rank : Sending → ℕ
+call_rank (sending.Out call) = 5
+call_rank (sending.Due since) = 6
+
+abbrev pub group_rank : Sending → ℕ
+group_rank (sending.Out call) = 3
+group_rank (sending.Due since) = 6
+
+-- reads that wait at a key, writes, keepalives that wait for the next call or for one that is out, replies, calls that are out, what is due
+abbrev pub stage_rank : Stage → ℕ
+stage_rank (stage.Calling s) = call_rank s
+stage_rank stage.Acquiring = 0
+stage_rank stage.Joined = 0
+stage_rank stage.Behind = 0
+stage_rank stage.Writes = 1
+stage_rank (stage.Grouped None) = 2
+stage_rank (stage.Grouped (Some s)) = group_rank s
+stage_rank (stage.Replied v) = 4
+
+abbrev pub sending_number : Sending → ℕ
+sending_number (sending.Out call) = call
+sending_number (sending.Due since) = since
+
+-- the call that is out, or the step since which one is due
+abbrev pub stage_number : Stage → ℕ
+stage_number (stage.Calling s) = sending_number s
+stage_number (stage.Grouped (Some s)) = sending_number s
+stage_number _ = 0
+
+abbrev pub mark_of : Asked → List ℕ
+mark_of a = stage_rank a.stage ∷ stage_number a.stage ∷ a.ticket ∷ []
+
+-- the number of a request, by its mark, where the request is another one now
+abbrev pub moved : Asked → Asked → ℕ → Keyed ℕ → Keyed ℕ
+moved old new number marks = with_at (with_at marks (mark_of old) None) (mark_of new) (Some number)

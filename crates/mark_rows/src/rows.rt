@@ -1,0 +1,88 @@
+ghost use Rattle.std.specs.Prelude.{◌≡◌, [], None, Some, IsTrue, OnOk, OnErr};
+ghost use Rattle.proxy_model.specs.Keyed.{at, with_at, is_in_order};
+ghost use Rattle.mark_rows.specs.From.{rows_from};
+
+use crate::mark::Mark;
+use crate::places::place;
+use etcd_types::NoMemory;
+use std::alloc::Global;
+use std::cmp::Ordering;
+use std::marker::Model;
+
+/// A number for each of some marks.
+#[derive(Debug, Drop)]
+pub struct MarkRows {
+    rows: Vec<(Mark, u64)>,
+}
+
+impl Model for MarkRows {
+    ghost use Rattle.std.specs.Prelude.{ℕ, IsTrue};
+    ghost use Rattle.proxy_model.specs.Keyed.{Keyed, is_in_order};
+
+    ghost Value = { Keyed ℕ };
+
+    ghost view = { λ r. r.rows.items };
+
+    ghost invariant = { λ r. IsTrue (is_in_order r.rows.items) };
+}
+
+impl MarkRows {
+    /// No rows. It takes no memory.
+    pub fn new(alloc: Global) -> MarkRows
+        ensures { result ≡ [] }
+    {
+        MarkRows {
+            rows: Vec::new(alloc),
+        }
+    }
+
+    /// Those at this mark and behind it, in the order of their marks.
+    pub fn from(&self, mark: &Mark) -> &[(Mark, u64)]
+        ensures all { result.now ≡ rows_from mark.now self.now }
+        ensures in_order { IsTrue (is_in_order self.now) }
+    {
+        match place(&self.rows, mark) {
+            Ok(at) => &self.rows[at..],
+            Err(at) => &self.rows[at..],
+        }
+    }
+
+    /// The number stands at the mark, in place of another one. Where memory was wanting all is as before.
+    pub fn put(&mut self, mark: Mark, number: u64) -> Result<(), NoMemory>
+        ensures ok { OnOk result (self.new ≡ with_at self.old mark (Some number)) }
+        ensures err { OnErr result (self.new ≡ self.old) }
+    {
+        match place(&self.rows, &mark) {
+            Ok(at) => self.rows[at].1 = number,
+            Err(gap) => self.rows.insert(gap, (mark, number))?,
+        }
+        Ok(())
+    }
+
+    /// Nothing stands at the mark any more. It takes no memory.
+    pub fn remove(&mut self, mark: &Mark)
+        ensures { self.new ≡ with_at self.old mark.now None }
+    {
+        if let Ok(at) = place(&self.rows, mark) {
+            drop(self.rows.remove(at));
+        }
+    }
+
+    /// The number that stands at the mark stands at the other one. It takes no memory.
+    pub fn turn(&mut self, mark: &Mark, other: Mark, number: u64)
+        requires { at self.old mark.now ≡ Some number }
+        ensures { self.new ≡ with_at (with_at self.old mark.now None) other (Some number) }
+    {
+        let Ok(at) = place(&self.rows, mark) else {
+            unreachable!()
+        };
+        if mark.compare(&other) == Ordering::Equal {
+            return;
+        }
+        drop(self.rows.remove(at));
+        match place(&self.rows, &other) {
+            Ok(at) => self.rows[at].1 = number,
+            Err(gap) => self.rows.insert(gap, (other, number)).unwrap(),
+        }
+    }
+}
