@@ -18,9 +18,9 @@ use Rattle.world_model.specs.Sends.{next_call, next_stream}
 use Rattle.etcd_types.specs.declared.request.Request.TheVariants as request
 use Rattle.world_model.specs.State.{Place, World}
 use Rattle.world_laws.proofs.Effects.{Turn, ticks, asks_it, posts_it, calls, opens, closes, answers, loses, delivers, cuts, takes, waits, leaves, Begins, Effect, starts, sets, refuses_post, executes, expires, applies, pushes, turns}
-use Rattle.received_laws.proofs.Items.{IsSilent, silent-append, reply_silent, replies_silent}
-use Rattle.received_laws.proofs.Lines.{start_silent, started_life}
-use Rattle.received_laws.proofs.Worlds.{equal, silent_all, take_silent, take_takes, take_lives}
+use Rattle.held_laws.proofs.Items.{IsSilent, silent-append, reply_silent, replies_silent}
+use Rattle.held_laws.proofs.Lines.{start_silent, started_life}
+use Rattle.held_laws.proofs.Worlds.{equal, silent_all, take_silent, take_takes, take_lives}
 
 pub record TakesOne (w : World) (q : ℕ) (gained : List Item) : Type 0 where
   pub ticket : ℕ
@@ -31,8 +31,13 @@ pub record TakesOne (w : World) (q : ℕ) (gained : List Item) : Type 0 where
   pub taken : (t : ℕ) → taken_for q t gained ≡ cond (t == ticket) (message ∷ []) []
   pub lives : (items : List Item) → life q (items ++ gained) ≡ life q items ++ gained
 
+pub record Starts (q : ℕ) (gained : List Item) : Type 0 where
+  pub start : Item
+  pub alone : gained ≡ start ∷ []
+  pub anew : (items : List Item) → life q (items ++ gained) ≡ []
+
 abbrev pub Changes : World → ℕ → List Item → Type 0
-Changes w q gained = IsSilent q gained ⊎ (((items : List Item) → life q (items ++ gained) ≡ []) ⊎ TakesOne w q gained)
+Changes w q gained = IsSilent q gained ⊎ (Starts q gained ⊎ TakesOne w q gained)
 
 plain : (w : World) (q : ℕ) (gained : List Item) → IsSilent q gained → Changes w q gained
 plain w q gained h = inl h
@@ -44,7 +49,7 @@ start_changes : (w : World) (p clock life' : ℕ) (i : Item) (q : ℕ) → Begin
 start_changes w p clock life' i q b = by (q == p) refl
   where
     by : (c : Bool) → (q == p) ≡ c → Changes w q (i ∷ [])
-    by true e = inr (inl (λ items. ap (λ (n : ℕ). life n (items ++ i ∷ [])) (equal q p e) ∙ started_life items p clock life' w i b))
+    by true e = inr (inl (record { start = i; alone = refl; anew = λ items. ap (λ (n : ℕ). life n (items ++ i ∷ [])) (equal q p e) ∙ started_life items p clock life' w i b }))
     by false e = inl (start_silent p clock life' w i q e b).0
 
 take_changes : (w : World) (p : ℕ) (x : Place) (ticket : ℕ) (i : WatchItem) (posted posted' : BTreeSet ℕ) (got : Replies) (q : ℕ) → place_at w p ≡ Some x → (stepped x.core (event.Take ticket) x.clock).outcome ≡ Ok (outcome.Item i)

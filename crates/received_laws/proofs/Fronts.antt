@@ -11,7 +11,7 @@ use Rattle.watch_model.specs.Joining.{watched_range}
 use Rattle.watch_model.specs.Story.{rises, changes}
 use Rattle.watch_laws.proofs.Histories.{story_rises}
 use Rattle.world_model.specs.Received.{is_from, history_events, TellsFront}
-use Rattle.received_laws.specs.Laws.{is_below}
+use Rattle.held_laws.specs.Laws.{is_below}
 
 abbrev pub IsRising : ℕ → List Event → Type 0
 IsRising from [] = Unit {0}

@@ -1,56 +1,11 @@
--- What holds of the watches of every script, of any number of proxies. Scripts have fewer than 2^60 lines: revisions are numbers of 64 bits
--- at the proxies, and a line makes one at most.
-use Rattle.std.specs.Prelude.{◌≡◌, ℕ, ◌==◌, ◌<◌, ◌^◌, Bool, false, nat_lt, List, ◌++◌, length, map, filter, Some, Ok}
-use Rattle.etcd_types.specs.declared.request.Request.TheVariants as request
-use Rattle.etcd_types.specs.declared.request.WatchAsk.{WatchAsk}
-use Rattle.etcd_types.specs.declared.watch.Event.{Event}
-use Rattle.script_text.specs.declared.item.Item.{Item}
+-- The third part of the headline, of every script and any number of proxies. Scripts have fewer than 2^60 lines: revisions are numbers of
+-- 64 bits at the proxies, and a line makes one at most.
+use Rattle.std.specs.Prelude.{◌<◌, ◌^◌, List, length}
 use Rattle.script_text.specs.declared.line.Line.{Line}
-use Rattle.store_model.specs.Events.{event_revision}
-use Rattle.watch_model.specs.Lookups.{watch_at, own_next}
-use Rattle.watch_model.specs.Queues.{queued_events}
-use Rattle.watch_model.specs.State.{Watch}
-use Rattle.world_model.specs.Answers.{seen}
-use Rattle.world_model.specs.Lives.{life, namespace_of, asked_as}
-use Rattle.world_model.specs.Places.{place_at}
-use Rattle.world_model.specs.Received.{taken_for, history_events, stored_change, TellsFront}
-use Rattle.world_model.specs.State.{Place, World}
-use Rattle.world_model.specs.Transcript.{transcript, world_behind}
+use Rattle.world_model.specs.Received.{WatchesReceive}
+use Rattle.world_model.specs.Transcript.{transcript}
 
-abbrev pub is_below : ℕ → Event → Bool
-is_below next e = nat_lt (event_revision e) next
-
--- Of a watch that a proxy knows: what was taken of it in this life of the proxy, followed by what stands in its queue, are all events that
--- the history has for it from its start to below its next, each once and in order, with the records before that it asked for.
-pub record HoldsNothingBack (items : List Item) (w : World) (p ticket next : ℕ) (v : Watch) : Type 0 where
-  pub ask : WatchAsk
-  pub asked : asked_as p ticket (life p items) ≡ Some (request.Watch ask)
-  -- where a start was asked for, that is its start
-  pub start : (ask.start == 0) ≡ false → v.start ≡ ask.start
-  pub records :
-      TellsFront items ask w.namespace (queued_events (taken_for p ticket (life p items)) ++ queued_events v.queue)
-      (filter (is_below next) (history_events w.store.history w.namespace ask v.start))
-  -- and there are no more of them
-  pub all :
-      map (λ e. stored_change w.namespace e.change) (queued_events (taken_for p ticket (life p items)) ++ queued_events v.queue)
-      ≡ map (λ e. e.change) (filter (is_below next) (history_events w.store.history w.namespace ask v.start))
-
-abbrev pub WatchesHoldNothingBack : Type 0
-WatchesHoldNothingBack =
-    (lines : List Line) (w : World) (p : ℕ) (x : Place) (ticket : ℕ) (v : Watch) → length lines < 2 ^ 60 → world_behind lines ≡ Ok (Some w)
-    → place_at w p ≡ Some x → watch_at ticket x.core.watches.watches ≡ Some v
-    → HoldsNothingBack (transcript lines) w p ticket (own_next x.core.watches.streams v) v
-
--- Of any watch that was asked in this life of a proxy, also of one that has left or was cancelled: the events that were taken of it are a
--- front of those that the history has for it from a start, each once and in order, with the records before that it asked for.
-pub record HasReceivedFront (items : List Item) (ask : WatchAsk) (got : List Event) : Type 0 where
-  pub start : ℕ
-  -- the start that was asked for, if one was
-  pub asked_start : (ask.start == 0) ≡ false → start ≡ ask.start
-  pub front : TellsFront items ask (namespace_of items) got (history_events (seen items).store.history (namespace_of items) ask start)
-
--- of every script, also of one with a line that can't be taken; so too behind each of its lines, as its first lines are a script
-abbrev pub WatchesReceiveFronts : Type 0
-WatchesReceiveFronts =
-    (lines : List Line) (p ticket : ℕ) (ask : WatchAsk) → length lines < 2 ^ 60 → asked_as p ticket (life p (transcript lines)) ≡ Some (request.Watch ask)
-    → HasReceivedFront (transcript lines) ask (queued_events (taken_for p ticket (life p (transcript lines))))
+-- Of every script, also of one with a line that can't be taken, at each step of it, for each watch that was asked in the life that its
+-- proxy then has, also for one that has left or was cancelled.
+abbrev pub EachScriptsWatchesReceive : Type 0
+EachScriptsWatchesReceive = (lines : List Line) → length lines < 2 ^ 60 → WatchesReceive (transcript lines)

@@ -11,37 +11,34 @@ use Rattle.replay_model.specs.Endings.{is_open}
 use Rattle.replay_model.specs.Progress.{Progress, finished, progress, passes_limit}
 use Rattle.replay_model.specs.Script.{begun_line}
 use Rattle.replay_model.specs.Transcript.{transcript_text}
+use Rattle.world_model.specs.Received.{WatchesReceive}
 use Rattle.world_model.specs.Transcript.{transcript}
 use Rattle.replay_model.specs.declared.ending.Ending.{Ending}
 use Rattle.replay_model.specs.declared.ending.Ending.TheVariants as ending
 use Rattle.replay_model.specs.declared.limits.TheConstants.{MOST_BYTES, MOST_LINES}
-use Rattle.received_laws.proofs.Receiving.{receives_fronts}
+use Rattle.received_laws.proofs.Receiving.{receives}
 use Rattle.script_text.specs.declared.line.Line.{Line}
 use Rattle.replay_model.proofs.FewLines.{progress_few, finished_few}
 use Rattle.replay_model.proofs.Growing.{is_open-true, finished_grows, finished_stays, finished_passed, refused_adds_nothing}
 use Rattle.replay_model.proofs.Transcripts.{progress_has, finished_has, items_are}
 use Rattle.world_laws.proofs.TrueAnswers.{answers_are_the_stores, messages_are_the_stores}
 use Rattle.replay_input.specs.Replay.{Follows, HasRefused, Writes, Feeds, Fed, Moves, Breaks, Finishes, taken_of, text_of, text_so_far}
-use Rattle.replay_input.specs.Replays.{EachWatchReceives, IsTrueTranscript, NoneIsRefused, IsWhole, Replays, Refuses, Interrupts, BreaksOff, Stops, Has, most_at_once}
+use Rattle.replay_input.specs.Replays.{IsTrueTranscript, NoneIsRefused, IsWhole, Replays, Refuses, Interrupts, BreaksOff, Stops, Has, most_at_once}
 use Rattle.replay_input.specs.declared.replay.Replay.{Replay}
 use Rattle.replay_input.specs.declared.stop.Stop.{Stop}
 use Rattle.replay_input.specs.declared.stop.Stop.TheVariants as stop
 use Rattle.replay_input.proofs.Feeding.{kept_follows}
 
 -- far fewer lines are taken than would pass the numbers of revisions
-front_few : (lines first rest : List Line) → lines ≡ first ++ rest → length lines ≤ MOST_LINES → length first < 2 ^ 60
-front_few lines first rest split few =
-    let parts : length lines ≡ length first + length rest = ap length split ∙ length-append first rest in omega arith
-
-each_receives : (lines : List Line) → length lines ≤ MOST_LINES → EachWatchReceives lines
-each_receives lines few first rest p ticket ask split asked = receives_fronts first p ticket ask (front_few lines first rest split few) asked
+few_lines : (lines : List Line) → length lines ≤ MOST_LINES → length lines < 2 ^ 60
+few_lines lines few = omega (arith, few)
 
 is_true : (p : Progress) → p.items ≡ transcript p.lines → length p.lines ≤ MOST_LINES → IsTrueTranscript p
 is_true p is few = record {
   items = is;
   answers = subst AnswersAreTheStores (sym is) (answers_are_the_stores p.lines);
   messages = subst MessagesAreTheStores (sym is) (messages_are_the_stores p.lines);
-  watches = each_receives p.lines few;
+  watches = subst WatchesReceive (sym is) (receives p.lines (few_lines p.lines few));
 }
 
 -- what the lines of a script gain is a true transcript, whether a last line without line feed counts or not

@@ -2,18 +2,12 @@
 use Rattle.std.specs.Prelude.{◌≡◌, ◌≤◌, ◌⊎◌, ℕ, List, [], ◌++◌, length, Option, None, Some, Result, Ok, Err}
 use Rattle.std.specs.Io.KnownBytes.{Appends, Consumes, IsAtEnd}
 use Rattle.replay_model.specs.Progress.{Progress, finished, progress}
-use Rattle.etcd_types.specs.declared.request.Request.TheVariants as request
-use Rattle.etcd_types.specs.declared.request.WatchAsk.{WatchAsk}
-use Rattle.script_text.specs.declared.line.Line.{Line}
-use Rattle.watch_model.specs.Queues.{queued_events}
 use Rattle.world_model.specs.Answers.{AnswersAreTheStores, MessagesAreTheStores}
-use Rattle.world_model.specs.Lives.{life, asked_as}
-use Rattle.world_model.specs.Received.{taken_for}
+use Rattle.world_model.specs.Received.{WatchesReceive}
 use Rattle.world_model.specs.Transcript.{transcript}
 use Rattle.replay_model.specs.declared.ending.Ending.{Ending}
 use Rattle.replay_model.specs.declared.ending.Ending.TheVariants.{Open, Refused}
 use Rattle.outside.specs.Streams.{WritesFront}
-use Rattle.received_laws.specs.Laws.{HasReceivedFront}
 use Rattle.replay_input.specs.Replay.{Follows, BeginsWithin, Writes, text_of, text_so_far}
 use Rattle.replay_input.specs.declared.replay.Replay.{Replay}
 use Rattle.replay_input.specs.declared.stop.Stop.{Stop}
@@ -23,22 +17,14 @@ use Rattle.replay_input.specs.declared.stop.Stop.TheVariants as stop
 abbrev pub most_at_once : ℕ
 most_at_once = 65536
 
--- Behind any of the lines, of each watch that was asked in the life that a proxy then has: the events that were taken of it are a front
--- of those that the history has for it from the start that it asked for, if it asked for one, each once and in order, with the records
--- before that it asked for.
-abbrev pub EachWatchReceives : List Line → Type 0
-EachWatchReceives lines =
-    (first rest : List Line) (p ticket : ℕ) (ask : WatchAsk)
-    → lines ≡ first ++ rest → asked_as p ticket (life p (transcript first)) ≡ Some (request.Watch ask)
-    → HasReceivedFront (transcript first) ask (queued_events (taken_for p ticket (life p (transcript first))))
-
--- The items are the transcript of the lines taken. Each of its answers is the store's, and so is each message of a stream; and each watch
--- receives a front of the history's events.
+-- The items are the transcript of the lines taken. Each of its answers is the store's, and so is each message of a stream; and at each
+-- step each watch has received, each once and in order, a front of the history's events that it asked for from its start, then possibly
+-- a cancellation naming the compaction.
 pub record IsTrueTranscript (p : Progress) : Type 0 where
   pub items : p.items ≡ transcript p.lines
   pub answers : AnswersAreTheStores p.items
   pub messages : MessagesAreTheStores p.items
-  pub watches : EachWatchReceives p.lines
+  pub watches : WatchesReceive p.items
 
 -- the script was read to its end, none of its lines is refused, and its transcript is written
 pub record ReadsAll (left left' written written' : Option (List ℕ)) : Type 0 where

@@ -39,7 +39,7 @@ use Rattle.core_model.specs.LeasingStream.{item_header}
 use Rattle.core_model.specs.State.{Core}
 use Rattle.core_model.specs.Watching.{stream_job, with_watches}
 use Rattle.idle_laws.proofs.Touches.{Side, with_step, numbered_anew, is_plain, IsAmong, told_unwrapped, told_stream, Touch, leaves, hears, ticks, joins, heard_leasing, broke_leasing, cut_leasing, told, cut, took, left_it, opens_leasing, sends}
-use Rattle.received_laws.proofs.StreamSteps.{Stays, told_stays, cut_stays, taken_stays, removed_stays, joined_stays, sent_stays, told_grows, cuts_grow, joined_grows, taken_grows, removed_grows, sent_grows}
+use Rattle.held_laws.proofs.StreamSteps.{Stays, told_stays, cut_stays, taken_stays, removed_stays, joined_stays, sent_stays, told_grows, cuts_grow, joined_grows, taken_grows, removed_grows, sent_grows}
 
 -- the leasing stream has a number that was given, and to no client stream
 abbrev pub IsApart : Option ℕ → Broadcasts → Type 0

@@ -31,13 +31,14 @@ use Rattle.world_model.specs.Lives.{life, asked_as}
 use Rattle.world_model.specs.Places.{is_among, with_number, with_core}
 use Rattle.world_model.specs.Received.{taken_for}
 use Rattle.world_model.specs.State.{Place}
-use Rattle.received_laws.proofs.Pushes.{Whole}
-use Rattle.received_laws.proofs.Firm.{Firm, NewHas, touch_firm}
-use Rattle.received_laws.proofs.Holding.{SideOk, stepped_ok, received_by, IsTold, IsNew, touch_ok, watch_itself}
-use Rattle.received_laws.proofs.Items.{IsSilent, IsUnasking, life_still, taken_still, taken-append, queued-append, asked_still, asked_same, asked-append, or_later}
-use Rattle.received_laws.proofs.Kept.{among_new, among_still, not_among}
-use Rattle.received_laws.proofs.Stories.{Strips, story_by, story_by_rises}
-use Rattle.received_laws.proofs.Told.{HasTold, IsBatchTold, IsUntaken, taken_more, taken_by as taken_after, touch_told}
+use Rattle.held_laws.proofs.Pushes.{Whole}
+use Rattle.held_laws.proofs.Firm.{Firm, NewHas, touch_firm}
+use Rattle.held_laws.proofs.Holding.{SideOk, stepped_ok, received_by, IsTold, IsNew, touch_ok, watch_itself}
+use Rattle.held_laws.proofs.Items.{IsSilent, IsUnasking, life_still, taken_still, taken-append, queued-append, asked_still, asked_same, asked-append, or_later}
+use Rattle.held_laws.proofs.Kept.{among_new, among_still, not_among}
+use Rattle.held_laws.proofs.Stories.{Strips, story_by, story_by_rises}
+use Rattle.held_laws.proofs.Told.{HasTold, IsBatchTold, IsUntaken, taken_more, taken_by as taken_after, touch_told}
+use Rattle.held_laws.proofs.Writing.{IsSaid, MessagesOk, stepped_messages, touch_messages}
 use Rattle.idle_laws.proofs.Touches.{Side, side, with_step, Aged, aged_itself, aged_on, fetch_ages, step_touches, Touch, leaves, took}
 
 -- what the takers of a proxy have, by what was told of its life
@@ -50,7 +51,7 @@ taken_of p items ticket = taken_for p ticket (life p items)
 
 -- what a step is told by a message: all changes, and the events with the records before
 abbrev pub Truth : List ℕ → (Change → Option Change) → Whole → Side → CoreEvent → Type 0
-Truth namespace f whole a e = IsTold (story_by f namespace whole) namespace a e × IsBatchTold whole namespace a e
+Truth namespace f whole a e = IsTold (story_by f namespace whole) namespace a e × IsBatchTold whole namespace a e × IsSaid whole namespace a e
 
 -- a watch was asked in this life, and is as it was asked; where a start was asked for, that is its start
 pub record Known (p : ℕ) (told : List Item) (tickets : BTreeSet ℕ) (w : Watch) : Type 0 where
@@ -68,6 +69,7 @@ pub record PlaceOk (namespace : List ℕ) (whole : Whole) (f : Change → Option
   pub unasked : (ticket : ℕ) → is_among x.tickets ticket ≡ false → asked_as p ticket (life p items) ≡ None
   pub watches : EachWatch (Known p (life p items) x.tickets) x.core.watches.watches
   pub told : EachWatch (HasTold whole namespace (taken_of p items)) x.core.watches.watches
+  pub messages : MessagesOk (story_by f namespace whole) whole (taken_of p items) x.core.watches
 
 -- ---- watches that are known
 
@@ -107,6 +109,7 @@ later_ok namespace whole f items more p x s u h = record {
   unasked = λ t e. asked_same p t items more s u ∙ h.unasked t e;
   watches = subst (λ (l : List Item). EachWatch (Known p l x.tickets) x.core.watches.watches) (sym (life_still p items more s)) (known_later p (life p items) more x.tickets x.tickets (λ t e. e) x.core.watches.watches h.watches);
   told = subst (λ (g : ℕ → List WatchItem). EachWatch (HasTold whole namespace g) x.core.watches.watches) (same_taken p items more s) h.told;
+  messages = subst (λ (g : ℕ → List WatchItem). MessagesOk (story_by f namespace whole) whole g x.core.watches) (same_taken p items more s) h.messages;
 }
 
 -- ---- a step of the proxy
@@ -186,6 +189,9 @@ all_so x got = fetched_so (length x.core.asks) x got
 watches_same : (a b : Side) → Aged a b → b.broadcasts.watches ≡ a.broadcasts.watches
 watches_same a b h = ap (λ (x : Side). x.broadcasts.watches) h.1
 
+aged_messages : (story : Story) (whole : Whole) (got : ℕ → List WatchItem) (a b : Side) → Aged a b → MessagesOk story whole got a.broadcasts → MessagesOk story whole got b.broadcasts
+aged_messages story whole got a b h k = subst (λ (x : Side). MessagesOk story whole got x.broadcasts) (sym h.1) (stepped_messages story whole got a.broadcasts (with_step a.broadcasts h.0) refl refl k)
+
 -- Of a step of the core `c` that left `d`, where `x` was the place, `y` stood behind it, and `z` once the replies were fetched.
 pub record Turned (namespace : List ℕ) (x : Place) (d : Core) (y z : Place) (e : CoreEvent) (o : Outcome) : Type 0 where
   pub stepping : Stepping namespace x.core d e o
@@ -203,17 +209,21 @@ turned_ok : (namespace : List ℕ) (f : Change → Option Change) → Strips nam
     → PlaceOk namespace whole f items p x → Turned namespace x d y z e o → Truth namespace f whole (counted_side x.core) e → IsNew (got_of p items) e
     → received_by (got_of p items) e (Ok o) ≡ got_of p after → EachWatch (Known p told tickets) x.core.watches.watches → NewHas (Known p told tickets) e → IsUntaken (taken_of p items) e → taken_after (taken_of p items) e (Ok o) ≡ taken_of p after
     → SideOk (story_by f namespace whole) (got_of p after) (side z.core) × EachWatch (Known p told tickets) z.core.watches.watches × EachWatch (HasTold whole namespace (taken_of p after)) z.core.watches.watches
+    × MessagesOk (story_by f namespace whole) whole (taken_of p after) z.core.watches
 turned_ok namespace f k whole items after p x d y z e o told tickets h t truth is_new got known new untaken taken =
     let story = story_by f namespace whole in
     let aged = turned_aged namespace x d y z e o t in
     let stands = touch_ok story (got_of p items) namespace (counted_side x.core) (side d) e (Ok o) (story_by_rises namespace f k whole) truth.0 is_new (stepped_ok story (got_of p items) (side x.core) x.core.steps h.holds) t.stepping.touch in
     let watches = touch_firm (Known p told tickets) (known_firm p told tickets) namespace (counted_side x.core) (side d) e (Ok o) new t.stepping.touch known in
     let begun = stepped_ok story (got_of p items) (side x.core) x.core.steps h.holds in
-    let records = touch_told whole namespace (taken_of p items) story (got_of p items) (counted_side x.core) (side d) e (Ok o) truth.1 untaken begun.holds t.stepping.touch h.told in (
+    let records = touch_told whole namespace (taken_of p items) story (got_of p items) (counted_side x.core) (side d) e (Ok o) truth.1 untaken begun.holds t.stepping.touch h.told in
+    let counted = stepped_messages story whole (taken_of p items) x.core.watches (counted_side x.core).broadcasts refl refl h.messages in
+    let messages = touch_messages story whole namespace (taken_of p items) (counted_side x.core) (side d) e (Ok o) (story_by_rises namespace f k whole) truth.0 truth.2 untaken begun.holds t.stepping.touch counted in (
       aged_side story (got_of p after) (side d) (side z.core) aged (subst (λ (g : Received). SideOk story g (side d)) got stands),
       subst (EachWatch (Known p told tickets)) (sym (watches_same (side d) (side z.core) aged)) watches,
       subst (λ (g : ℕ → List WatchItem). EachWatch (HasTold whole namespace g) z.core.watches.watches) taken
           (subst (EachWatch (HasTold whole namespace (taken_after (taken_of p items) e (Ok o)))) (sym (watches_same (side d) (side z.core) aged)) records),
+      subst (λ (g : ℕ → List WatchItem). MessagesOk story whole g z.core.watches) taken (aged_messages story whole (taken_after (taken_of p items) e (Ok o)) (side d) (side z.core) aged messages),
     )
 
 -- an event that asks nothing, and by which nothing is taken
@@ -288,6 +298,7 @@ quiet_turn namespace f k whole items more p x d y z e o q n s u tickets told h t
       unasked = λ t e. asked_same p t items more s u ∙ h.unasked t (ap (λ (n : BTreeSet ℕ). is_among n t) (sym same) ∙ e);
       watches = subst (λ (l : List Item). EachWatch (Known p l z.tickets) z.core.watches.watches) (sym (life_still p items more s)) (subst (λ (n : BTreeSet ℕ). EachWatch (Known p (life p items ++ more) n) z.core.watches.watches) (sym same) both.1);
       told = both.2;
+      messages = both.3;
     }
 
 -- ---- a request is asked
@@ -323,7 +334,7 @@ asked_turn namespace f k whole items more p x d y z ticket q word o free plain s
       same = refl;
       start = λ e. (refl, e);
     } in
-    let both = turned_ok namespace f k whole items (items ++ more) p x d y z (event.Ask ticket q word) o told after h t (tt, tt) (ap queued_events (h.untaken ticket free))
+    let both = turned_ok namespace f k whole items (items ++ more) p x d y z (event.Ask ticket q word) o told after h t (tt, tt, tt) (ap queued_events (h.untaken ticket free))
     (unmoved o plain ∙ same_got p items more s) (known_later p (life p items) more x.tickets after (λ t e. among_still x.tickets ticket t e) x.core.watches.watches h.watches) new
     (h.untaken ticket free) (quiet_taken (taken_of p items) (event.Ask ticket q word) o plain ∙ same_taken p items more s) in
     record {
@@ -335,6 +346,7 @@ asked_turn namespace f k whole items more p x d y z ticket q word o free plain s
           ap (asked_as p t) (life_still p items more s) ∙ asked-append p t (life p items) more ∙ ap (λ o. or_later o (asked_as p t more)) (h.unasked t (not_among x.tickets ticket t out)) ∙ asks.only t (other t out);
       watches = subst (λ (l : List Item). EachWatch (Known p l z.tickets) z.core.watches.watches) (sym (life_still p items more s)) (subst (λ (n : BTreeSet ℕ). EachWatch (Known p told n) z.core.watches.watches) (sym same) both.1);
       told = both.2;
+      messages = both.3;
     }
   where
     unmoved : (o : Outcome) → ((i : WatchItem) → o ≡ outcome.Item i → ⊥) → received_by (got_of p items) (event.Ask ticket q word) (Ok o) ≡ got_of p items
@@ -362,7 +374,7 @@ pub taken_turn : (namespace : List ℕ) (f : Change → Option Change) → Strip
 taken_turn namespace f k whole items more p x d y z ticket i lives takes u among tickets h t =
     let same : z.tickets ≡ x.tickets = t.fetched.tickets ∙ tickets in
     let live : life p (items ++ more) ≡ life p items ++ more = lives [] in
-    let both = turned_ok namespace f k whole items (items ++ more) p x d y z (event.Take ticket) (outcome.Item i) (life p items ++ more) x.tickets h t (tt, tt) tt
+    let both = turned_ok namespace f k whole items (items ++ more) p x d y z (event.Take ticket) (outcome.Item i) (life p items ++ more) x.tickets h t (tt, tt, tt) tt
     (λ j n. sym (got n) j) (known_later p (life p items) more x.tickets x.tickets (λ t e. e) x.core.watches.watches h.watches) tt tt
     (λ j n. sym (more_taken n) j) in
     record {
@@ -375,6 +387,7 @@ taken_turn namespace f k whole items more p x d y z ticket i lives takes u among
           ap (asked_as p n) live ∙ asked-append p n (life p items) more ∙ ap (λ o. or_later o (asked_as p n more)) (h.unasked n (ap (λ (m : BTreeSet ℕ). is_among m n) (sym same) ∙ e)) ∙ u n;
       watches = subst (λ (l : List Item). EachWatch (Known p l z.tickets) z.core.watches.watches) (sym live) (subst (λ (n : BTreeSet ℕ). EachWatch (Known p (life p items ++ more) n) z.core.watches.watches) (sym same) both.1);
       told = both.2;
+      messages = both.3;
     }
   where
     all : (n : ℕ) → taken_for p n (life p (items ++ more)) ≡ taken_for p n (life p items) ++ cond (n == ticket) (i ∷ []) []

@@ -37,10 +37,10 @@ use Rattle.core_model.specs.State.{Core}
 use Rattle.core_model.specs.Watching.{stream_job, with_watches}
 use Rattle.watch_model.specs.declared.stream.StreamJob.{StreamJob}
 use Rattle.watch_model.specs.declared.stream.StreamJob.TheVariants as stream
-use Rattle.received_laws.proofs.Firm.{sent_firm}
-use Rattle.received_laws.proofs.Holding.{ticket_of, watch_itself}
-use Rattle.received_laws.proofs.Pushes.{Whole}
-use Rattle.received_laws.proofs.Records.{TellsEach, in_span, given_tells, chosen_span}
+use Rattle.held_laws.proofs.Firm.{sent_firm}
+use Rattle.held_laws.proofs.Holding.{ticket_of, watch_itself}
+use Rattle.held_laws.proofs.Pushes.{Whole}
+use Rattle.held_laws.proofs.Records.{TellsEach, in_span, given_tells, chosen_span}
 use Rattle.idle_laws.proofs.Touches.{Side, is_plain, told_unwrapped, told_stream, Touch, leaves, hears, ticks, joins, heard_leasing, broke_leasing, cut_leasing, told, cut, took, left_it, opens_leasing, sends}
 
 -- what an item tells a watch that was asked for so
@@ -127,7 +127,7 @@ progressed_told whole namespace got next h w k =
       | false ↦ k
     ]
 
-both : (P Q : Watch → Type 0) (ws : List Watch) → EachWatch P ws → EachWatch Q ws → EachWatch (λ w. P w × Q w) ws
+pub both : (P Q : Watch → Type 0) (ws : List Watch) → EachWatch P ws → EachWatch Q ws → EachWatch (λ w. P w × Q w) ws
 both P Q [] p q = tt
 both P Q (w ∷ ws) p q = ((p.0, q.0), both P Q ws p.1 q.1)
 
@@ -247,7 +247,7 @@ abbrev pub IsUntaken : (ℕ → List WatchItem) → CoreEvent → Type 0
 IsUntaken got (event.Ask ticket q word) = got ticket ≡ []
 IsUntaken got _ = Unit {0}
 
-plain_taken : (got : ℕ → List WatchItem) (e : CoreEvent) (o : Result Outcome StepFault) → is_plain e o ≡ true → taken_by got e o ≡ got
+pub plain_taken : (got : ℕ → List WatchItem) (e : CoreEvent) (o : Result Outcome StepFault) → is_plain e o ≡ true → taken_by got e o ≡ got
 plain_taken got e (Ok (outcome.Item i)) p = absurd (cc)
 plain_taken got e (Ok (outcome.Replied a)) p = refl
 plain_taken got e (Ok outcome.Waiting) p = refl
@@ -256,7 +256,7 @@ plain_taken got e (Ok (outcome.Job j)) p = refl
 plain_taken got e (Ok outcome.Noted) p = refl
 plain_taken got e (Err f) p = refl
 
-job_taken : (got : ℕ → List WatchItem) (o : Option StreamJob) (c : Core) → taken_by got event.Work (stream_job o c).outcome ≡ got
+pub job_taken : (got : ℕ → List WatchItem) (o : Option StreamJob) (c : Core) → taken_by got event.Work (stream_job o c).outcome ≡ got
 job_taken got None c = refl
 job_taken got (Some (stream.Close number)) c = refl
 job_taken got (Some (stream.Open number range start)) c = refl

@@ -26,16 +26,16 @@ use Rattle.world_model.specs.Places.{nth, with_nth, kept_at, place_at, ended, is
 use Rattle.world_model.specs.Received.{taken_by, taken_for}
 use Rattle.world_model.specs.Sends.{closed_in}
 use Rattle.world_model.specs.State.{Place, OpenedStream, World, Numbered}
-use Rattle.received_laws.proofs.Pushes.{Whole}
-use Rattle.received_laws.proofs.Holding.{IsApart}
-use Rattle.received_laws.proofs.Items.{IsSilent, IsUnasking, silent-append, unasking-append, replies_silent, replies_unasking, line_silent, line_unasking, life-append, taken-append, or_later, asked-append}
-use Rattle.received_laws.proofs.Kept.{kept_itself, kept_other, nth_itself, nth_other}
-use Rattle.received_laws.proofs.Links.{StreamOk, restored}
-use Rattle.received_laws.proofs.Places.{Truth, PlaceOk, later_ok, counted_side, Stepping, stepping, IsFetched, all_so, Turned, is_ask, NoItem, quiet_turn, Asking, asked_turn, taken_turn, taken_among}
-use Rattle.received_laws.proofs.Stories.{Strips, IsShort}
-use Rattle.received_laws.proofs.Streams.{aged_ok, touch_streams, delivered_itself, delivered_others, delivered_tells, delivered_batch, cut_itself, cut_others}
+use Rattle.held_laws.proofs.Pushes.{Whole}
+use Rattle.held_laws.proofs.Holding.{IsApart}
+use Rattle.held_laws.proofs.Items.{IsSilent, IsUnasking, silent-append, unasking-append, replies_silent, replies_unasking, line_silent, line_unasking, life-append, taken-append, or_later, asked-append}
+use Rattle.held_laws.proofs.Kept.{kept_itself, kept_other, nth_itself, nth_other}
+use Rattle.held_laws.proofs.Links.{StreamOk, restored}
+use Rattle.held_laws.proofs.Places.{Truth, PlaceOk, later_ok, counted_side, Stepping, stepping, IsFetched, all_so, Turned, is_ask, NoItem, quiet_turn, Asking, asked_turn, taken_turn, taken_among}
+use Rattle.held_laws.proofs.Stories.{Strips, IsShort}
+use Rattle.held_laws.proofs.Streams.{aged_ok, touch_streams, delivered_itself, delivered_others, delivered_tells, delivered_batch, delivered_said, cut_itself, cut_others}
 use Rattle.idle_laws.proofs.Touches.{Side, side, with_step, Aged, is_other}
-use Rattle.received_laws.proofs.NoItem.{is_take, no_item}
+use Rattle.held_laws.proofs.NoItem.{is_take, no_item}
 
 -- of a stream: its proxy stands, and where it wasn't started since, they fit
 pub record StreamKnown (namespace : List ℕ) (whole : Whole) (w : World) (number : ℕ) (s : OpenedStream) : Type 0 where
@@ -393,8 +393,11 @@ deliver_world namespace whole f items w p x number s i rest o c there proxy live
     let k = place_ok namespace whole f items w p x e o c in
     let mine : StreamOk namespace whole w.store number s (counted_side x.core) x.streams = counted_ok namespace whole w.store number s x.core x.streams old in
     let st = step_of namespace whole f items w p x e o c in
-    change_world namespace whole f items w p x e o number s (record s { waiting = rest }) (item.Delivered number ∷ []) c refl
-    (delivered_tells namespace f c.strips whole w.store number s i rest (counted_side x.core) x.streams c.short live waiting mine, delivered_batch namespace whole w.store number s i rest (counted_side x.core) x.streams live waiting mine)
+    change_world namespace whole f items w p x e o number s (record s { waiting = rest }) (item.Delivered number ∷ []) c refl (
+      delivered_tells namespace f c.strips whole w.store number s i rest (counted_side x.core) x.streams c.short live waiting mine,
+      delivered_batch namespace whole w.store number s i rest (counted_side x.core) x.streams live waiting mine,
+      delivered_said namespace whole w.store number s i rest (counted_side x.core) x.streams c.short live waiting mine,
+    )
     (gives_none namespace whole f items w p x e o refl c) there refl refl (λ q. (record { takes = λ t. refl; lives = λ l. refl }, λ t. refl))
     (λ a n d h. absurd (not_equal s.proxy p d proxy))
     (λ n a l h. delivered_itself namespace f c.strips whole w.store number s i rest (counted_side x.core) (side (behind x e)) n s.own o c.short refl live waiting (apart_counted x.core k.holds.apart) st.touch h)
@@ -416,7 +419,7 @@ pub cut_world : (namespace : List ℕ) (whole : Whole) (f : Change → Option Ch
 cut_world namespace whole f items w p x number s o c there proxy =
     let e = event.Cut s.own in
     let st = step_of namespace whole f items w p x e o c in
-    change_world namespace whole f items w p x e o number s (ended s) (item.Cut number ∷ []) c refl (tt, tt)
+    change_world namespace whole f items w p x e o number s (ended s) (item.Cut number ∷ []) c refl (tt, tt, tt)
     (gives_none namespace whole f items w p x e o refl c) there refl refl (λ q. (record { takes = λ t. refl; lives = λ l. refl }, λ t. refl))
     (λ a n d h. ended_ok namespace whole w.store number s a n h)
     (λ n a l h. cut_itself namespace whole w.store number s (counted_side x.core) (side (behind x e)) n s.own o refl (apart_counted x.core (place_ok namespace whole f items w p x e o c).holds.apart) st.touch h)
@@ -427,11 +430,11 @@ pub close_world : (namespace : List ℕ) (whole : Whole) (f : Change → Option 
     → let y = with_core x (behind x event.Work) in let z = (all_fetched y []).place in
     WorldOk namespace whole f (items ++ ((item.Closed p number ∷ []) ++ flat_map (reply_items p z.posted) (all_fetched y []).replies)) (with_place (closed_in w number q) p z)
 close_world namespace whole f items w p x own number None there c =
-    quiet_world namespace whole f items w w p x event.Work _ (with_core x (behind x event.Work)) (item.Closed p number ∷ []) [] c refl refl (tt, tt) (gives_none namespace whole f items w p x event.Work _ refl c)
+    quiet_world namespace whole f items w w p x event.Work _ (with_core x (behind x event.Work)) (item.Closed p number ∷ []) [] c refl refl (tt, tt, tt) (gives_none namespace whole f items w p x event.Work _ refl c)
     refl refl refl refl refl refl refl refl (λ q. (record { takes = λ t. refl; lives = λ l. refl }, λ t. refl))
 close_world namespace whole f items w p x own number (Some s) there c =
     let o = outcome.Job (Some (job.Close own)) in
-    change_world namespace whole f items w p x event.Work o number s (ended s) (item.Closed p number ∷ []) c refl (tt, tt)
+    change_world namespace whole f items w p x event.Work o number s (ended s) (item.Closed p number ∷ []) c refl (tt, tt, tt)
     (gives_none namespace whole f items w p x event.Work o refl c) there refl refl (λ q. (record { takes = λ t. refl; lives = λ l. refl }, λ t. refl))
     (λ a n d h. ended_ok namespace whole w.store number s a n h)
     (λ n a l h. ended_ok namespace whole w.store number s (side (behind x event.Work)) n (worked number s n h))

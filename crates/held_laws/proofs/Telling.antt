@@ -14,8 +14,8 @@ use Rattle.store_model.specs.History.{History}
 use Rattle.watch_model.specs.Joining.{watched_range}
 use Rattle.watch_model.specs.Story.{between, changes, wanted, story_of}
 use Rattle.world_model.specs.Received.{is_from, history_events, stored_record, stored_change}
-use Rattle.received_laws.proofs.Pushes.{Whole}
-use Rattle.received_laws.proofs.Stories.{Strips, story_by, picked-between}
+use Rattle.held_laws.proofs.Pushes.{Whole}
+use Rattle.held_laws.proofs.Stories.{Strips, story_by, picked-between}
 
 -- ---- two ways to see a change without the namespace: another one is left out, or stands as it is
 

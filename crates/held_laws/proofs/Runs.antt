@@ -23,15 +23,15 @@ use Rattle.world_model.specs.declared.fault.LineRefusal.{LineRefusal}
 use Rattle.world_model.specs.Places.{nth}
 use Rattle.world_model.specs.State.{World, starting_world}
 use Rattle.world_model.specs.Transcript.{done, Taken, counted_as, taken, items_and_then, transcript_from, transcript, and_then, world_from, world_behind}
-use Rattle.received_laws.proofs.Pushes.{Whole}
+use Rattle.held_laws.proofs.Pushes.{Whole}
 use Rattle.world_laws.proofs.Effects.{Turn, ticks, asks_it, posts_it, calls, opens, closes, answers, loses, delivers, cuts, takes, waits, leaves, Effect, starts, sets, refuses_post, executes, expires, applies, pushes, turns, effect}
-use Rattle.received_laws.proofs.Growing.{Grows, message_leaves, effect_grows}
-use Rattle.received_laws.proofs.Lines.{effect_world, begun_world}
-use Rattle.received_laws.proofs.Seen.{SeenOk, effect_seen}
+use Rattle.held_laws.proofs.Growing.{Grows, message_leaves, effect_grows}
+use Rattle.held_laws.proofs.Lines.{effect_world, begun_world}
+use Rattle.held_laws.proofs.Seen.{SeenOk, effect_seen}
 use Rattle.world_laws.proofs.Quiet.{saw_all-append}
 use Rattle.world_model.specs.Answers.{Seen, unseen, saw_all, seen}
-use Rattle.received_laws.proofs.Stories.{Strips, IsShort}
-use Rattle.received_laws.proofs.Worlds.{WorldOk}
+use Rattle.held_laws.proofs.Stories.{Strips, IsShort}
+use Rattle.held_laws.proofs.Worlds.{WorldOk}
 
 -- ---- the history grows by one revision at most
 
@@ -157,7 +157,7 @@ pub record Kept (namespace : List ℕ) (whole : Whole) (f : Change → Option Ch
   pub ok : WorldOk namespace whole f items w
   pub told : SeenOk (seen items) w
 
-seen-append : (items more : List Item) → saw_all (seen items) more ≡ seen (items ++ more)
+pub seen-append : (items more : List Item) → saw_all (seen items) more ≡ seen (items ++ more)
 seen-append items more = sym (saw_all-append unseen items more)
 
 -- by one line

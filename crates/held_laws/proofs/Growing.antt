@@ -78,11 +78,11 @@ message_leaves s t i number e = record {
   many = message_many s t i number e;
 }
 
-closed_store : (w : World) (number : ℕ) (o : Option OpenedStream) → (closed_in w number o).store ≡ w.store
+pub closed_store : (w : World) (number : ℕ) (o : Option OpenedStream) → (closed_in w number o).store ≡ w.store
 closed_store w number None = refl
 closed_store w number (Some s) = refl
 
-turn_grows : (w : World) (p : ℕ) (x : Place) (e : CoreEvent) (o : Outcome) (v : World) (y : Place) (own : List Item) (told : Replies) → Turn w p x e o v y own told → Grows w.store v.store
+pub turn_grows : (w : World) (p : ℕ) (x : Place) (e : CoreEvent) (o : Outcome) (v : World) (y : Place) (own : List Item) (told : Replies) → Turn w p x e o v y own told → Grows w.store v.store
 turn_grows w p x _ _ _ _ _ _ (ticks o) = same_grows w.store
 turn_grows w p x _ _ _ _ _ _ (asks_it ticket q o n) = same_grows w.store
 turn_grows w p x _ _ _ _ _ _ (posts_it ticket path body q o n) = same_grows w.store

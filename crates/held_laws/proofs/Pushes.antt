@@ -37,7 +37,7 @@ pub data Says (whole : Whole) (ask : WatchAsk) : ℕ → WatchItem → ℕ → T
       → Says whole ask n (item.Events h (e ∷ es)) (next_after n (e ∷ es))
   reaches : (h : Header) (n compacted : ℕ) (now more : History) → whole.history ≡ now ++ more → (n == 0) ≡ false → watch_events now compacted ask n ≡ [] → h.revision ≡ newest now
       → Says whole ask n (item.Events h []) (max n (newest now + 1))
-  ends : (h : Header) (n compacted : ℕ) → n < compacted → WasTold whole.items (item.Canceled h compacted) compacted → Says whole ask n (item.Canceled h compacted) n
+  ends : (h : Header) (n compacted : ℕ) → (n == 0) ≡ false → n < compacted → WasTold whole.items (item.Canceled h compacted) compacted → Says whole ask n (item.Canceled h compacted) n
 
 -- one message after the other
 abbrev pub SaysAll : Whole → WatchAsk → ℕ → List WatchItem → ℕ → Type 0
@@ -101,7 +101,7 @@ push_says whole s more number w e at =
       says = subst (λ (n : ℕ). Says whole w.ask n (item.Created (watch_header s w)) (first_next (newest s.history) w.ask.start)) (sym (zero_is w.next z)) (begins (watch_header s w) s.history more e refl);
     })
     (λ z. either_so (SaidOf whole number w s.compacted) (nat_lt w.next s.compacted) _ _
-    (λ b told. record { next = w.next; watch = at; says = ends (watch_header s w) w.next s.compacted (less_is w.next s.compacted b) told })
+    (λ b told. record { next = w.next; watch = at; says = ends (watch_header s w) w.next s.compacted z (less_is w.next s.compacted b) told })
     (λ b. events_say whole s more number w (events_for s w) e at z refl))
 
 three : (a b c : Bool) → (not a && not b && c) ≡ true → (a ≡ false) × (c ≡ true)

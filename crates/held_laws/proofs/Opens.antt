@@ -21,12 +21,12 @@ use Rattle.core_model.specs.Watching.{stream_job, with_watches}
 use Rattle.world_model.specs.Places.{kept_at, with_kept, nth}
 use Rattle.world_model.specs.State.{Numbered, OpenedStream}
 use Rattle.etcd_types.specs.declared.watch.WatchItem.{WatchItem}
-use Rattle.received_laws.proofs.Pushes.{Whole, SaysAll}
-use Rattle.received_laws.proofs.Kept.{kept_itself, kept_other}
-use Rattle.received_laws.proofs.Holding.{IsApart}
-use Rattle.received_laws.proofs.Links.{waits, Linked, StreamOk}
-use Rattle.received_laws.proofs.Stories.{PassesAll}
-use Rattle.received_laws.proofs.Streams.{nothing_there, apart_none, found_is}
+use Rattle.held_laws.proofs.Pushes.{Whole, SaysAll}
+use Rattle.held_laws.proofs.Kept.{kept_itself, kept_other}
+use Rattle.held_laws.proofs.Holding.{IsApart}
+use Rattle.held_laws.proofs.Links.{waits, Linked, StreamOk}
+use Rattle.held_laws.proofs.Stories.{PassesAll}
+use Rattle.held_laws.proofs.Streams.{nothing_there, apart_none, found_is}
 use Rattle.idle_laws.proofs.Touches.{Side, is_plain, Touch, leaves, opens_leasing, sends}
 use Rattle.watch_model.specs.Lookups.{numbered}
 

@@ -32,21 +32,21 @@ use Rattle.world_model.specs.Starts.{new_place}
 use Rattle.world_model.specs.State.{Place, OpenedStream, World, Numbered, starting_world}
 use Rattle.world_model.specs.Streams.{with_message}
 use Rattle.world_laws.proofs.Effects.{Turn, ticks, asks_it, posts_it, calls, opens, closes, answers, loses, delivers, cuts, takes, waits, leaves, Begins, first, again, IsPushed, Effect, starts, sets, refuses_post, executes, expires, applies, pushes, turns}
-use Rattle.received_laws.proofs.Growing.{Leaves, exec_leaves, expired_leaves, applied_leaves, message_leaves}
-use Rattle.received_laws.proofs.Holding.{IsApart}
-use Rattle.received_laws.proofs.Items.{IsSilent, IsUnasking, silent-append, unasking-append, reply_silent, reply_unasking, life-append}
-use Rattle.received_laws.proofs.Kept.{not_among, among_still}
-use Rattle.received_laws.proofs.Links.{StreamOk, restored, pushed_link}
-use Rattle.received_laws.proofs.Opens.{nth_push, opened_there, Opens, opens_so, opened_itself, opened_others}
-use Rattle.received_laws.proofs.Places.{Known, PlaceOk, later_ok, counted_side, all_so, Turned, quiet_turn}
-use Rattle.received_laws.proofs.Pushes.{Whole, WasTold, push_said}
-use Rattle.received_laws.proofs.Seen.{SeenOk}
+use Rattle.held_laws.proofs.Growing.{Leaves, exec_leaves, expired_leaves, applied_leaves, message_leaves}
+use Rattle.held_laws.proofs.Holding.{IsApart}
+use Rattle.held_laws.proofs.Items.{IsSilent, IsUnasking, silent-append, unasking-append, reply_silent, reply_unasking, life-append}
+use Rattle.held_laws.proofs.Kept.{not_among, among_still}
+use Rattle.held_laws.proofs.Links.{StreamOk, restored, pushed_link}
+use Rattle.held_laws.proofs.Opens.{nth_push, opened_there, Opens, opens_so, opened_itself, opened_others}
+use Rattle.held_laws.proofs.Places.{Known, PlaceOk, later_ok, counted_side, all_so, Turned, quiet_turn}
+use Rattle.held_laws.proofs.Pushes.{Whole, WasTold, push_said}
+use Rattle.held_laws.proofs.Seen.{SeenOk}
 use Rattle.world_model.specs.Answers.{seen}
-use Rattle.received_laws.proofs.Stories.{Strips, IsShort}
-use Rattle.received_laws.proofs.StreamSteps.{sent_grows}
+use Rattle.held_laws.proofs.Stories.{Strips, IsShort}
+use Rattle.held_laws.proofs.StreamSteps.{sent_grows}
 use Rattle.idle_laws.proofs.Touches.{Side, side, with_step, Aged, is_plain, Touch, opens_leasing, sends}
 use Rattle.idle_laws.proofs.Touches as touch
-use Rattle.received_laws.proofs.Worlds.{StreamKnown, WorldOk, places_after, placed_itself, placed_other, known_after, Turning, behind, place_ok, step_of, gives_none, silent_all, unasking_all, others_quiet, fetched_stream, counted_ok, touched_stream, apart_counted, quiet_world, ask_world, asked_unasking, asked_asks, posted_asks, take_world, nth_changed, deliver_world, cut_world, close_world, equal, not_equal, no_place, set_many}
+use Rattle.held_laws.proofs.Worlds.{StreamKnown, WorldOk, places_after, placed_itself, placed_other, known_after, Turning, behind, place_ok, step_of, gives_none, silent_all, unasking_all, others_quiet, fetched_stream, counted_ok, touched_stream, apart_counted, quiet_world, ask_world, asked_unasking, asked_asks, posted_asks, take_world, nth_changed, deliver_world, cut_world, close_world, equal, not_equal, no_place, set_many}
 
 -- ---- a stream is opened
 
@@ -135,7 +135,7 @@ open_world namespace whole f items w p x own member ask c =
             })
       ];
       places = places_after namespace whole f items more w v p z refl (λ n d. others_quiet p own_items z.posted replies (λ n d. quiet n) n d) c.ok
-          (quiet_turn namespace f c.strips whole items more p x (behind x e) y z e o refl (gives_none namespace whole f items w p x e o refl c) (silent_all p p own_items z.posted replies (quiet p).0) (unasking_all p p own_items z.posted replies (quiet p).1) refl (tt, tt) k turned);
+          (quiet_turn namespace f c.strips whole items more p x (behind x e) y z e o refl (gives_none namespace whole f items w p x e o refl c) (silent_all p p own_items z.posted replies (quiet p).0) (unasking_all p p own_items z.posted replies (quiet p).1) refl (tt, tt, tt) k turned);
     }
 
 -- ---- all turns
@@ -147,26 +147,26 @@ turn_world : (namespace : List ℕ) (whole : Whole) (f : Change → Option Chang
     → Turning namespace whole f items w p x e o → Turn w p (with_core x (behind x e)) e o v y own told
     → WorldOk namespace whole f (items ++ (own ++ flat_map (reply_items p (all_fetched y told).place.posted) (all_fetched y told).replies)) (with_place v p (all_fetched y told).place)
 turn_world namespace whole f items w p x _ _ _ _ _ _ c (ticks o) =
-    quiet_world namespace whole f items w w p x _ o _ (item.Ticked p ∷ []) [] c refl refl (tt, tt) (gives_none namespace whole f items w p x _ o refl c) refl refl refl refl refl refl refl refl (λ q. (record { takes = λ t. refl; lives = λ l. refl }, λ t. refl))
+    quiet_world namespace whole f items w w p x _ o _ (item.Ticked p ∷ []) [] c refl refl (tt, tt, tt) (gives_none namespace whole f items w p x _ o refl c) refl refl refl refl refl refl refl refl (λ q. (record { takes = λ t. refl; lives = λ l. refl }, λ t. refl))
 turn_world namespace whole f items w p x _ _ _ _ _ _ c (asks_it ticket q o n) =
     ask_world namespace whole f items w p x ticket q _ o _ _ _ c n refl refl refl refl (λ n. record { takes = λ t. refl; lives = λ l. refl }) (asked_unasking p ticket q) (asked_asks p ticket q)
 turn_world namespace whole f items w p x _ _ _ _ _ _ c (posts_it ticket path body q o n) =
     ask_world namespace whole f items w p x ticket q _ o _ _ _ c n refl refl refl refl (λ n. record { takes = λ t. refl; lives = λ l. append_two l (item.Posted p ticket path body) (item.Asked p ticket q) }) (λ n d t. asked_unasking p ticket q n d t) (posted_asks p ticket path body q)
 turn_world namespace whole f items w p x _ _ _ _ _ _ c (calls own member ticket q) =
-    quiet_world namespace whole f items w _ p x _ _ _ (item.Sent p (next_call w) member ticket q ∷ []) [] c refl refl (tt, tt) (gives_none namespace whole f items w p x _ _ refl c) refl refl refl refl refl refl refl refl (λ q. (record { takes = λ t. refl; lives = λ l. refl }, λ t. refl))
+    quiet_world namespace whole f items w _ p x _ _ _ (item.Sent p (next_call w) member ticket q ∷ []) [] c refl refl (tt, tt, tt) (gives_none namespace whole f items w p x _ _ refl c) refl refl refl refl refl refl refl refl (λ q. (record { takes = λ t. refl; lives = λ l. refl }, λ t. refl))
 turn_world namespace whole f items w p x _ _ _ _ _ _ c (opens own member ask) = open_world namespace whole f items w p x own member ask c
 turn_world namespace whole f items w p x _ _ _ _ _ _ c (closes own number e) = close_world namespace whole f items w p x own number (nth w.streams number) refl c
 turn_world namespace whole f items w p x _ _ _ _ _ _ c (answers number call a o e g) =
-    quiet_world namespace whole f items w _ p x _ o _ (item.Answered number ∷ []) [] c refl refl (tt, tt) (gives_none namespace whole f items w p x _ o refl c) refl refl refl refl refl refl refl refl (λ q. (record { takes = λ t. refl; lives = λ l. refl }, λ t. refl))
+    quiet_world namespace whole f items w _ p x _ o _ (item.Answered number ∷ []) [] c refl refl (tt, tt, tt) (gives_none namespace whole f items w p x _ o refl c) refl refl refl refl refl refl refl refl (λ q. (record { takes = λ t. refl; lives = λ l. refl }, λ t. refl))
 turn_world namespace whole f items w p x _ _ _ _ _ _ c (loses number call o e) =
-    quiet_world namespace whole f items w _ p x _ o _ (item.Lost number ∷ []) [] c refl refl (tt, tt) (gives_none namespace whole f items w p x _ o refl c) refl refl refl refl refl refl refl refl (λ q. (record { takes = λ t. refl; lives = λ l. refl }, λ t. refl))
+    quiet_world namespace whole f items w _ p x _ o _ (item.Lost number ∷ []) [] c refl refl (tt, tt, tt) (gives_none namespace whole f items w p x _ o refl c) refl refl refl refl refl refl refl refl (λ q. (record { takes = λ t. refl; lives = λ l. refl }, λ t. refl))
 turn_world namespace whole f items w p x _ _ _ _ _ _ c (delivers number s i rest o e g h k l) = deliver_world namespace whole f items w p x number s i rest o c e g h k l
 turn_world namespace whole f items w p x _ _ _ _ _ _ c (cuts number s o e g h k) = cut_world namespace whole f items w p x number s o c e g
 turn_world namespace whole f items w p x _ _ _ _ _ _ c (takes ticket i) = take_world namespace whole f items w p x ticket i _ _ [] c refl refl refl refl
 turn_world namespace whole f items w p x _ _ _ _ _ _ c (waits ticket o n) =
-    quiet_world namespace whole f items w w p x _ o _ (item.Pending p ticket ∷ []) [] c refl refl (tt, tt) n refl refl refl refl refl refl refl refl (λ q. (record { takes = λ t. refl; lives = λ l. refl }, λ t. refl))
+    quiet_world namespace whole f items w w p x _ o _ (item.Pending p ticket ∷ []) [] c refl refl (tt, tt, tt) n refl refl refl refl refl refl refl refl (λ q. (record { takes = λ t. refl; lives = λ l. refl }, λ t. refl))
 turn_world namespace whole f items w p x _ _ _ _ _ _ c (leaves ticket o) =
-    quiet_world namespace whole f items w w p x _ o _ (item.Left p ticket ∷ []) [] c refl refl (tt, tt) (gives_none namespace whole f items w p x _ o refl c) refl refl refl refl refl refl refl refl (λ q. (record { takes = λ t. refl; lives = λ l. refl }, λ t. refl))
+    quiet_world namespace whole f items w w p x _ o _ (item.Left p ticket ∷ []) [] c refl refl (tt, tt, tt) (gives_none namespace whole f items w p x _ o refl c) refl refl refl refl refl refl refl refl (λ q. (record { takes = λ t. refl; lives = λ l. refl }, λ t. refl))
 
 -- ---- starts
 
@@ -192,6 +192,7 @@ new_ok namespace whole f items w p clock life' n e = record {
   unasked = λ t q. ap (asked_as p t) e;
   watches = tt;
   told = tt;
+  messages = record { members = tt; known = tt; watches = tt };
 }
 
 -- streams of another proxy, where this one is started for the first time
@@ -231,7 +232,7 @@ set_world namespace whole f items w p millis x h at =
       many = h.many;
       streams = λ number s g. known_after namespace whole w w p x z number s s at (omega arith) refl refl refl (h.streams number s g).watched (λ a n d o. o) (λ there l o le. o l) (h.streams number s g);
       places = places_after namespace whole f items (item.Clock p millis ∷ []) w w p z refl (λ q n. quiet q) h
-          (record { holds = k.holds; namespace_is = k.namespace_is; untaken = k.untaken; unasked = k.unasked; watches = k.watches; told = k.told });
+          (record { holds = k.holds; namespace_is = k.namespace_is; untaken = k.untaken; unasked = k.unasked; watches = k.watches; told = k.told; messages = k.messages });
     }
 
 refuse_world : (namespace : List ℕ) (whole : Whole) (f : Change → Option Change) (items : List Item) (w : World) (p ticket : ℕ) (path body : List ℕ) (a : Answer) (x : Place) → WorldOk namespace whole f items w → place_at w p ≡ Some x
@@ -257,6 +258,7 @@ refuse_world namespace whole f items w p ticket path body a x h at =
         watches = each_along (Known p (life p (items ++ more)) x.tickets) (Known p (life p (items ++ more)) z.tickets)
             (λ v m. record { among = among_still x.tickets ticket v.ticket m.among; ask = m.ask; asked = m.asked; same = m.same; start = m.start }) x.core.watches.watches k.watches;
         told = k.told;
+        messages = k.messages;
       });
     }
 

@@ -16,23 +16,23 @@ use Rattle.world_model.specs.Places.{place_at}
 use Rattle.world_model.specs.Received.{is_from, history_events, stored_change, TellsFront}
 use Rattle.world_model.specs.State.{Place, World}
 use Rattle.world_model.specs.Transcript.{transcript, world_behind}
-use Rattle.received_laws.specs.Laws.{is_below, HoldsNothingBack}
-use Rattle.received_laws.proofs.Holding.{watch_itself}
-use Rattle.received_laws.proofs.Places.{got_of, taken_of, Known, PlaceOk}
-use Rattle.received_laws.proofs.Pushes.{Whole}
+use Rattle.held_laws.specs.Laws.{is_below, HoldsNothingBack}
+use Rattle.held_laws.proofs.Holding.{watch_itself}
+use Rattle.held_laws.proofs.Places.{got_of, taken_of, Known, PlaceOk}
+use Rattle.held_laws.proofs.Pushes.{Whole}
 use Rattle.script_text.specs.declared.item.Item.{Item}
 use Rattle.etcd_types.specs.declared.request.Request.TheVariants as request
-use Rattle.received_laws.proofs.Counting.{all_tell, tells_front}
-use Rattle.received_laws.proofs.Items.{queued-append}
-use Rattle.received_laws.proofs.Records.{in_span}
-use Rattle.received_laws.proofs.Told.{HasTold, told-append}
+use Rattle.held_laws.proofs.Counting.{all_tell, tells_front}
+use Rattle.held_laws.proofs.Items.{queued-append}
+use Rattle.held_laws.proofs.Records.{in_span}
+use Rattle.held_laws.proofs.Told.{HasTold, told-append}
 use Rattle.store_model.specs.Events.{events_after, passes, change_passes}
 use Rattle.store_model.specs.History.{History}
-use Rattle.received_laws.proofs.Runs.{whole_of, behind_script}
-use Rattle.received_laws.proofs.Stories.{story_by}
-use Rattle.received_laws.proofs.Telling.{in_turn, own_only, own_or_whole, own_strips, whole_strips, told_is, history_changes}
+use Rattle.held_laws.proofs.Runs.{whole_of, behind_script}
+use Rattle.held_laws.proofs.Stories.{story_by}
+use Rattle.held_laws.proofs.Telling.{in_turn, own_only, own_or_whole, own_strips, whole_strips, told_is, history_changes}
 
-each_stored : (namespace : List ℕ) (es : List Event) → map (λ e. stored_change namespace e.change) es ≡ map (stored_change namespace) (changes es)
+pub each_stored : (namespace : List ℕ) (es : List Event) → map (λ e. stored_change namespace e.change) es ≡ map (stored_change namespace) (changes es)
 each_stored namespace [] = refl
 each_stored namespace (e ∷ es) = ap (λ (l : List Change). stored_change namespace e.change ∷ l) (each_stored namespace es)
 
@@ -55,6 +55,7 @@ span_changes ask start next es = changes_filter (change_passes ask) (filter (in_
 pub record AllKnown (items : List Item) (whole : Whole) (namespace : List ℕ) (p ticket next : ℕ) (v : Watch) : Type 0 where
   pub ask : WatchAsk
   pub asked : asked_as p ticket (life p items) ≡ Some (request.Watch ask)
+  pub same : v.ask ≡ record ask { range = watched_range ask.range }
   pub start : (ask.start == 0) ≡ false → v.start ≡ ask.start
   pub records :
       TellsFront whole.items ask namespace (queued_events (taken_of p items ticket) ++ queued_events v.queue)
@@ -85,6 +86,7 @@ all_known namespace whole items p x ticket v one two there =
     record {
       ask = known.ask;
       asked = ap (λ (t : ℕ). asked_as p t (life p items)) (sym ticket_is) ∙ known.asked;
+      same = known.same;
       start = λ z. (known.start z).0;
       records =
           subst (λ (es : List Event). TellsFront whole.items known.ask namespace (queued_events (taken_of p items ticket) ++ queued_events v.queue) es)

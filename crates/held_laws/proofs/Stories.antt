@@ -20,7 +20,7 @@ use Rattle.watch_model.specs.State.{Stream}
 use Rattle.watch_model.specs.Story.{Story, between, rises, changes, Rising, Tells, story_of}
 use Rattle.watch_laws.specs.Calls.{TellsMessage}
 use Rattle.watch_laws.proofs.Histories.{story_rises, pushed_is, tells_of_push}
-use Rattle.received_laws.proofs.Pushes.{Whole, Says, tells, reaches}
+use Rattle.held_laws.proofs.Pushes.{Whole, Says, tells, reaches}
 
 -- a change without the namespace, where it has it; of another one there may be any change of that revision, or none
 pub record Strips (namespace : List ℕ) (f : Change → Option Change) : Type 0 where

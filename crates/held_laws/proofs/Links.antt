@@ -24,14 +24,14 @@ use Rattle.watch_laws.specs.Calls.{TellsMessage}
 use Rattle.world_model.specs.Places.{kept_at}
 use Rattle.world_model.specs.State.{Numbered, OpenedStream}
 use Rattle.idle_laws.proofs.Touches.{Side}
-use Rattle.received_laws.proofs.StreamSteps.{Stays, AfterEvents, AfterMessage}
-use Rattle.received_laws.proofs.Pushes.{Whole, Says, begins, tells, reaches, SaysAll, says-push}
-use Rattle.received_laws.proofs.Stories.{Strips, story_by, PassesAll, IsShort, Unwraps, unwraps, batch_fits, newest_front, next_is_last, message_told}
+use Rattle.held_laws.proofs.StreamSteps.{Stays, AfterEvents, AfterMessage}
+use Rattle.held_laws.proofs.Pushes.{Whole, Says, begins, tells, reaches, SaysAll, says-push}
+use Rattle.held_laws.proofs.Stories.{Strips, story_by, PassesAll, IsShort, Unwraps, unwraps, batch_fits, newest_front, next_is_last, message_told}
 
--- how a stream of the proxy stands to the next of what comes: it waits to be created; or it is there; or it can't be told anything
+-- how a stream of the proxy stands to the next of what comes: it waits to be created; or it is there, and stands created; or it can't be told anything
 pub data Stands (next start : ℕ) (t : Stream) : Type 0 where
   waits : next ≡ 0 → start ≡ t.stream.next → Stands next start t
-  goes : (next == 0) ≡ false → next ≡ t.stream.next → Stands next start t
+  goes : (next == 0) ≡ false → next ≡ t.stream.next → t.stream.created ≡ true → Stands next start t
   never : t.stream.next ≡ 0 → t.stream.created ≡ true → Stands next start t
 
 -- the store's watch is the one of this stream, and its undelivered messages go on from the stream's next
@@ -156,11 +156,11 @@ created_stands whole start ask _ _ _ t u short same (begins h now more w r) (wai
     by true q fits next =
         let s : (ask.start == 0) ≡ true = ap (λ (n : ℕ). n == 0) (sym same ∙ e) ∙ q in
         let m : first_next (newest now) ask.start ≡ newest now + 1 = ap (λ b. cond b (newest now + 1) ask.start) s in
-        goes (ap (λ (n : ℕ). n == 0) m ∙ not_zero (newest now)) (m ∙ sym fits ∙ sym (next ∙ ap (λ b. cond b (capped (h.revision + 1)) t.stream.next) q))
+        goes (ap (λ (n : ℕ). n == 0) m ∙ not_zero (newest now)) (m ∙ sym fits ∙ sym (next ∙ ap (λ b. cond b (capped (h.revision + 1)) t.stream.next) q)) (ap (λ (x : Stream). x.stream.created) c.1)
     by false q fits next =
         let s : (ask.start == 0) ≡ false = ap (λ (n : ℕ). n == 0) (sym same ∙ e) ∙ q in
         let m : first_next (newest now) ask.start ≡ ask.start = ap (λ b. cond b (newest now + 1) ask.start) s in
-        goes (ap (λ (n : ℕ). n == 0) m ∙ s) (m ∙ sym same ∙ e ∙ sym (next ∙ ap (λ b. cond b (capped (h.revision + 1)) t.stream.next) q))
+        goes (ap (λ (n : ℕ). n == 0) m ∙ s) (m ∙ sym same ∙ e ∙ sym (next ∙ ap (λ b. cond b (capped (h.revision + 1)) t.stream.next) q)) (ap (λ (x : Stream). x.stream.created) c.1)
 created_stands whole start ask _ _ _ t u short same (begins h now more w r) (waits z e) (inr c) = by (t.stream.next == 0) refl
   where
     by : (b : Bool) → (t.stream.next == 0) ≡ b → Stands (first_next (newest now) ask.start) start u
@@ -168,8 +168,8 @@ created_stands whole start ask _ _ _ t u short same (begins h now more w r) (wai
     by false q =
         let s : (ask.start == 0) ≡ false = ap (λ (n : ℕ). n == 0) (sym same ∙ e) ∙ q in
         let m : first_next (newest now) ask.start ≡ ask.start = ap (λ b. cond b (newest now + 1) ask.start) s in
-        goes (ap (λ (n : ℕ). n == 0) m ∙ s) (m ∙ sym same ∙ e ∙ sym (ap (λ (x : Stream). x.stream.next) c.1))
-created_stands whole start ask _ _ _ t u short same (begins h now more w r) (goes z e) c = absurd (let y : false ≡ true = sym z in cc)
+        goes (ap (λ (n : ℕ). n == 0) m ∙ s) (m ∙ sym same ∙ e ∙ sym (ap (λ (x : Stream). x.stream.next) c.1)) (ap (λ (x : Stream). x.stream.created) c.1 ∙ c.0)
+created_stands whole start ask _ _ _ t u short same (begins h now more w r) (goes z e d) c = absurd (let y : false ≡ true = sym z in cc)
 created_stands whole start ask _ _ _ t u short same (begins h now more w r) (never z e) (inl c) = absurd (let y : true ≡ false = sym e ∙ c.0 in cc)
 created_stands whole start ask _ _ _ t u short same (begins h now more w r) (never z e) (inr c) = never (ap (λ (x : Stream). x.stream.next) c.1 ∙ z) (ap (λ (x : Stream). x.stream.created) c.1 ∙ e)
 
@@ -209,7 +209,7 @@ events_stand namespace f k whole start _ _ ask _ _ us t u short p (tells h n com
 events_stand namespace f k whole start _ _ ask _ _ us t u short p (reaches h n compacted now more w z q r) x (waits v y) c = no_zero n z v
 events_stand namespace f k whole start _ _ ask _ _ us t u short p (tells h n compacted e es now more w z q a) x (never v y) c = no_zero t.stream.next (told_parts t us c.0).0 v
 events_stand namespace f k whole start _ _ ask _ _ us t u short p (reaches h n compacted now more w z q r) x (never v y) c = no_zero t.stream.next (told_parts t us c.0).0 v
-events_stand namespace f k whole start _ _ ask _ _ us t u short p (reaches h n compacted now more w z q r) x (goes v y) c =
+events_stand namespace f k whole start _ _ ask _ _ us t u short p (reaches h n compacted now more w z q r) x (goes v y d) c =
     by us x c.1
   where
     ok_is : (a b : List Event) → ◌≡◌ {A = Unwrapped (List Event)} (Ok a) (Ok b) → a ≡ b
@@ -231,12 +231,12 @@ events_stand namespace f k whole start _ _ ask _ _ us t u short p (reaches h n c
         let w' : newest whole.history ≡ newest (now ++ more) = ap newest w in
         let fits : capped (h.revision + 1) ≡ newest now + 1 = omega (arith, f, w', short, r) in
         let next : u.stream.next ≡ max t.stream.next (capped (h.revision + 1)) = ap (λ (x : Stream). x.stream.next) c.1 in
-        goes high (ap (λ (j : ℕ). max j (newest now + 1)) y ∙ ap (max t.stream.next) (sym fits) ∙ sym next)
+        goes high (ap (λ (j : ℕ). max j (newest now + 1)) y ∙ ap (max t.stream.next) (sym fits) ∙ sym next) (ap (λ (x : Stream). x.stream.created) c.1 ∙ d)
     by [] x (inr c) =
         let behind : newest now + 1 ≤ n = less_not t.stream.next n h.revision (newest now) c.0 r y in
         let same : m ≡ n = omega (arith, behind) in
-        goes high (same ∙ y ∙ sym (ap (λ (x : Stream). x.stream.next) c.1))
-events_stand namespace f k whole start _ _ ask _ _ us t u short p (tells h n compacted e es now more w z q a) x (goes v y) c =
+        goes high (same ∙ y ∙ sym (ap (λ (x : Stream). x.stream.next) c.1)) (ap (λ (x : Stream). x.stream.created) c.1 ∙ d)
+events_stand namespace f k whole start _ _ ask _ _ us t u short p (tells h n compacted e es now more w z q a) x (goes v y d) c =
     by us (unwraps namespace f k (e ∷ es) us x) (told_parts t us c.0).1 c.1
   where
     nothing : {A : Type 0} (a : Event) (rest : List Event) → a ∷ rest ≡ [] → A
@@ -255,7 +255,7 @@ events_stand namespace f k whole start _ _ ask _ _ us t u short p (tells h n com
         let next : u.stream.next ≡ max t.stream.next (capped (last_revision 0 (a ∷ rest) + 1)) = ap (λ (x : Stream). x.stream.next) c in
         let whole' : max t.stream.next (capped (last_revision 0 (a ∷ rest) + 1)) ≡ last_revision 0 (e ∷ es) + 1 = omega (arith, ahead, last, fit, short') in
         let m = next_is_last n e es in
-        goes (ap (λ (j : ℕ). j == 0) m ∙ not_zero (last_revision 0 (e ∷ es))) (m ∙ sym whole' ∙ sym next)
+        goes (ap (λ (j : ℕ). j == 0) m ∙ not_zero (last_revision 0 (e ∷ es))) (m ∙ sym whole' ∙ sym next) (ap (λ (x : Stream). x.stream.created) c ∙ d)
 
 -- one message
 message_stands : (namespace : List ℕ) (f : Change → Option Change) → Strips namespace f → (whole : Whole) (n m : ℕ) (ask : WatchAsk) (i : WatchItem) (t u : Stream) → IsShort whole → PassesAll ask
@@ -302,7 +302,7 @@ delivered_true namespace f k whole store number (item.Events h es) rest t short 
     same_events a b xs ys e = (cc, cc)
 
     next_of : (n : ℕ) → (n == 0) ≡ false → Stands n l.watch.ask.start t → t.stream.next ≡ n
-    next_of n s (goes v y) = sym y
+    next_of n s (goes v y d) = sym y
     next_of n s (never v y) = no_zero t.stream.next z v
     next_of n s (waits v y) = no_zero n s v
 

@@ -99,7 +99,7 @@ gone_none n k (s ∷ ss) e =
     apart : (a b c : ℕ) → (a == b) ≡ false → (c == b) ≡ true → (a == c) ≡ false
     apart a b c e f = grind (arith, nat_tests)
 
-without_at : (n k : ℕ) (ss : List Stream) (t : Stream) → stream_at k (without_stream n ss) ≡ Some t → stream_at k ss ≡ Some t
+pub without_at : (n k : ℕ) (ss : List Stream) (t : Stream) → stream_at k (without_stream n ss) ≡ Some t → stream_at k ss ≡ Some t
 without_at n k ss t e =
     elim (k == n) as (λ b. (k == n) ≡ b → stream_at k ss ≡ Some t) [
       | true ↦ λ q. no_some t (sym (gone_none n k ss q) ∙ e)

@@ -1,5 +1,5 @@
 -- What a step of a proxy does to how its streams fit those of the world.
-use Rattle.std.proofs.Common.{◌≡◌, inl, inr, ℕ, ◌+◌, ◌≤◌, Bool, true, false, cond, ◌==◌, List, [], ◌∷◌, filter, Option, None, Some, Result, Ok, Err, refl, ap, sym, subst, ◌∙◌, arith}
+use Rattle.std.proofs.Common.{◌≡◌, inl, inr, ℕ, ◌+◌, ◌≤◌, Bool, true, false, cond, ◌==◌, List, [], ◌∷◌, ◌++◌, filter, Option, None, Some, Result, Ok, Err, refl, ap, sym, subst, ◌∙◌, arith}
 use Rattle.std.proofs.lemmas.Bool.Decides.{nat_tests}
 use Rattle.etcd_types.specs.declared.record.Header.{Header}
 use Rattle.etcd_types.specs.declared.watch.Change.{Change}
@@ -7,7 +7,7 @@ use Rattle.etcd_types.specs.declared.watch.Event.{Event}
 use Rattle.etcd_types.specs.declared.watch.WatchItem.{WatchItem}
 use Rattle.etcd_types.specs.declared.watch.WatchItem.TheVariants as item
 use Rattle.proxy_model.specs.Prefixes.{under}
-use Rattle.proxy_model.specs.Unwrapped.{Unwrapped, ◌>>=◌, events_without, item_without}
+use Rattle.proxy_model.specs.Unwrapped.{Unwrapped, ◌>>=◌, event_without, events_without, item_without}
 use Rattle.store_model.specs.Events.{events_after}
 use Rattle.store_model.specs.History.{newest}
 use Rattle.etcd_types.specs.declared.key_range.KeyRange.{KeyRange}
@@ -30,14 +30,16 @@ use Rattle.core_model.specs.declared.event.StepFault.{StepFault}
 use Rattle.core_model.specs.Heard.{later_header}
 use Rattle.core_model.specs.LeasingStream.{item_header}
 use Rattle.world_model.specs.Places.{kept_at, ended}
+use Rattle.world_model.specs.Received.{WasPushed}
 use Rattle.world_model.specs.State.{Numbered, OpenedStream}
-use Rattle.received_laws.proofs.Pushes.{Whole, Says, tells, reaches}
-use Rattle.received_laws.proofs.Holding.{IsApart, IsTold, among_each}
-use Rattle.received_laws.proofs.Links.{Stands, waits, goes, never, Linked, StreamOk, moved, reopened, delivered_link, delivered_true}
-use Rattle.received_laws.proofs.Records.{TellsEach, in_span, message_tells}
-use Rattle.received_laws.proofs.Told.{BatchTold, IsBatchTold}
-use Rattle.received_laws.proofs.Stories.{Strips, story_by, IsShort}
-use Rattle.received_laws.proofs.StreamSteps.{Stays, stays_same, told_stays, told_at, told_grows, cut_stays, cut_gone, cuts_grow, taken_stays, taken_grows, removed_stays, removed_grows, joined_stays, joined_grows, sent_stays, sent_grows, AfterMessage}
+use Rattle.held_laws.proofs.Pushes.{Whole, Says, ends, tells, reaches}
+use Rattle.held_laws.proofs.Holding.{IsApart, IsTold, among_each}
+use Rattle.held_laws.proofs.Links.{Stands, waits, goes, never, Linked, StreamOk, moved, reopened, delivered_link, delivered_true}
+use Rattle.held_laws.proofs.Records.{TellsEach, in_span, message_tells}
+use Rattle.held_laws.proofs.Told.{BatchTold, IsBatchTold}
+use Rattle.held_laws.proofs.Stories.{Strips, story_by, IsShort, newest_front}
+use Rattle.held_laws.proofs.Writing.{Fits, SaidOk, IsSaid}
+use Rattle.held_laws.proofs.StreamSteps.{Stays, stays_same, told_stays, told_at, told_grows, cut_stays, cut_gone, cuts_grow, taken_stays, taken_grows, removed_stays, removed_grows, joined_stays, joined_grows, sent_stays, sent_grows, AfterMessage}
 use Rattle.idle_laws.proofs.Touches.{Side, with_step, is_other, is_plain, told_unwrapped, told_stream, Touch, leaves, hears, ticks, joins, heard_leasing, broke_leasing, cut_leasing, told, cut, took, left_it, opens_leasing, sends, IsAmong}
 
 fresh_number : (n g : ℕ) → n ≤ g → (n == g + 1) ≡ false
@@ -286,7 +288,7 @@ batch_of namespace whole store number (item.Events h es) rest t l g us e z = by 
     some_batch n b (u ∷ us) e h = (b, subst (λ (k : ℕ). TellsEach whole.items true namespace (u ∷ us) (filter (in_span k b) (events_after (under namespace t.stream.range) [] whole.history))) e h)
 
     next_of : (n : ℕ) → (n == 0) ≡ false → Stands n l.watch.ask.start t → n ≡ t.stream.next
-    next_of n s (goes v y) = y
+    next_of n s (goes v y d) = y
     next_of n s (never v y) = no_zero t.stream.next z v
     next_of n s (waits v y) = no_zero n s v
 
@@ -304,6 +306,57 @@ pub delivered_batch : (namespace : List ℕ) (whole : Whole) (store : State) (nu
     → StreamOk namespace whole store number s a kept → IsBatchTold whole namespace a (event.Item s.own x)
 delivered_batch namespace whole store number s x rest a kept live waiting ok t h es at q z u =
     batch_of namespace whole store number x rest t (subst (λ (is : List WatchItem). Linked namespace whole store number is t) waiting (ok.link live t at (open_begun t.phase q))) h es u z
+
+-- only to a stream that stands created, and a cancellation names a compaction of the store
+said_of : (namespace : List ℕ) (whole : Whole) (store : State) (number : ℕ) (i : WatchItem) (rest : List WatchItem) (t : Stream) → IsShort whole → Linked namespace whole store number (i ∷ rest) t → SaidOk whole t (item_without namespace i)
+said_of namespace whole store number (item.Created h) rest t short l = tt
+said_of namespace whole store number (item.Canceled h compact) rest t short l = by l.next l.chain.0 l.chain.1 l.stands
+  where
+    stands : (n : ℕ) → (n == 0) ≡ false → Stands n l.watch.ask.start t → t.stream.created ≡ true
+    stands n z (goes v y d) = d
+    stands n z (never v d) = d
+    stands n z (waits v y) = no_zero n z v
+
+    by : (n m : ℕ) → Says whole l.watch.ask n (item.Canceled h compact) m → Stands n l.watch.ask.start t → (t.stream.created ≡ true) × WasPushed whole.items compact
+    by _ _ (ends h n compact z b w) st = (stands n z st, record { before = w.before; stream = w.stream; header = h; after = w.after; pushed = w.pushed; compacted = w.compaction })
+said_of namespace whole store number (item.Events h es) rest t short l = by (events_without namespace es) refl
+  where
+    stands : (n : ℕ) → (n == 0) ≡ false → Stands n l.watch.ask.start t → t.stream.created ≡ true
+    stands n z (goes v y d) = d
+    stands n z (never v d) = d
+    stands n z (waits v y) = no_zero n z v
+
+    none_of : (xs : List Event) → events_without namespace [] ≡ Ok xs → h.revision + 1 ≤ 0xffff_ffff_ffff_ffff → Fits h xs
+    none_of [] e l = l
+    none_of (x ∷ xs) e l = tt
+
+    some_of : (y : Event) (ys xs : List Event) → events_without namespace (y ∷ ys) ≡ Ok xs → Fits h xs
+    some_of y ys (x ∷ xs) e = tt
+    some_of y ys [] e = absurd (by (event_without namespace y) e)
+      where
+        by : (r : Unwrapped Event) → (r >>= λ z. events_without namespace ys >>= λ zs. Ok (z ∷ zs)) ≡ Ok [] → ⊥
+        by (Err foreign) e = absurd (cc)
+        by (Ok z) e = more (events_without namespace ys) e
+          where
+            more : (r : Unwrapped (List Event)) → (r >>= λ zs. Ok (z ∷ zs)) ≡ Ok [] → ⊥
+            more (Err foreign) e = absurd (cc)
+            more (Ok zs) e = absurd (cc)
+
+    told : (n m : ℕ) (es xs : List Event) → Says whole l.watch.ask n (item.Events h es) m → events_without namespace es ≡ Ok xs → Stands n l.watch.ask.start t → (t.stream.created ≡ true) × Fits h xs
+    told _ _ _ xs (tells h n compacted e es now more w z q a) x st = (stands n z st, some_of e es xs x)
+    told _ _ _ xs (reaches h n compacted now more w z q r) x st =
+        let f = newest_front now more in
+        let w' : newest whole.history ≡ newest (now ++ more) = ap newest w in
+        (stands n z st, none_of xs x (omega (arith, f, w', short, r)))
+
+    by : (r : Unwrapped (List Event)) → events_without namespace es ≡ r → SaidOk whole t (r >>= λ us. Ok (item.Events h us))
+    by (Err foreign) e = tt
+    by (Ok us) e = λ z. told l.next l.chain.0 es us l.chain.1 e l.stands
+
+pub delivered_said : (namespace : List ℕ) (whole : Whole) (store : State) (number : ℕ) (s : OpenedStream) (x : WatchItem) (rest : List WatchItem) (a : Side) (kept : Numbered ℕ) → IsShort whole → s.ended ≡ false → s.waiting ≡ x ∷ rest
+    → StreamOk namespace whole store number s a kept → IsSaid whole namespace a (event.Item s.own x)
+delivered_said namespace whole store number s x rest a kept short live waiting ok t at q =
+    said_of namespace whole store number x rest t short (subst (λ (is : List WatchItem). Linked namespace whole store number is t) waiting (ok.link live t at (open_begun t.phase q)))
 
 -- ---- a cut
 

@@ -14,9 +14,9 @@ use Rattle.store_model.specs.Events.{events_after, passes}
 use Rattle.watch_model.specs.Queues.{item_events, queued_events}
 use Rattle.watch_model.specs.Story.{is_between, changes}
 use Rattle.world_model.specs.Received.{stored_change, TellsPrev, TellsFront}
-use Rattle.received_laws.proofs.Pushes.{Whole}
-use Rattle.received_laws.proofs.Records.{TellsEach, tells-append, tells_changes, fewer_left, all_left, in_span}
-use Rattle.received_laws.proofs.Told.{ItemTold, AllTold}
+use Rattle.held_laws.proofs.Pushes.{Whole}
+use Rattle.held_laws.proofs.Records.{TellsEach, tells-append, tells_changes, fewer_left, all_left, in_span}
+use Rattle.held_laws.proofs.Told.{ItemTold, AllTold}
 
 none_left : {X : Type 0} (xs : List X) → length xs ≡ 0 → xs ≡ []
 none_left [] e = refl

@@ -23,9 +23,9 @@ use Rattle.watch_model.specs.Story.{is_between, changes}
 use Rattle.watch_laws.proofs.Between.{none_before}
 use Rattle.watch_laws.proofs.Histories.{after_rises, events-append, events_are}
 use Rattle.world_model.specs.Received.{stored_record, stored_change, TellsPrev}
-use Rattle.received_laws.proofs.Pushes.{Whole, WasTold}
-use Rattle.received_laws.proofs.Stories.{PassesAll}
-use Rattle.received_laws.proofs.Telling.{record_is, change_is}
+use Rattle.held_laws.proofs.Pushes.{Whole, WasTold}
+use Rattle.held_laws.proofs.Stories.{PassesAll}
+use Rattle.held_laws.proofs.Telling.{record_is, change_is}
 
 -- each of these tells the one at its place, and there are as many
 abbrev pub TellsEach : List Item → Bool → List ℕ → List Event → List Event → Type 0

@@ -1,5 +1,0 @@
-use Rattle.received_laws.proofs.Nothing.{holds_nothing_back}
-use Rattle.received_laws.proofs.watches_hold_nothing_back.Goals as goal
-
-pub returns : goal.returns
-returns c = holds_nothing_back
