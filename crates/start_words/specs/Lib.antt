@@ -1,0 +1,4 @@
+pub mod Reads
+pub mod Start
+pub mod Texts
+pub mod Values

@@ -1,0 +1,110 @@
+ghost use Rattle.std.specs.Prelude.{◌≡◌, ◌∷◌, [], IfOk, false, true};
+ghost use Rattle.clap.specs.Simple.{app_of, with_rule};
+ghost use Rattle.clap.specs.Walk.{rule_of};
+ghost use Rattle.start_words.specs.Start as spec;
+
+use clap::{Arg, ArgAction, Command};
+use std::alloc::{AllocError, Global};
+
+/// An option with one value.
+fn option<'a>(alloc: Global, name: &'a str, placeholder: &'a str, help: &'a str) -> Arg<'a>
+    ensures rule { rule_of result ≡ spec.option_rule name.entry.now }
+    ensures own { result.global ≡ false }
+{
+    Arg::new(alloc, name)
+        .long(name)
+        .value_name(placeholder)
+        .help(help)
+        .action(ArgAction::Set)
+}
+
+/// An option that has to be given.
+fn required<'a>(alloc: Global, name: &'a str, placeholder: &'a str, help: &'a str) -> Arg<'a>
+    ensures rule { rule_of result ≡ spec.required_rule name.entry.now }
+    ensures own { result.global ≡ false }
+{
+    option(alloc, name, placeholder, help).required(true)
+}
+
+/// An option that has a value where it isn't given.
+fn with_default<'a>(arg: Arg<'a>, value: &'a str) -> Arg<'a>
+    ensures rule { rule_of result ≡ record (rule_of arg.entry) { defaults = value.entry.now ∷ [] } }
+    ensures own { result.global ≡ arg.entry.global }
+{
+    arg.default_value(value)
+}
+
+/// The command without options. Its words begin with no program's name.
+fn bare<'a>(alloc: Global) -> Command<'a>
+    ensures { app_of result ≡ spec.bare_app }
+{
+    Command::new(alloc, "start").no_binary_name(true)
+}
+
+/// The command with an option more.
+fn with_option<'a>(command: Command<'a>, arg: Arg<'a>) -> Result<Command<'a>, AllocError>
+    requires { arg.global ≡ false }
+    ensures { IfOk result (λ more. app_of more ≡ with_rule (app_of command.entry) (rule_of arg.entry)) }
+{
+    Ok(command.arg(arg)?)
+}
+
+/// The members of the cluster, where clients are served, and what stands before keys.
+fn with_places<'a>(alloc: Global) -> Result<Command<'a>, AllocError>
+    ensures { IfOk result (λ command. app_of command ≡ spec.with_rules spec.bare_app spec.place_rules) }
+{
+    let endpoints = required(
+        alloc,
+        "endpoints",
+        "HOST:PORT,..",
+        "The members of the cluster, 1 to 9",
+    );
+    let listen = option(
+        alloc,
+        "listen-addr",
+        "HOST:PORT",
+        "Where clients are served",
+    );
+    let listen = with_default(listen, "127.0.0.1:23790");
+    let namespace = option(
+        alloc,
+        "namespace",
+        "TEXT",
+        "What stands before each key in the cluster",
+    );
+    let namespace = with_default(namespace, "");
+    let command = with_option(bare(alloc), endpoints)?;
+    let command = with_option(command, listen)?;
+    Ok(with_option(command, namespace)?)
+}
+
+/// The command behind the word `start`.
+pub(crate) fn start_command<'a>(alloc: Global) -> Result<Command<'a>, AllocError>
+    ensures { IfOk result (λ command. app_of command ≡ spec.start_app) }
+{
+    let leasing = option(
+        alloc,
+        "leasing-prefix",
+        "TEXT",
+        "What stands before the keys of ownership; none: no leasing",
+    );
+    let leasing = with_default(leasing, "");
+    let workers = option(
+        alloc,
+        "workers",
+        "NUMBER",
+        "How many calls are out at once, 1 to 64",
+    );
+    let workers = with_default(workers, "8");
+    let ttl = option(
+        alloc,
+        "session-ttl",
+        "SECONDS",
+        "How long a session lives that isn't renewed, 5 to 3600",
+    );
+    let ttl = with_default(ttl, "60");
+    let command = with_places(alloc)?;
+    let command = with_option(command, leasing)?;
+    let command = with_option(command, workers)?;
+    Ok(with_option(command, ttl)?)
+}

@@ -1,0 +1,18 @@
+use etcd_types::{Bytes, List};
+
+/// What the words of `grpc-proxy start` name.
+#[derive(Debug, PartialEq, Eq, Drop)]
+pub struct StartSettings {
+    /// The addresses of the members, `host:port`, in the order of their numbers; 1 to 9.
+    pub endpoints: List<Bytes>,
+    /// The address on which clients are served, `host:port`.
+    pub listen: Bytes,
+    /// What stands before each client key in the cluster; empty for none.
+    pub namespace: Bytes,
+    /// The leasing prefix; where it is empty, leasing is off.
+    pub leasing: Bytes,
+    /// How many workers make calls, 1 to 64.
+    pub workers: u64,
+    /// The time to live of a session, 5 to 3,600 seconds.
+    pub session_ttl: u64,
+}
