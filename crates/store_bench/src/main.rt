@@ -1,7 +1,7 @@
 //! Measures a store over so many keys of ten bytes with values of a hundred, once it made so many revisions: puts, gets,
 //! transactions of five puts and five gets, what a watch is pushed, ranges of 100 keys, and the end of a lease with 1,000 keys.
-//! With the word `stops` it waits for a line of its input once the revisions are made, and again once they are compacted, so
-//! that its memory can be read; and it measures the compaction alone.
+//! With the word `stops` it waits for a line of its input once the revisions are made, once they are compacted, and once as many
+//! are made again, so that its memory can be read; and it measures the compaction alone.
 #![tactic(auto)]
 
 mod requests;
@@ -88,6 +88,13 @@ fn wait(rt: &HostRuntime, what: &str) -> io::Result<()> {
     Ok(())
 }
 
+fn make(bench: &mut Bench, revisions: u64) -> io::Result<()> {
+    for number in 0..revisions {
+        bench.put(number, 0)?;
+    }
+    Ok(())
+}
+
 fn measure_memory(rt: &HostRuntime, bench: &mut Bench, revisions: u64) -> io::Result<()> {
     let kept = bench.kept();
     println!(rt; "{kept} versions kept")?;
@@ -97,7 +104,9 @@ fn measure_memory(rt: &HostRuntime, bench: &mut Bench, revisions: u64) -> io::Re
     tell(rt, "compaction, a revision", revisions, &start)?;
     let kept = bench.kept();
     println!(rt; "{kept} versions kept")?;
-    wait(rt, "compacted")
+    wait(rt, "compacted")?;
+    make(bench, revisions)?;
+    wait(rt, "again")
 }
 
 fn main(rt: HostRuntime) -> io::Result<()> {
@@ -114,9 +123,7 @@ fn main(rt: HostRuntime) -> io::Result<()> {
     let keys = keys.as_str().parse::<u64>().unwrap_or(1_000);
     let revisions = revisions.as_str().parse::<u64>().unwrap_or(1_000);
     let mut bench = Bench::new(alloc, keys)?;
-    for number in 0..revisions {
-        bench.put(number, 0)?;
-    }
+    make(&mut bench, revisions)?;
     if stops {
         measure_memory(&rt, &mut bench, revisions)
     } else {

@@ -16,6 +16,3 @@ pub use changes::Changes;
 pub use index::Index;
 pub use laws::listings_are_ranges;
 pub use reading::left_now;
-
-#[cfg(test)]
-mod tests;

@@ -2,9 +2,10 @@
 //!
 //! The standard input has steps, one a line, each with a line `= ANSWER` behind it that says what is to come of it. A step
 //! is `store MEMBERS`, which begins anew, `exec MEMBER REQUEST`, `compact REVISION`, `expire LEASE`, `apply MEMBER
-//! REVISION`, `open MEMBER WATCH`, `push WATCH` or `progress WATCH`. Each answer that differs is printed, and
-//! each step of which something else comes on the plain store, with an answer behind it or without; and at the end the number
-//! of answers and of those that differ.
+//! REVISION`, `open MEMBER WATCH`, `push WATCH`, `progress WATCH`, `times COUNT WATCH MEMBER REQUEST`, which does a request so
+//! many times with a push of the watch behind each and tells the last push, or `kept`, which tells how many versions the store
+//! keeps. Each answer that differs is printed, and each step of which something else comes on the plain store, with an answer
+//! behind it or without; and at the end the number of answers and of those that differ.
 #![tactic(auto)]
 
 mod trial;

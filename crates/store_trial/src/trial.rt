@@ -15,6 +15,8 @@ use text_words::{Words, is_word, read_number, read_number_within};
 
 const MOST_REVISIONS: u64 = 1_000_000;
 
+const MOST_TIMES: u64 = 10_000;
+
 /// The store and the plain one, and what came of the last step that was tried on both.
 #[derive(Debug, Drop)]
 pub struct Trial {
@@ -46,10 +48,14 @@ impl Trial {
         self.told.as_str() == self.told_plainly.as_str()
     }
 
-    /// Takes a step on both.
-    pub fn step(&mut self, line: &str) -> Result<(), Wrong> {
+    fn forget_told(&mut self) {
         self.told = String::new(self.alloc);
         self.told_plainly = String::new(self.alloc);
+    }
+
+    /// Takes a step on both.
+    pub fn step(&mut self, line: &str) -> Result<(), Wrong> {
+        self.forget_told();
         let mut words = Words::of(b' ', line.as_bytes());
         self.take_step(&mut words)?;
         words.end()?;
@@ -66,6 +72,10 @@ impl Trial {
             self.compact(words)
         } else if is_word(name, "open") {
             self.open_watch(words)
+        } else if is_word(name, "times") {
+            self.execute_and_push(words)
+        } else if is_word(name, "kept") {
+            self.tell_kept()
         } else {
             self.take_step_with_fault(name, words)
         }
@@ -84,8 +94,7 @@ impl Trial {
             tell_done(&mut self.told_plainly, self.plain.apply(member, revision))
         } else if is_word(name, "push") {
             let watch = read_number(words)?;
-            tell_item(&mut self.told, self.store.push(watch))?;
-            tell_item(&mut self.told_plainly, self.plain.push(watch))
+            self.push_on_both(watch)
         } else if is_word(name, "progress") {
             let watch = read_number(words)?;
             tell_item(&mut self.told, self.store.progress(watch))?;
@@ -126,6 +135,50 @@ impl Trial {
         let revision = read_number(words)?;
         tell_answer(&mut self.told, self.store.compact(revision)?)?;
         tell_answer(&mut self.told_plainly, self.plain.compact(revision)?)
+    }
+
+    fn execute_and_push(&mut self, words: &mut Words) -> Result<(), Wrong> {
+        let times = read_number_within(words, 0, MOST_TIMES)?;
+        let watch = read_number(words)?;
+        let member = read_member(words)?;
+        let request = Request::read(self.alloc, words)?;
+        self.repeat(times, watch, member, &request)
+    }
+
+    /// Does a request so many times, with a push of the watch behind each, and stops where the two stores differ.
+    fn repeat(
+        &mut self,
+        times: u64,
+        watch: u64,
+        member: u32,
+        request: &Request,
+    ) -> Result<(), Wrong> {
+        for _ in 0..times {
+            self.forget_told();
+            self.execute_on_both(member, request)?;
+            if !self.agrees() {
+                break;
+            }
+            self.forget_told();
+            self.push_on_both(watch)?;
+            if !self.agrees() {
+                break;
+            }
+        }
+        Ok(())
+    }
+
+    fn push_on_both(&mut self, watch: u64) -> Result<(), Wrong> {
+        tell_item(&mut self.told, self.store.push(watch))?;
+        tell_item(&mut self.told_plainly, self.plain.push(watch))
+    }
+
+    /// How many versions the store keeps, which the plain one, that keeps all, doesn't tell.
+    fn tell_kept(&mut self) -> Result<(), Wrong> {
+        let kept = self.store.kept();
+        kept.push(&mut self.told)?;
+        kept.push(&mut self.told_plainly)?;
+        Ok(())
     }
 
     fn open_watch(&mut self, words: &mut Words) -> Result<(), Wrong> {
