@@ -31,6 +31,8 @@ pub struct Broadcasts {
     watches: Vec<Watching>,
     given: u64,
     step: u64,
+    /// Whether no closing or opening is due; where it isn't known this is false.
+    idle: bool,
 }
 
 impl Model for Broadcasts {
@@ -43,7 +45,7 @@ impl Model for Broadcasts {
 
     ghost view = { λ b. record { streams = b.streams.items; watches = map shown b.watches.items; given = b.given; step = b.step } };
 
-    ghost invariant = { λ b. Stands b.given b.streams.items (map shown b.watches.items) b.index };
+    ghost invariant = { λ b. Stands b.given b.streams.items (map shown b.watches.items) b.index b.idle };
 }
 
 impl Broadcasts {
@@ -58,6 +60,7 @@ impl Broadcasts {
             watches: Vec::new(alloc),
             given: 0,
             step: 0,
+            idle: true,
         }
     }
 
@@ -111,6 +114,7 @@ impl Broadcasts {
         ensures state { self.new ≡ cut_at self.old (stream_at stream self.old.streams) }
     {
         let at = place_of(stream, &self.streams)?;
+        self.idle = false;
         self.index.dropped(stream);
         if is_closing(self.streams[at].phase) {
             drop(self.streams.remove(at));
@@ -131,6 +135,7 @@ impl Broadcasts {
         if !has_twins(range, &self.streams) {
             return;
         }
+        self.idle = false;
         move_members(range, &self.streams, &mut self.watches);
         close_others(range, self.step, &mut self.streams);
     }

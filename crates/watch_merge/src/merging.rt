@@ -3,6 +3,7 @@ ghost use Rattle.watch_model.specs.Lookups.{stream_at};
 ghost use Rattle.watch_model.specs.Merging.{is_of, keeper, kept_by, merged_number, merged_place, merged_stream, merged_watch};
 ghost use Rattle.watch_queue.specs.Watching.{shown, moved_as};
 ghost use Rattle.watch_merge.specs.Twins.{has_twins};
+ghost use Rattle.watch_streams.specs.Rows.{IsNumbered};
 
 use etcd_types::KeyRange;
 use watch_model::{Stream, StreamPhase, WatchPlace};
@@ -23,12 +24,14 @@ pub fn has_twins(range: &KeyRange, streams: &[Stream]) -> bool
 
 /// Members of streams of the range that become one are those of the one that keeps them.
 pub fn move_members(range: &KeyRange, streams: &[Stream], watches: &mut Vec<Watching>)
+    requires { IsNumbered streams.now }
     ensures { map shown watches.new.items ≡ map (merged_watch range.now streams.now) (map shown watches.old.items) }
 {
     move_all(range, streams, watches);
 }
 
 fn move_all(range: &KeyRange, streams: &[Stream], watches: &mut Vec<Watching>)
+    requires { IsNumbered streams.now }
     ensures { watches.new.items ≡ map (moved_as range.now streams.now) watches.old.items }
 {
     for watch in watches.iter_mut() {
@@ -37,12 +40,14 @@ fn move_all(range: &KeyRange, streams: &[Stream], watches: &mut Vec<Watching>)
 }
 
 fn move_one(range: &KeyRange, streams: &[Stream], watch: &mut Watching)
+    requires { IsNumbered streams.now }
     ensures { watch.new ≡ moved_as range.now streams.now watch.old }
 {
     watch.place = kept_place(range, streams, watch.place);
 }
 
 fn kept_place(range: &KeyRange, streams: &[Stream], place: WatchPlace) -> WatchPlace
+    requires { IsNumbered streams.now }
     ensures { result ≡ merged_place range.now streams.now place }
 {
     match place {
@@ -54,6 +59,7 @@ fn kept_place(range: &KeyRange, streams: &[Stream], place: WatchPlace) -> WatchP
 
 /// The number of the stream that keeps the members of that of this number.
 fn kept_number(range: &KeyRange, streams: &[Stream], number: u64) -> u64
+    requires { IsNumbered streams.now }
     ensures { result ≡ merged_number range.now streams.now number (stream_at number streams.now) }
 {
     match place_of(number, streams) {

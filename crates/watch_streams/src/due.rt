@@ -1,7 +1,9 @@
 ghost use Rattle.std.specs.Prelude.{◌≡◌};
 ghost use Rattle.std.specs.Option.{option_copied};
 ghost use Rattle.watch_model.specs.Due.{first_due, earlier, earlier_of, is_before};
+ghost use Rattle.watch_streams.specs.Idle.{none_due};
 
+use crate::streams::is_begun;
 use watch_model::{Stream, StreamPhase};
 
 /// The stream with the first due closing or opening.
@@ -52,4 +54,16 @@ fn is_before(one: StreamPhase, other: StreamPhase) -> bool
         (StreamPhase::Due { since: s }, StreamPhase::Closing { since: t }) => s < t,
         (StreamPhase::Due { since: s }, StreamPhase::Due { since: t }) => s < t,
     }
+}
+
+/// Whether no closing or opening is due.
+pub fn none_due(streams: &[Stream]) -> bool
+    ensures { result ≡ none_due streams.now }
+{
+    for stream in streams {
+        if !is_begun(stream.phase) {
+            return false;
+        }
+    }
+    true
 }

@@ -8,7 +8,7 @@ ghost use Rattle.watch_streams.specs.Rows.{found_in, chosen_at, Indexed, Backed,
 
 use crate::rows::{Row, before, digest, drop_row, insert_row};
 use crate::seats;
-use crate::streams::{is_due, place_by_number, place_of};
+use crate::streams::{is_due, place_of};
 use etcd_types::KeyRange;
 use std::alloc::Global;
 use watch_model::Stream;
@@ -58,6 +58,7 @@ impl RangeIndex {
 
     /// The stream of this number, one of these, has no members: it is to be closed, or gone where it is still due.
     pub fn emptied(&mut self, number: u64, streams: &[Stream])
+        requires { IsNumbered streams.now }
         ensures { (step : _) → Backed self.old streams.now → Backed self.new (emptied_as number step streams.now (stream_at number streams.now)) }
     {
         let Some(at) = place_of(number, streams) else {
@@ -175,7 +176,7 @@ fn best_at<'a>(
     requires { IsNumbered streams.now }
     ensures { option_copied result ≡ chosen_at range.now limit (option_copied best.entry) (stream_at number streams.now) }
 {
-    match place_by_number(number, streams) {
+    match place_of(number, streams) {
         None => best,
         Some(at) => seats::best_of_two(range, limit, best, &streams[at]),
     }
@@ -195,7 +196,7 @@ fn opening_in<'a>(
         if row.digest != digest {
             return None;
         }
-        if let Some(at) = place_by_number(row.number, streams) {
+        if let Some(at) = place_of(row.number, streams) {
             if seats::is_opening_from_now(range, &streams[at]) {
                 return Some(&streams[at]);
             }

@@ -8,7 +8,7 @@ mod rows;
 mod seats;
 mod streams;
 
-pub use due::first_due;
+pub use due::{first_due, none_due};
 pub use index::RangeIndex;
 pub use seats::stream_to_join;
 pub use streams::{

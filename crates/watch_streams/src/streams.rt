@@ -1,6 +1,6 @@
 ghost use Rattle.std.specs.Prelude.{◌≡◌, ◌<◌, ◌≤◌, ◌+◌, ◌++◌, ◌∷◌, [], length, nat_lt, vec_len, IfSome, IfNone, IfOk, None};
 ghost use Rattle.std.specs.Vec.{vec_capacity};
-ghost use Rattle.watch_model.specs.Lookups.{stream_at, is_closing, is_begun, is_due, is_other, with_stream, without_stream, changed_stream};
+ghost use Rattle.watch_model.specs.Lookups.{stream_at, is_closing, is_begun, is_due, is_other, with_stream, without_stream};
 ghost use Rattle.watch_model.specs.Delivery.{advanced, is_awaited, created_stream};
 ghost use Rattle.watch_model.specs.Due.{begun};
 ghost use Rattle.watch_model.specs.Joining.{new_stream};
@@ -14,21 +14,8 @@ use std::alloc::Global;
 use watch_model::{Stream, StreamPhase};
 use watch_resume::Upstream;
 
-/// The place of the first with this number.
-pub fn place_of(number: u64, streams: &[Stream]) -> Option<usize>
-    ensures found { IfSome result (IsAt number streams.now) }
-    ensures none { IfNone result (stream_at number streams.now ≡ None) }
-{
-    for at in 0..streams.len() {
-        if streams[at].number == number {
-            return Some(at);
-        }
-    }
-    None
-}
-
 /// The place of the stream with this number, among rising numbers.
-pub fn place_by_number(number: u64, streams: &[Stream]) -> Option<usize>
+pub fn place_of(number: u64, streams: &[Stream]) -> Option<usize>
     requires { IsNumbered streams.now }
     ensures found { IfSome result (IsAt number streams.now) }
     ensures none { IfNone result (stream_at number streams.now ≡ None) }
@@ -125,23 +112,23 @@ pub fn reopen(at: usize, number: u64, step: u64, streams: &mut Vec<Stream>)
 
 /// All events up to revision `last` were delivered on it.
 pub fn advance(number: u64, last: u64, streams: &mut Vec<Stream>)
+    requires { IsNumbered streams.old.items }
     ensures { streams.new.items ≡ with_stream number (advanced last) streams.old.items }
 {
-    for stream in streams.iter_mut() {
-        advance_one(number, last, stream);
+    if let Some(at) = place_of(number, streams) {
+        advance_one(last, &mut streams[at]);
     }
 }
 
-fn advance_one(number: u64, last: u64, stream: &mut Stream)
-    ensures { stream.new ≡ changed_stream number (advanced last) stream.old }
+fn advance_one(last: u64, stream: &mut Stream)
+    ensures { stream.new ≡ advanced last stream.old }
 {
-    if stream.number == number {
-        stream.stream.advance(last);
-    }
+    stream.stream.advance(last);
 }
 
 /// The stream has no members: it is due to be closed, or gone where it is still due.
 pub fn empty(number: u64, step: u64, streams: &mut Vec<Stream>)
+    requires { IsNumbered streams.old.items }
     ensures { streams.new.items ≡ emptied_as number step streams.old.items (stream_at number streams.old.items) }
 {
     let Some(at) = place_of(number, streams) else {
@@ -168,53 +155,50 @@ pub fn drop_stream(number: u64, streams: &mut Vec<Stream>)
 }
 
 fn close(number: u64, step: u64, streams: &mut Vec<Stream>)
+    requires { IsNumbered streams.old.items }
     ensures { streams.new.items ≡ with_stream number (closed step) streams.old.items }
 {
-    for stream in streams.iter_mut() {
-        close_one(number, step, stream);
+    if let Some(at) = place_of(number, streams) {
+        close_one(step, &mut streams[at]);
     }
 }
 
-fn close_one(number: u64, step: u64, stream: &mut Stream)
-    ensures { stream.new ≡ changed_stream number (closed step) stream.old }
+fn close_one(step: u64, stream: &mut Stream)
+    ensures { stream.new ≡ closed step stream.old }
 {
-    if stream.number == number {
-        stream.phase = StreamPhase::Closing { since: step };
-    }
+    stream.phase = StreamPhase::Closing { since: step };
 }
 
 /// Its created message came, whose header has this revision.
 pub fn create(number: u64, revision: u64, streams: &mut Vec<Stream>)
+    requires { IsNumbered streams.old.items }
     ensures { streams.new.items ≡ with_stream number (created_stream revision) streams.old.items }
 {
-    for stream in streams.iter_mut() {
-        create_one(number, revision, stream);
+    if let Some(at) = place_of(number, streams) {
+        create_one(revision, &mut streams[at]);
     }
 }
 
-fn create_one(number: u64, revision: u64, stream: &mut Stream)
-    ensures { stream.new ≡ changed_stream number (created_stream revision) stream.old }
+fn create_one(revision: u64, stream: &mut Stream)
+    ensures { stream.new ≡ created_stream revision stream.old }
 {
-    if stream.number == number {
-        stream.stream.created(revision);
-    }
+    stream.stream.created(revision);
 }
 
 /// Its opening is sent.
 pub fn begin(number: u64, streams: &mut Vec<Stream>)
+    requires { IsNumbered streams.old.items }
     ensures { streams.new.items ≡ with_stream number begun streams.old.items }
 {
-    for stream in streams.iter_mut() {
-        begin_one(number, stream);
+    if let Some(at) = place_of(number, streams) {
+        begin_one(&mut streams[at]);
     }
 }
 
-fn begin_one(number: u64, stream: &mut Stream)
-    ensures { stream.new ≡ changed_stream number begun stream.old }
+fn begin_one(stream: &mut Stream)
+    ensures { stream.new ≡ begun stream.old }
 {
-    if stream.number == number {
-        stream.phase = StreamPhase::Begun;
-    }
+    stream.phase = StreamPhase::Begun;
 }
 
 /// A stream over the range is due to be opened from this start on. There is room for it.

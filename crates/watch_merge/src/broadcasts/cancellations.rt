@@ -62,6 +62,7 @@ impl Broadcasts {
         ready_to_leave(self.alloc, cancellation, &mut self.watches)?;
         self.streams.reserve(seats(cancellation, &self.watches))?;
         self.index.forget();
+        self.idle = false;
         drop_stream(cancellation.stream, &mut self.streams);
         self.given = leave_all(
             cancellation,

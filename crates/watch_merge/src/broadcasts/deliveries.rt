@@ -113,6 +113,7 @@ impl Broadcasts {
         advance(stream, last_revision(events), &mut self.streams);
         if !has_member(stream, &self.watches) {
             self.index.emptied(stream, &self.streams);
+            self.idle = false;
             empty(stream, self.step, &mut self.streams);
         }
         Ok(())

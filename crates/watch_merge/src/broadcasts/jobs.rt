@@ -6,7 +6,7 @@ ghost use Rattle.watch_model.specs.Lookups.{numbered};
 use super::Broadcasts;
 use etcd_types::NoMemory;
 use watch_model::{Stream, StreamJob, StreamPhase};
-use watch_streams::{begin, copy_range, drop_stream, first_due, next_of};
+use watch_streams::{begin, copy_range, drop_stream, first_due, next_of, none_due};
 
 impl Broadcasts {
     /// The stream whose closing or opening is due first, or none where none is due.
@@ -14,6 +14,9 @@ impl Broadcasts {
         ensures due { option_copied result ≡ first_due self.now.streams }
         ensures in_order { numbered 0 self.now.given self.now.streams ≡ true }
     {
+        if self.idle {
+            return None;
+        }
         first_due(&self.streams)
     }
 
@@ -32,12 +35,14 @@ impl Broadcasts {
             StreamPhase::Closing { .. } => {
                 self.index.dropped(stream);
                 drop_stream(stream, &mut self.streams);
+                self.idle = none_due(&self.streams);
                 Ok(Some(StreamJob::Close { stream }))
             }
             StreamPhase::Due { .. } => {
                 let range = copy_range(self.alloc, found)?;
                 let start = next_of(found);
                 begin(stream, &mut self.streams);
+                self.idle = none_due(&self.streams);
                 Ok(Some(StreamJob::Open {
                     stream,
                     range,

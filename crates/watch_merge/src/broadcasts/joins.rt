@@ -81,6 +81,7 @@ impl Broadcasts {
         let number = self.given + 1;
         self.index.opened(number, &range);
         open(number, self.step, range, watch.next, &mut self.streams);
+        self.idle = false;
         let mut seated = watch;
         seated.place = WatchPlace::In(number);
         insert_watch(seated, &mut self.watches);

@@ -47,6 +47,7 @@ impl Broadcasts {
             WatchPlace::In(stream) => {
                 if !has_member(stream, &self.watches) {
                     self.index.emptied(stream, &self.streams);
+                    self.idle = false;
                     empty(stream, self.step, &mut self.streams);
                 }
             }

@@ -120,6 +120,7 @@ impl Broadcasts {
         }
         self.index.opened(number, &range);
         open(number, self.step, range, next, &mut self.streams);
+        self.idle = false;
         self.given = number;
         Ok(item)
     }

@@ -11,6 +11,8 @@ use Rattle.watch_merge.specs.contracts.broadcasts.Broadcasts.{the_view}
 use Rattle.watch_merge.proofs.Delivering.{found_is, created_gives}
 use Rattle.watch_streams.specs.Rows.{Backed}
 use Rattle.watch_streams.proofs.Indexing.{backed_changed}
+use Rattle.watch_streams.specs.Idle.{IsIdle}
+use Rattle.watch_streams.proofs.Idle.{idle-changed}
 use Rattle.watch_merge.proofs.broadcasts.Broadcasts.created.Goals as goal
 
 pub invariant_of-self-2 : goal.invariant_of-self-2
@@ -20,6 +22,7 @@ invariant_of-self-2 c =
     let f = created_stream c.args.header.revision in
     let g = created_watch c.created_next-next.result c.args.last in
     record {
+      idle = subst (IsIdle c.self.inside.idle) (sym c.create.ensures) (idle-changed c.self.inside.idle n f (λ s. refl) ss c.self.invariant.idle);
       index = subst (Backed c.self.inside.index) (sym c.create.ensures) (backed_changed c.self.inside.index n f (λ s. refl) ss c.self.invariant.index);
       numbers = subst (λ (t : List Stream). numbered 0 c.self.inside.given t ≡ true) (sym c.create.ensures) (numbered-map (changed_stream n f) (changed-keeps n f (λ s. refl)) 0 c.self.inside.given ss c.self.invariant.numbers);
       tickets =

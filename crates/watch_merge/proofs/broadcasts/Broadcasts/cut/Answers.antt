@@ -15,6 +15,7 @@ invariant_of-self c =
     let b : Broadcasts = the_view c.self.inside in
     let p = subst (λ (ss : List Stream). IsAt c.args.stream ss c.in_ok-at.at) c.deref.ensures.value c.in_ok-at.ensures.found in
     record {
+      idle = tt;
       index =
           subst (Backed c.dropped.new.self) (sym (c.remove.ensures.items ∙ gone_is c.args.stream c.in_ok-at.at b.given b.streams c.index.result.now c.self.invariant.numbers p))
           (c.dropped.ensures b.streams c.self.invariant.index);
@@ -37,6 +38,7 @@ invariant_of-self-2 c =
     let m = b.given + 1 in
     let s = c.index-2.result.now in
     record {
+      idle = tt;
       index =
           subst (Backed c.opened.new.self) (sym (c.reopen.ensures ∙ gone_again c.args.stream c.in_ok-at.at m b.step b.given b.streams s c.self.invariant.numbers p))
           (c.opened.ensures (without_stream c.args.stream b.streams) (again m b.step (get_or b.streams c.in_ok-at.at s)) refl (ap (λ (t : Stream). t.stream.range) (sym c.index-2.ensures) ∙ sym c.range_of.ensures) (c.dropped.ensures b.streams c.self.invariant.index));

@@ -8,12 +8,15 @@ use Rattle.watch_model.proofs.StepTickets.{progressed-keeps}
 use Rattle.watch_queue.specs.Watching.{shown}
 use Rattle.watch_streams.specs.Rows.{Backed}
 use Rattle.watch_streams.proofs.Indexing.{backed_changed}
+use Rattle.watch_streams.specs.Idle.{IsIdle}
+use Rattle.watch_streams.proofs.Idle.{idle-changed}
 use Rattle.watch_merge.proofs.broadcasts.Broadcasts.deliver_progress.Goals as goal
 
 pub invariant_of-self-then-is_up_to : goal.invariant_of-self-then-is_up_to
 invariant_of-self-then-is_up_to c =
     let g = progressed c.args.next c.args.header in
     record {
+      idle = subst (IsIdle c.self.inside.idle) (sym c.advance.ensures) (idle-changed c.self.inside.idle c.args.stream (advanced c.args.header.revision) (λ s. refl) c.self.inside.streams.items c.self.invariant.idle);
       index = subst (Backed c.self.inside.index) (sym c.advance.ensures) (backed_changed c.self.inside.index c.args.stream (advanced c.args.header.revision) (λ s. refl) c.self.inside.streams.items c.self.invariant.index);
       numbers =
           subst (λ (t : List Stream). numbered 0 c.self.inside.given t ≡ true) (sym c.advance.ensures)

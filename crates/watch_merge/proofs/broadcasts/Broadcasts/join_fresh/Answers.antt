@@ -18,6 +18,7 @@ invariant_of-self-2 c =
     let v : Watch = record (shown c.args.watch) { place = place.In (given + 1) } in
     let absent : watch_at c.args.watch.ticket ws ≡ None = ap (λ (b : Broadcasts). watch_at c.args.watch.ticket b.watches) c.self.view_is ∙ c.requires.new in
     record {
+      idle = tt;
       index =
           subst (Backed c.opened.new.self) (sym (c.open.ensures.opened ∙ ap (λ (l : List Stream). l ++ new ∷ []) c.reserve-2.ensures.items))
           (c.opened.ensures ss new refl refl c.self.invariant.index);

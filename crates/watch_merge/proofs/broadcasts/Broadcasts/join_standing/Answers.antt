@@ -16,5 +16,6 @@ invariant_of-self-2 c =
     record {
       numbers = c.self.invariant.numbers;
       index = c.self.invariant.index;
+      idle = c.self.invariant.idle;
       tickets = subst (λ (t : List Watch). tickets_from 0 t ≡ true) (sym (c.insert_watch.ensures ∙ ap (λ l. with_new_watch v (map shown l)) c.reserve.ensures.items)) (tickets-new v 0 ws (omega arith) absent c.self.invariant.tickets);
     }

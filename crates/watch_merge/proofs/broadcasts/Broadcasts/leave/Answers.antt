@@ -13,6 +13,7 @@ invariant_of-self c =
     let emptied =
     subst (λ (t : List Stream). Backed c.self.inside.index t → Backed c.emptied.new.self (emptied_as n c.self.inside.step t (stream_at n t))) c.deref-then-not-has_member.ensures.value (c.emptied.ensures c.self.inside.step) in
     record {
+      idle = tt;
       index = subst (Backed c.emptied.new.self) (sym c.empty.ensures) (emptied c.self.invariant.index);
       numbers =
           subst (λ (t : List Stream). numbered 0 c.self.inside.given t ≡ true) (sym c.empty.ensures)

@@ -20,6 +20,7 @@ invariant_of-self-2 c =
     let tickets = subst (λ (t : List Watch). tickets_from 0 t ≡ true) (sym c.ready_to_leave.ensures.shown) c.self.invariant.tickets in
     let left = c.leave_all-self-inside.ensures in
     record {
+      idle = tt;
       index = c.forget.ensures _;
       numbers = subst (λ (l : Left). numbered 0 l.given l.streams ≡ true) left (left-numbered k.stream k.next k.header k.compact step k.last ss given ws numbers);
       tickets = subst (λ (l : Left). tickets_from 0 l.watches ≡ true) left (left-tickets k.stream k.next k.header k.compact step k.last 0 ss given ws tickets);

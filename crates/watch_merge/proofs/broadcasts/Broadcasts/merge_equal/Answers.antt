@@ -25,6 +25,7 @@ invariant_of-self c =
     let ws = map shown c.self.inside.watches.items in
     let f = merged_stream c.args.range.now ss c.self.inside.step in
     record {
+      idle = tt;
       index = subst (Backed c.self.inside.index) (sym c.close_others.ensures) (backed_same c.self.inside.index ss (map f ss) (rows_map f (merged_row c.args.range.now ss c.self.inside.step) ss) c.self.invariant.index);
       numbers =
           subst (λ (t : List Stream). numbered 0 c.self.inside.given t ≡ true) (sym c.close_others.ensures)

@@ -12,6 +12,7 @@ invariant_of-self c =
     record {
       numbers = c.self.invariant.numbers;
       index = c.self.invariant.index;
+      idle = c.self.invariant.idle;
       tickets =
           subst (λ (t : List Watch). tickets_from 0 t ≡ true) (sym c.split.ensures)
           (tickets-map (watch_changed c.args.ticket f) (changed-keeps_ticket c.args.ticket f (λ w. refl)) 0 (map shown c.self.inside.watches.items) c.self.invariant.tickets);

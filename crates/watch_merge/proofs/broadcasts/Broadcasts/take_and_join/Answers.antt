@@ -26,6 +26,7 @@ invariant_of-self-then-ends c =
     record {
       numbers = c.self.invariant.numbers;
       index = c.self.invariant.index;
+      idle = c.self.invariant.idle;
       tickets = subst (λ (t : List Watch). tickets_from 0 t ≡ true) (sym c.drop_watch.ensures) (tickets-without c.index.result.now.ticket 0 (map shown (set ws c.args.at x)) after);
     }
 
@@ -38,7 +39,7 @@ invariant_of-self-else-ends c =
     let y = c.index_mut.result.now in
     let k : x.ticket ≡ y.ticket = ap (λ (u : Watch). u.ticket) c.in_ok-item.ensures.ok ∙ seated-keeps c.args.last c.args.number c.args.next c.args.created (record (shown y) { queue = drop 1 y.queue.items }) in
     let after = put_tickets ws c.args.at x y (shown x) h l c.index_mut.ensures.value refl k in
-    record { numbers = c.self.invariant.numbers; tickets = after; index = c.self.invariant.index }
+    record { numbers = c.self.invariant.numbers; tickets = after; index = c.self.invariant.index; idle = c.self.invariant.idle }
 
 pub returns-then-ends-clause-ok : goal.returns-then-ends-clause-ok
 returns-then-ends-clause-ok c = λ w e.
@@ -88,7 +89,7 @@ invariant_of-self c =
     let l = bound_of ws c.args.at (subst (λ (b : Broadcasts). c.args.at < length b.watches) (sym c.self.view_is) c.requires.bound) in
     let x = c.take_and_seat.new.watch in
     let k : x.ticket ≡ c.index_mut.result.now.ticket = ap (λ (u : Watch). u.ticket) c.in_err-item.ensures.err in
-    record { numbers = c.self.invariant.numbers; tickets = put_tickets ws c.args.at x c.index_mut.result.now (shown x) c.self.invariant.tickets l c.index_mut.ensures.value refl k; index = c.self.invariant.index }
+    record { numbers = c.self.invariant.numbers; tickets = put_tickets ws c.args.at x c.index_mut.result.now (shown x) c.self.invariant.tickets l c.index_mut.ensures.value refl k; index = c.self.invariant.index; idle = c.self.invariant.idle }
 
 pub returns-in_err-item-clause-err : goal.returns-in_err-item-clause-err
 returns-in_err-item-clause-err c =

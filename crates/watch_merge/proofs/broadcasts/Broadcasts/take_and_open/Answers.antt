@@ -13,6 +13,7 @@ use Rattle.watch_merge.specs.contracts.broadcasts.Broadcasts.{the_view}
 use Rattle.watch_merge.specs.Taking.{taken_to, opened_for}
 use Rattle.watch_merge.proofs.Takings.{put_tickets, is_shown, take_stays, take_goes, bound_of, same_watch}
 use Rattle.watch_streams.specs.Rows.{Backed}
+use Rattle.watch_streams.specs.Idle.{IsIdle}
 use Rattle.watch_merge.proofs.broadcasts.Broadcasts.take_and_open.Goals as goal
 
 pub invariant_of-self-then-ends : goal.invariant_of-self-then-ends
@@ -27,6 +28,7 @@ invariant_of-self-then-ends c =
     record {
       index = subst (Backed c.self.inside.index) (sym c.reserve.ensures.items) c.self.invariant.index;
       numbers = subst (λ (t : List Stream). numbered 0 c.self.inside.given t ≡ true) (sym c.reserve.ensures.items) c.self.invariant.numbers;
+      idle = subst (IsIdle c.self.inside.idle) (sym c.reserve.ensures.items) c.self.invariant.idle;
       tickets = subst (λ (t : List Watch). tickets_from 0 t ≡ true) (sym c.drop_watch.ensures) (tickets-without c.index-watch.result.now.ticket 0 (map shown (set ws c.args.at x)) after);
     }
 
@@ -46,6 +48,7 @@ invariant_of-self-2 c =
       numbers =
           subst (λ (t : List Stream). numbered 0 (given + 1) t ≡ true) (sym (c.open.ensures.opened ∙ ap (λ (l : List Stream). l ++ new ∷ []) c.reserve.ensures.items))
           (numbered-push 0 given ss new (omega arith) refl c.self.invariant.numbers);
+      idle = tt;
       tickets = put_tickets ws c.args.at x c.index_mut.result.now (shown x) c.self.invariant.tickets l c.index_mut.ensures.value refl k;
     }
 

@@ -23,6 +23,7 @@ invariant_of-self-then-ends c =
     record {
       numbers = c.self.invariant.numbers;
       index = c.self.invariant.index;
+      idle = c.self.invariant.idle;
       tickets = subst (λ (t : List Watch). tickets_from 0 t ≡ true) (sym c.drop_watch.ensures) (tickets-without c.index.result.now.ticket 0 (map shown (set ws c.args.at x)) after);
     }
 
@@ -35,7 +36,7 @@ invariant_of-self-else-ends c =
     let y = c.index_mut.result.now in
     let k : x.ticket ≡ y.ticket = ap (λ (u : Watching). u.ticket) c.in_ok-item.ensures.ok in
     let after = put_tickets ws c.args.at x y (shown x) h l c.index_mut.ensures.value refl k in
-    record { numbers = c.self.invariant.numbers; tickets = after; index = c.self.invariant.index }
+    record { numbers = c.self.invariant.numbers; tickets = after; index = c.self.invariant.index; idle = c.self.invariant.idle }
 
 pub returns-then-ends-clause-ok : goal.returns-then-ends-clause-ok
 returns-then-ends-clause-ok c = λ w e.

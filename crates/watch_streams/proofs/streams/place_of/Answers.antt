@@ -1,7 +1,7 @@
 use Rattle.std.proofs.Common.{◌≡◌, ◌<◌, ℕ, length, arith, rules}
 use Rattle.watch_streams.proofs.Halving.{none_at_end, none_at_sooner, at_sooner}
-use Rattle.watch_streams.proofs.streams.place_by_number.Goals as goal
-use Rattle.watch_streams.proofs.streams.place_by_number.Goals.{then-at-streams-via-then-at-streams, then-at-streams-via-else-at-streams+then-streams-at}
+use Rattle.watch_streams.proofs.streams.place_of.Goals as goal
+use Rattle.watch_streams.proofs.streams.place_of.Goals.{then-at-streams-via-then-at-streams, then-at-streams-via-else-at-streams+then-streams-at}
 
 pub returns-then-at-streams-clause-none : goal.returns-then-at-streams-clause-none
 returns-then-at-streams-clause-none c =
