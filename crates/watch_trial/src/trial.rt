@@ -116,6 +116,22 @@ impl Trial {
             let steps = read_number(words)?;
             self.run_random(seed, steps)
         } else {
+            self.take_numbers(name, words)
+        }
+    }
+
+    /// A step of the proxy begins, or the next stream number is taken for a stream that isn't a client's.
+    fn take_numbers(&mut self, name: &[u8], words: &mut Words) -> Result<(), Wrong> {
+        if is_word(name, "begin") {
+            let step = read_number(words)?;
+            self.watches.begin_step(step);
+            self.tell_done(Ok(()))
+        } else if is_word(name, "number") {
+            self.check_numbers()?;
+            let number = self.watches.take_number();
+            write!(self.told, "{number}")?;
+            Ok(())
+        } else {
             Err(Wrong::Word)
         }
     }
