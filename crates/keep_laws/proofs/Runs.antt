@@ -151,7 +151,7 @@ fresh_ok settings xs x ticket q word e y t r s = λ lease is.
       at = silent_known settings (xs ++ x ∷ []) y.ticket lease y.stage silent;
     }
 
-out_is : (call : ℕ) (s : Stage) → is_out_stage call s ≡ true → s ≡ stage.Grouped (Some (sending.Out call))
+pub out_is : (call : ℕ) (s : Stage) → is_out_stage call s ≡ true → s ≡ stage.Grouped (Some (sending.Out call))
 out_is call (stage.Grouped (Some (sending.Out n))) h = ap (λ (m : ℕ). stage.Grouped (Some (sending.Out m))) (same_number n call h)
 out_is call (stage.Grouped (Some (sending.Due since))) h = absurd (cc)
 out_is call (stage.Grouped None) h = absurd (cc)
@@ -180,7 +180,7 @@ told_ok settings xs x call a e row reply h k out r = λ lease is.
       };
     }
 
-lease_is : (lease n : ℕ) (q : Request) → keeps lease q ≡ true → q ≡ request.KeepAlive n → n ≡ lease
+pub lease_is : (lease n : ℕ) (q : Request) → keeps lease q ≡ true → q ≡ request.KeepAlive n → n ≡ lease
 lease_is lease n q k e = same_number n lease (sym (ap (keeps lease) e) ∙ k)
 
 sent_ok : (settings : Settings) (xs : List Timed) (x : Timed) (c : Core) → c ≡ ran (first_core settings) xs → x.event ≡ event.Work → (s : Stepped) → ((o : Outcome) → s.outcome ≡ Ok o → (stepped c event.Work x.now).outcome ≡ Ok o)
@@ -246,7 +246,7 @@ rows_from settings done (x ∷ xs) c is s h b t =
     let rest = rows_from settings (done ++ x ∷ []) xs (after c x) (ap (λ (d : Core). after d x) is ∙ sym (ran-append (first_core settings) done (x ∷ []))) ((steps_stay c x.event x.now).settings ∙ s) (steps_keep c x.event x.now b.0 h) b.1 k in
     subst (λ (l : List Timed). All (Row settings l) (ran (after c x) xs).asks) (append_assoc done (x ∷ []) xs) rest
 
-found : (P : Asked → Type 0) (ticket : ℕ) (xs : List Asked) (a : Asked) → ask_at ticket xs ≡ Some a → All P xs → (P a) × ((a.ticket == ticket) ≡ true)
+pub found : (P : Asked → Type 0) (ticket : ℕ) (xs : List Asked) (a : Asked) → ask_at ticket xs ≡ Some a → All P xs → (P a) × ((a.ticket == ticket) ≡ true)
 found P ticket [] a e t = absurd (cc)
 found P ticket (x ∷ xs) a e t = by_head (λ u. found P ticket xs a u t.1) (x.ticket == ticket) refl e
   where

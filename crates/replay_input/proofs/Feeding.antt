@@ -6,11 +6,13 @@ use Rattle.std.proofs.KnownBytes.{Appends-trans}
 use Rattle.std.specs.Io.KnownBytes.{Appends}
 use Rattle.outside.specs.Streams.{WritesFront}
 use Rattle.replay_model.specs.Endings.{is_open}
-use Rattle.replay_model.specs.Progress.{Progress}
+use Rattle.replay_model.specs.Progress.{Progress, progress}
 use Rattle.replay_model.specs.Transcript.{transcript_text}
 use Rattle.replay_model.proofs.Growing.{is_open-true, progress_grows, progress_stays, passed_more, passed_adds_nothing}
 use Rattle.replay_model.specs.declared.ending.Ending.{Ending}
 use Rattle.replay_model.specs.declared.ending.Ending.TheVariants as ending
+use Rattle.renewed_laws.specs.Renewals.{AnswersShowBytes}
+use Rattle.script_text.specs.declared.item.Item.{Item}
 use Rattle.replay_input.specs.Replay.{Follows, Writes, HasRefused, TakesByte, Fed, Stopped, Feeds, text_so_far}
 use Rattle.replay_input.specs.declared.replay.Replay.{Replay}
 
@@ -69,10 +71,10 @@ refused_more ending.Open bytes more h = absurd h
 refused_more (ending.Refused number refusal) bytes more h = ap (λ (p : Progress). p.ending) (progress_stays bytes more (ap is_open h)) ∙ h
 refused_more ending.PastLimit bytes more h = passed_more bytes more h
 
-text_stays : (e : Ending) (bytes more : List ℕ) → HasRefused bytes e → text_so_far (bytes ++ more) ≡ text_so_far bytes
-text_stays ending.Open bytes more h = absurd h
-text_stays (ending.Refused number refusal) bytes more h = ap (λ (p : Progress). transcript_text p.items) (progress_stays bytes more (ap is_open h))
-text_stays ending.PastLimit bytes more h = ap transcript_text (passed_adds_nothing bytes more h)
+items_stay : (e : Ending) (bytes more : List ℕ) → HasRefused bytes e → (progress (bytes ++ more)).items ≡ (progress bytes).items
+items_stay ending.Open bytes more h = absurd h
+items_stay (ending.Refused number refusal) bytes more h = ap (λ (p : Progress). p.items) (progress_stays bytes more (ap is_open h))
+items_stay ending.PastLimit bytes more h = passed_adds_nothing bytes more h
 
 feeds_by : {C : _} {g : _} (start written : Option (List ℕ)) (new : Replay C g) (bytes : List ℕ) (e : Ending) → Stopped start written new bytes e → Feeds start written new bytes e
 feeds_by start written new bytes ending.Open s = absurd s.refused
@@ -96,7 +98,8 @@ refused_at start written old new bytes piece i byte e within is closed f t =
     writes_more new.pending.items (text_so_far cut) t.added f.writes t.pending t.text in
     subst (λ (bs : List ℕ). Feeds start written new bs e) all (feeds_by start written new (cut ++ more) e (record {
       refused = refused_more e cut more refused;
-      writes = subst (Writes start written new.pending.items) (sym (text_stays e cut more refused)) written_of_cut;
+      writes = subst (λ (items : List Item). Writes start written new.pending.items (transcript_text items)) (sym (items_stay e cut more refused)) written_of_cut;
+      shown = subst AnswersShowBytes (sym (items_stay e cut more refused)) t.shown;
     }))
 
 -- what stands written is of a front of the bytes, and so of all

@@ -9,6 +9,7 @@ use Rattle.replay_model.specs.declared.ending.Ending.{Ending}
 use Rattle.replay_model.specs.declared.ending.Ending.TheVariants as ending
 use Rattle.replay_model.proofs.Progresses.{on_open, progress-append_one, finished-whole, finished-begun}
 use Rattle.replay_model.proofs.ScriptLines.{begun_line-append_one}
+use Rattle.renewed_laws.specs.Renewals.{AnswersShowBytes}
 use Rattle.replay_input.specs.Replay.{Follows, HasRefused, TakesByte, TakesEnd}
 use Rattle.replay_input.specs.Script.{Adds, Stands, IsReady}
 use Rattle.replay_input.specs.declared.replay.Replay.{Replay}
@@ -46,6 +47,7 @@ takes_feed old new bytes byte e f feed a cleared =
       added = a.added;
       text = ap (λ (p : Progress). transcript_text p.items) goes ∙ a.text;
       pending = a.out;
+      shown = subst (λ (p : Progress). AnswersShowBytes p.items) (sym goes) a.shown;
     }
 
 progress_stays : (bytes : List ℕ) (byte : ℕ) → byte == line_feed ≡ false → progress (bytes ++ byte ∷ []) ≡ progress bytes
@@ -76,6 +78,7 @@ takes_other old new bytes byte f other script line pending within =
       added = [];
       text = ap (λ (p : Progress). transcript_text p.items) goes ∙ sym (append-nil (transcript_text (progress bytes).items));
       pending = pending ∙ sym (append-nil old.pending.items);
+      shown = subst (λ (p : Progress). AnswersShowBytes p.items) (sym goes) f.stands.shown;
     }
 
 is_begun : (line : List ℕ) (byte : ℕ) → is_empty (line ++ byte ∷ []) ≡ false
@@ -102,6 +105,7 @@ takes_too_much old new bytes byte f other line pending past =
       added = [];
       text = ap (λ (p : Progress). transcript_text p.items) goes ∙ sym (append-nil (transcript_text (progress bytes).items));
       pending = pending ∙ sym (append-nil old.pending.items);
+      shown = subst (λ (p : Progress). AnswersShowBytes p.items) (sym goes) f.stands.shown;
     }
 
 -- the end of the input, where no line has begun
@@ -114,6 +118,7 @@ ends_whole old new bytes f none pending =
       added = [];
       text = ap (λ (p : Progress). transcript_text p.items) there ∙ sym (append-nil (transcript_text (progress bytes).items));
       pending = pending ∙ sym (append-nil old.pending.items);
+      shown = subst (λ (p : Progress). AnswersShowBytes p.items) (sym there) f.stands.shown;
     }
   where
     is_nothing : (line : List ℕ) → is_empty line ≡ true → line ≡ []
@@ -134,6 +139,7 @@ ends_begun old new bytes e f some a =
       added = a.added;
       text = ap (λ (p : Progress). transcript_text p.items) there ∙ a.text;
       pending = a.out;
+      shown = subst (λ (p : Progress). AnswersShowBytes p.items) (sym there) a.shown;
     }
 
 pub not_equal : (b n : ℕ) → (b ≡ n → ⊥) → b == n ≡ false

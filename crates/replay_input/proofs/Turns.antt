@@ -1,5 +1,5 @@
 -- A turn of the replay, at each of its ends.
-use Rattle.std.proofs.Common.{◌≡◌, ◌≢◌, ◌≤◌, ◌<◌, ◌^◌, ◌+◌, ℕ, Bool, true, false, List, [], ◌++◌, length, take, Result, Ok, Err, IfOk, IfErr, inl, inr, refl, sym, ◌∙◌, ap, subst, append_assoc, append-nil, length-append, arith}
+use Rattle.std.proofs.Common.{◌≡◌, ◌≢◌, ◌≤◌, ◌<◌, ◌^◌, ℕ, Bool, true, false, List, [], ◌++◌, length, take, Result, Ok, Err, IfOk, IfErr, inl, inr, refl, sym, ◌∙◌, ap, subst, append_assoc, append-nil, arith}
 use Rattle.std.specs.Prelude.{Option}
 use Rattle.std.proofs.KnownBytes.{Consumes-trans, Consumes-kept, Consumes-nil, Appends-nil}
 use Rattle.std.specs.Io.KnownBytes.{Appends, Consumes, Keeps, IsAtEnd}
@@ -17,7 +17,11 @@ use Rattle.replay_model.specs.declared.ending.Ending.{Ending}
 use Rattle.replay_model.specs.declared.ending.Ending.TheVariants as ending
 use Rattle.replay_model.specs.declared.limits.TheConstants.{MOST_BYTES, MOST_LINES}
 use Rattle.received_laws.proofs.Receiving.{receives}
+use Rattle.renewed_laws.specs.Renewals.{AnswersShowBytes, KeepalivesRenew}
+use Rattle.renewed_laws.proofs.Lines.{keepalives_renew}
 use Rattle.script_text.specs.declared.line.Line.{Line}
+use Rattle.text_laws.specs.Texts.{AreRead}
+use Rattle.text_laws.proofs.ReadLines.{progress_read, finished_read, have_texts}
 use Rattle.replay_model.proofs.FewLines.{progress_few, finished_few}
 use Rattle.replay_model.proofs.Growing.{is_open-true, finished_grows, finished_stays, finished_passed, refused_adds_nothing}
 use Rattle.replay_model.proofs.Transcripts.{progress_has, finished_has, items_are}
@@ -33,20 +37,24 @@ use Rattle.replay_input.proofs.Feeding.{kept_follows}
 few_lines : (lines : List Line) → length lines ≤ MOST_LINES → length lines < 2 ^ 60
 few_lines lines few = omega (arith, few)
 
-is_true : (p : Progress) → p.items ≡ transcript p.lines → length p.lines ≤ MOST_LINES → IsTrueTranscript p
-is_true p is few = record {
+is_true : (p : Progress) → p.items ≡ transcript p.lines → AreRead 1 p.lines → length p.lines ≤ MOST_LINES → AnswersShowBytes p.items → IsTrueTranscript p
+is_true p is read few shown = record {
   items = is;
   answers = subst AnswersAreTheStores (sym is) (answers_are_the_stores p.lines);
   messages = subst MessagesAreTheStores (sym is) (messages_are_the_stores p.lines);
   watches = subst WatchesReceive (sym is) (receives p.lines (few_lines p.lines few));
+  renewals = subst KeepalivesRenew (sym is) (keepalives_renew p.lines (subst AnswersShowBytes is shown));
+  texts = have_texts p is read few;
 }
 
 -- what the lines of a script gain is a true transcript, whether a last line without line feed counts or not
-finished_true : (bytes : List ℕ) → IsTrueTranscript (finished bytes)
-finished_true bytes = is_true (finished bytes) (items_are (finished bytes) (finished_has bytes)) (finished_few bytes)
+finished_true : (bytes : List ℕ) → AnswersShowBytes (finished bytes).items → IsTrueTranscript (finished bytes)
+finished_true bytes shown =
+    is_true (finished bytes) (items_are (finished bytes) (finished_has bytes)) (finished_read bytes) (finished_few bytes) shown
 
-progress_true : (bytes : List ℕ) → IsTrueTranscript (progress bytes)
-progress_true bytes = is_true (progress bytes) (items_are (progress bytes) (progress_has bytes)) (progress_few bytes)
+progress_true : (bytes : List ℕ) → AnswersShowBytes (progress bytes).items → IsTrueTranscript (progress bytes)
+progress_true bytes shown =
+    is_true (progress bytes) (items_are (progress bytes) (progress_has bytes)) (progress_read bytes) (progress_few bytes) shown
 
 -- where nothing is pending, all is written
 pub all_written : (start written : Option (List ℕ)) (pending text : List ℕ) → Writes start written pending text → pending ≡ [] → Appends start written text
@@ -89,7 +97,7 @@ read_failed left start l l' written replay read h k = record {
   read = read;
   consumed = Consumes-kept left l l' read h.consumed k;
   writes = all_written start written [] (text_so_far read) h.writes refl;
-  headline = progress_true read;
+  headline = progress_true read h.follows.stands.shown;
 }
 
 -- the input ended, and the last line couldn't be taken or written
@@ -141,7 +149,7 @@ refused_last left start l' written read e none c at_end f = record {
   ended = ap (λ (bs : List ℕ). (finished bs).ending) (append-nil read) ∙ f.ended;
   whole = is_whole_at_end e l' (read ++ []) at_end;
   writes = subst (λ (bs : List ℕ). Appends start written (text_of bs)) (sym (append-nil read)) f.writes;
-  headline = finished_true (read ++ []);
+  headline = finished_true (read ++ []) (subst (λ (bs : List ℕ). AnswersShowBytes (finished bs).items) (sym (append-nil read)) f.shown);
 }
 
 -- the input ended
@@ -153,7 +161,7 @@ finishes_by left start l' written read ending.Open none c at_end f = record {
   at_end = at_end;
   ended = f.ended;
   writes = f.writes;
-  headline = finished_true read;
+  headline = finished_true read f.shown;
 }
 finishes_by left start l' written read (ending.Refused number refusal) none c at_end f =
     refused_last left start l' written read (ending.Refused number refusal) none c at_end f
@@ -201,8 +209,8 @@ goes_on left start l l' mid old written replay new last read piece e h c o f m s
     }
 
 refused_by : (left start l' written : Option (List ℕ)) (read piece : List ℕ) (e : Ending) → NoneIsRefused read → length piece ≤ most_at_once → Consumes left l' (read ++ piece)
-    → is_open e ≡ false → HasRefused (read ++ piece) e → Appends start written (text_so_far (read ++ piece)) → Refuses left l' start written e
-refused_by left start l' written read piece e none small c closed refused w = record {
+    → is_open e ≡ false → HasRefused (read ++ piece) e → AnswersShowBytes (progress (read ++ piece)).items → Appends start written (text_so_far (read ++ piece)) → Refuses left l' start written e
+refused_by left start l' written read piece e none small c closed refused shown w = record {
   before = read;
   piece = piece;
   consumed = c;
@@ -211,7 +219,7 @@ refused_by left start l' written read piece e none small c closed refused w = re
   ended = has_ended e (read ++ piece) refused;
   whole = is_whole e l' (read ++ piece) refused;
   writes = subst (Appends start written) (sym (text_of_refused e (read ++ piece) closed (has_ended e (read ++ piece) refused))) w;
-  headline = finished_true (read ++ piece);
+  headline = finished_true (read ++ piece) (subst AnswersShowBytes (sym (refused_adds_nothing (read ++ piece) (ap is_open (has_ended e (read ++ piece) refused) ∙ closed))) shown);
 }
 
 -- a line of the piece is refused
@@ -219,9 +227,9 @@ refused_piece : {C : _} {g : _} (left start l' mid written : Option (List ℕ)) 
     → Consumes left l' (read ++ piece) → is_open e ≡ false → Feeds start mid new (read ++ piece) e → Appends start written (text_so_far (read ++ piece)) → Replays left l' start written e
 refused_piece left start l' mid written new read piece ending.Open none small c o f w = absurd (cc)
 refused_piece left start l' mid written new read piece (ending.Refused number refusal) none small c o f w =
-    refused_by left start l' written read piece (ending.Refused number refusal) none small c o f.refused w
+    refused_by left start l' written read piece (ending.Refused number refusal) none small c o f.refused f.shown w
 refused_piece left start l' mid written new read piece ending.PastLimit none small c o f w =
-    refused_by left start l' written read piece ending.PastLimit none small c o f.refused w
+    refused_by left start l' written read piece ending.PastLimit none small c o f.refused f.shown w
 
 pub refuses : {C : _} {g : _} (left start l l' mid old written : Option (List ℕ)) (replay new last : Replay C g) (read piece : List ℕ) (e : Ending) → Has left start l old replay read
     → length piece ≤ most_at_once → Consumes l l' piece → is_open e ≡ false → Feeds start mid new (read ++ piece) e → Moves mid written new.pending.items last.pending.items

@@ -6,6 +6,7 @@ use Rattle.replay_model.specs.Endings.{is_open}
 use Rattle.replay_model.specs.Progress.{progress, finished, passes_limit, HasPassed}
 use Rattle.replay_model.specs.Script.{begun_line}
 use Rattle.replay_model.specs.Transcript.{transcript_text}
+use Rattle.renewed_laws.specs.Renewals.{AnswersShowBytes}
 use Rattle.replay_model.specs.declared.ending.Ending.{Ending}
 use Rattle.replay_model.specs.declared.ending.Ending.TheVariants.{Open, Refused, PastLimit}
 use Rattle.outside.specs.Streams.{WritesFront}
@@ -55,6 +56,7 @@ pub record TakesByte {C : _} {g : _} (old new : Replay C g) (bytes : List ℕ) (
   pub added : List ℕ
   pub text : text_so_far (bytes ++ byte ∷ []) ≡ text_so_far bytes ++ added
   pub pending : new.pending.items ≡ old.pending.items ++ added
+  pub shown : AnswersShowBytes (progress (bytes ++ byte ∷ [])).items
 
 -- what the end of the input adds: a last line without line feed is taken
 pub record TakesEnd {C : _} {g : _} (old new : Replay C g) (bytes : List ℕ) (ending : Ending) : Type 0 where
@@ -62,6 +64,7 @@ pub record TakesEnd {C : _} {g : _} (old new : Replay C g) (bytes : List ℕ) (e
   pub added : List ℕ
   pub text : text_of bytes ≡ text_so_far bytes ++ added
   pub pending : new.pending.items ≡ old.pending.items ++ added
+  pub shown : AnswersShowBytes (finished bytes).items
 
 -- these bytes were taken, and of their lines' text the rest is pending
 pub record Fed {C : _} {g : _} (start written : Option (List ℕ)) (new : Replay C g) (bytes : List ℕ) : Type 0 where
@@ -72,6 +75,7 @@ pub record Fed {C : _} {g : _} (start written : Option (List ℕ)) (new : Replay
 pub record Stopped {C : _} {g : _} (start written : Option (List ℕ)) (new : Replay C g) (bytes : List ℕ) (ending : Ending) : Type 0 where
   pub refused : HasRefused bytes ending
   pub writes : Writes start written new.pending.items (text_so_far bytes)
+  pub shown : AnswersShowBytes (progress bytes).items
 
 abbrev pub Feeds : {C : _} {g : _} → Option (List ℕ) → Option (List ℕ) → Replay C g → List ℕ → Ending → Type 0
 Feeds start written new bytes Open = Fed start written new bytes
@@ -94,3 +98,4 @@ taken_of replay = replay.script.bytes + length replay.line.items
 pub record Finishes (start written : Option (List ℕ)) (bytes : List ℕ) (ending : Ending) : Type 0 where
   pub ended : (finished bytes).ending ≡ ending
   pub writes : Appends start written (text_of bytes)
+  pub shown : AnswersShowBytes (finished bytes).items

@@ -5,9 +5,11 @@ use Rattle.replay_model.specs.Progress.{Progress, finished, progress}
 use Rattle.world_model.specs.Answers.{AnswersAreTheStores, MessagesAreTheStores}
 use Rattle.world_model.specs.Received.{WatchesReceive}
 use Rattle.world_model.specs.Transcript.{transcript}
+use Rattle.text_laws.specs.Texts.{HaveTextsAsMade}
 use Rattle.replay_model.specs.declared.ending.Ending.{Ending}
 use Rattle.replay_model.specs.declared.ending.Ending.TheVariants.{Open, Refused}
 use Rattle.outside.specs.Streams.{WritesFront}
+use Rattle.renewed_laws.specs.Renewals.{KeepalivesRenew}
 use Rattle.replay_input.specs.Replay.{Follows, BeginsWithin, Writes, text_of, text_so_far}
 use Rattle.replay_input.specs.declared.replay.Replay.{Replay}
 use Rattle.replay_input.specs.declared.stop.Stop.{Stop}
@@ -19,12 +21,16 @@ most_at_once = 65536
 
 -- The items are the transcript of the lines taken. Each of its answers is the store's, and so is each message of a stream; and at each
 -- step each watch has received, each once and in order, a front of the history's events that it asked for from its start, then possibly
--- a cancellation naming the compaction.
+-- a cancellation naming the compaction. Each ok reply to a client's keepalive is the answer of an executed keepalive of that lease that
+-- its proxy sent after the request was asked. Each item has a text, and is read from it, exactly where what a
+-- proxy or the store made of it has.
 pub record IsTrueTranscript (p : Progress) : Type 0 where
   pub items : p.items ≡ transcript p.lines
   pub answers : AnswersAreTheStores p.items
   pub messages : MessagesAreTheStores p.items
   pub watches : WatchesReceive p.items
+  pub renewals : KeepalivesRenew p.items
+  pub texts : HaveTextsAsMade p.items
 
 -- the script was read to its end, none of its lines is refused, and its transcript is written
 pub record ReadsAll (left left' written written' : Option (List ℕ)) : Type 0 where

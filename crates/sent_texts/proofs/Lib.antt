@@ -1,0 +1,9 @@
+pub mod Unwraps
+pub mod Requests
+pub mod Keys
+pub mod Owned
+pub mod Reading
+pub mod Watching
+pub mod Cores
+pub mod Jobs
+pub mod Steps

@@ -1,0 +1,5 @@
+pub mod Histories
+pub mod Runs
+pub mod Steps
+pub mod Messages
+pub mod Others

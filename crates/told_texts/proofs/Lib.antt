@@ -1,0 +1,5 @@
+pub mod Lists
+pub mod Spoken
+pub mod Asked
+pub mod Growth
+pub mod Closed
