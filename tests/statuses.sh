@@ -23,7 +23,7 @@ comes_to() {
     fi
 }
 
-usage='usage: etcd_proxy replay\n'
+usage='usage: etcd_proxy replay [--generate N]\n'
 comes_to '' 'replay' 0 '' ''
 comes_to 'world 1 ~ ~\nstart 1' 'replay' 0 'world 1 ~ ~\nstarted 1\n' ''
 comes_to '' '--version' 0 'etcd_proxy 0.1.0\n' ''
@@ -32,7 +32,13 @@ comes_to 'world 1 ~ ~\r\n' 'replay' 1 '' 'line 1: BadLine 4\n'
 comes_to 'world 1 ~ ~\nsend 7\n' 'replay' 1 'world 1 ~ ~\n' 'line 2: NoSuchProxy 7\n'
 comes_to 'world 1 ~ ~\nstart 1\nclock 1 5\nclock 1 4\n' 'replay' 1 'world 1 ~ ~\nstarted 1\nclock 1 5\n' 'line 4: ClockBack 5 4\n'
 comes_to 'world 10 ~ ~\n' 'replay' 1 '' 'line 1: BadLine 2\n'
+comes_to '' 'replay --generate 1' 0 'asked 1\nreplied 1\nunsent 0\nrevision 1\n' ''
 comes_to '' '' 2 '' "$usage"
+comes_to '' 'replay --generate' 2 '' "$usage"
+comes_to '' 'replay --generate 0' 2 '' "$usage"
+comes_to '' 'replay --generate 01' 2 '' "$usage"
+comes_to '' 'replay --generate 20001' 2 '' "$usage"
+comes_to '' 'replay --generate 1 1' 2 '' "$usage"
 comes_to '' 'replay x' 2 '' "$usage"
 comes_to '' "$(printf '\377')" 2 '' "$usage"
 

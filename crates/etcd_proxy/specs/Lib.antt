@@ -1,3 +1,4 @@
+pub mod Generated
 pub mod Run
 pub mod Texts
 pub mod Words

@@ -1,9 +1,12 @@
 -- The words of the command line.
-use Rattle.std.specs.Prelude.{if◌then◌else◌, List, [], ◌∷◌, ℕ, Option, None, Some, String, codes, bytes_eq}
+use Rattle.std.specs.Prelude.{◌≤◌, ◌&&◌, if◌then◌else◌, List, [], ◌∷◌, ℕ, Option, None, Some, String, codes, bytes_eq, decimal}
+use Rattle.std.specs.Str.Parse.{digits_value}
 use Rattle.std.specs.String.{string_bytes}
 use Rattle.std.specs.declared.alloc.Global.{Global}
+use Rattle.text_model.specs.Forms.{respelled}
+use Rattle.text_model.specs.Words.{is_within}
 use Rattle.etcd_proxy.specs.declared.words.Command.{Command}
-use Rattle.etcd_proxy.specs.declared.words.Command.TheVariants.{Replay, Help, Version}
+use Rattle.etcd_proxy.specs.declared.words.Command.TheVariants.{Replay, Generate, Help, Version}
 
 abbrev pub named : List ℕ → Option Command
 named name =
@@ -12,7 +15,24 @@ named name =
     else if bytes_eq name (codes "--version") then Some Version
     else None
 
--- one word, which names the command
+abbrev pub generates : Option ℕ → Option Command
+generates None = None
+generates (Some number) = Some (Generate number)
+
+-- `replay --generate N`, where N is canonical decimal from 1 to 20,000
+abbrev pub named_with : List ℕ → List ℕ → List ℕ → Option Command
+named_with name option value =
+    if bytes_eq name (codes "replay") && bytes_eq option (codes "--generate")
+    then generates (respelled decimal (digits_value 10) (is_within 1 20000) value)
+    else None
+
+-- one word, which names the command, or a command with an option and its value
 abbrev pub command_of : List (String Global) → Option Command
 command_of (word ∷ []) = named (string_bytes word)
+command_of (name ∷ option ∷ value ∷ []) = named_with (string_bytes name) (string_bytes option) (string_bytes value)
 command_of _ = None
+
+-- a script is generated from a number up to 20,000
+abbrev pub IsInRange : Command → Type 0
+IsInRange (Generate number) = number ≤ 20000
+IsInRange _ = Unit {0}

@@ -1,7 +1,9 @@
-ghost use Rattle.std.specs.Prelude.{◌≡◌, ◌≢◌, ◌↔◌, Some, None, Err, IfOk, codes};
+ghost use Rattle.std.specs.Prelude.{◌≡◌, ◌≢◌, ◌≤◌, ◌↔◌, ℕ, Some, None, Err, IfOk, codes};
 ghost use Rattle.std.specs.Io.KnownBytes.{Appends};
 ghost use Rattle.outside.specs.Faults.{Rose};
 ghost use Rattle.outside.specs.Streams.{WritesFront};
+ghost use Rattle.replay_generated.specs.declared.summary.Summary.{Summary as Counts};
+ghost use Rattle.etcd_proxy.specs.Generated.{Generates, IsSummaryOf, summary_text};
 ghost use Rattle.etcd_proxy.specs.Run.{Runs, Tells, Prints, IsWholeScript, status_of, text_of_status, refused_text};
 ghost use Rattle.etcd_proxy.specs.Texts.{usage_text, help_text, version_text};
 ghost use Rattle.etcd_proxy.specs.Words.{command_of};
@@ -10,19 +12,22 @@ use crate::words::{Command, NoWords, command_of};
 use etcd_types::NoMemory;
 use outside::{Failed, Sink, Source, write_whole};
 use proxy_core::Core;
+use replay_generated::{Summary, generated};
 use replay_input::{Ending, LineRefusal, Stop, replay_script};
 use std::alloc::Global;
 
-const USAGE: &[u8] = b"usage: etcd_proxy replay\n";
+const USAGE: &[u8] = b"usage: etcd_proxy replay [--generate N]\n";
 
 const HELP: &[u8] = b"\
 etcd_proxy replays scripted schedules of etcd proxies over a small store.
 
 usage: etcd_proxy replay < SCRIPT
+       etcd_proxy replay --generate N
 
-  replay      reads a script from the input and writes its transcript to the output
-  --help      shows this
-  --version   shows the version
+  replay         reads a script from the input and writes its transcript to the output
+  --generate N   replays the script that is generated from N, 1 to 20000, and writes counts of its transcript
+  --help         shows this
+  --version      shows the version
 ";
 
 const VERSION: &[u8] = b"etcd_proxy 0.1.0\n";
@@ -64,6 +69,11 @@ pub fn run<S: Source, K: Sink, E: Sink>(
     // it from its end.
     ensures complete { command_of words.now ≡ Some Command.Replay → IsWholeScript (S.left input.old) → (result ≢ 1) × (result ≢ 6) }
 
+    // The counts of a generated script's transcript are written.
+    ensures generates { (number : ℕ) → command_of words.now ≡ Some (Command.Generate number)
+        → Generates (K.written output.old) (K.written output.new) (K.faults output.old) (K.faults output.new)
+        (E.written errors.old) (E.written errors.new) (E.faults errors.old) (E.faults errors.new) number result }
+
     ensures read_fault { result ≡ 3 → Rose (S.faults input.old) (S.faults input.new) }
     ensures write_fault { result ≡ 4 → Rose (K.faults output.old) (K.faults output.new) }
 {
@@ -75,6 +85,7 @@ pub fn run<S: Source, K: Sink, E: Sink>(
         Some(Command::Help) => print(output, errors, HELP),
         Some(Command::Version) => print(output, errors, VERSION),
         Some(Command::Replay) => replay(alloc, input, output, errors),
+        Some(Command::Generate(number)) => generate(alloc, number, output, errors),
     }
 }
 
@@ -122,6 +133,47 @@ fn replay<S: Source, K: Sink, E: Sink>(
             5
         }
     }
+}
+
+/// Writes the counts of the script that is generated from this number.
+fn generate<K: Sink, E: Sink>(alloc: Global, number: u64, output: &mut K, errors: &mut E) -> u8
+    requires { number ≤ 20000 }
+    ensures generates { Generates (K.written output.old) (K.written output.new) (K.faults output.old) (K.faults output.new)
+        (E.written errors.old) (E.written errors.new) (E.faults errors.old) (E.faults errors.new) number result }
+    ensures no_usage { result ≢ 2 }
+    ensures no_read_fault { result ≢ 3 }
+    ensures write_fault { result ≡ 4 → Rose (K.faults output.old) (K.faults output.new) }
+{
+    match counted(alloc, number) {
+        Ok(text) => print(output, errors, text.as_slice()),
+        Err(NoMemory) => {
+            tell(errors, b"no memory\n");
+            5
+        }
+    }
+}
+
+fn counted(alloc: Global, number: u64) -> Result<Vec<u8>, NoMemory>
+    requires { number ≤ 20000 }
+    ensures { IfOk result (λ text. (counts : Counts) × IsSummaryOf number counts × (text.items ≡ summary_text counts)) }
+{
+    let summary = generated::<Core>(alloc, number)?;
+    Ok(summary_text(alloc, &summary)?)
+}
+
+fn summary_text(alloc: Global, summary: &Summary) -> Result<Vec<u8>, NoMemory>
+    ensures { IfOk result (λ text. text.items ≡ summary_text summary.now) }
+{
+    let Summary {
+        asked,
+        replied,
+        unsent,
+        revision,
+    } = *summary;
+    let text = format!(in alloc;
+        "asked {asked}\nreplied {replied}\nunsent {unsent}\nrevision {revision}\n"
+    )?;
+    Ok(text.into_bytes())
 }
 
 /// Writes a text to the output.

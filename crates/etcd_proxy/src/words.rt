@@ -1,10 +1,17 @@
-ghost use Rattle.std.specs.Prelude.{◌≡◌};
-ghost use Rattle.etcd_proxy.specs.Words.{command_of, named};
+ghost use Rattle.std.specs.Prelude.{◌≡◌, IfSome};
+ghost use Rattle.etcd_proxy.specs.Words.{command_of, named, named_with, IsInRange};
+
+use text_words::number_of;
+
+/// The greatest number that a script is generated from.
+const MOST: u64 = 20_000;
 
 /// What the words of the command line ask for.
 #[derive(Clone, Copy, Debug, PartialEq, Eq)]
 pub(crate) enum Command {
     Replay,
+    /// The script of this number, from 1 to 20,000, is generated and replayed.
+    Generate(u64),
     Help,
     Version,
 }
@@ -19,16 +26,33 @@ pub(crate) enum NoWords {
 
 /// What these words ask for, or nothing where they are none of the forms.
 pub(crate) fn command_of(words: &[String]) -> Option<Command>
-    ensures { result ≡ command_of words.now }
+    ensures command { result ≡ command_of words.now }
+    ensures range { IfSome result IsInRange }
 {
     match words {
         [word] => named(word.as_str()),
+        [name, option, value] => named_with(name.as_str(), option.as_str(), value.as_str()),
         _ => None,
     }
 }
 
+fn named_with(name: &str, option: &str, value: &str) -> Option<Command>
+    ensures command { result ≡ named_with name.now option.now value.now }
+    ensures range { IfSome result IsInRange }
+{
+    if name == "replay" && option == "--generate" {
+        match number_of(value.as_bytes(), 1, MOST) {
+            Some(number) => Some(Command::Generate(number)),
+            None => None,
+        }
+    } else {
+        None
+    }
+}
+
 fn named(word: &str) -> Option<Command>
-    ensures { result ≡ named word.now }
+    ensures command { result ≡ named word.now }
+    ensures range { IfSome result IsInRange }
 {
     if word == "replay" {
         Some(Command::Replay)

@@ -1,0 +1,6 @@
+-- All streams.
+use Rattle.replay_generated.proofs.Makings.{pushes_all}
+use Rattle.replay_generated.proofs.making.Making.all_pushes.Goals as goal
+
+pub returns : goal.returns
+returns g c = pushes_all c.streams-count.ensures c.in_ok-pushes.ensures
