@@ -1,0 +1,29 @@
+-- Once more, and the last end.
+use Rattle.std.proofs.Common.{refl, ◌∙◌}
+use Rattle.work_model.specs.declared.ends.WorkEnd.TheVariants as how
+use Rattle.part_model.specs.Rounds.{Rounds}
+use Rattle.part_model.proofs.Rounded.{rounded, spent, worked_at}
+use Rattle.proxy_parts.specs.declared.worker.TheConstants.{TURNS}
+use Rattle.proxy_parts.proofs.worker.keep_working.Goals as goal
+
+pub rounds-init : goal.rounds-init
+rounds-init g c = record { home = refl; rounds = Rounds.none _ }
+
+pub rounds-preserved-in-Turns : goal.rounds-preserved-in-Turns
+rounds-preserved-in-Turns g c = record {
+  home = c.in-Turns.ensures.home ∙ c.rounds.invariant.home;
+  rounds = rounded c.args.hosts.now _ g.T.Turn.rests TURNS _ _ _ how.Turns c.rounds.invariant.rounds
+      (worked_at g.T.Seats.place_home c.args.hosts.now g.T.Turn.rests TURNS _ _ _ _ how.Turns c.rounds.invariant.home c.in-Turns.ensures.worked) tt;
+}
+
+pub rounds-preserved : goal.rounds-preserved
+rounds-preserved g c = record {
+  home = c.in-NoMemory.ensures.home ∙ c.rounds.invariant.home;
+  rounds = rounded c.args.hosts.now _ g.T.Turn.rests TURNS _ _ _ how.NoMemory c.rounds.invariant.rounds
+      (worked_at g.T.Seats.place_home c.args.hosts.now g.T.Turn.rests TURNS _ _ _ _ how.NoMemory c.rounds.invariant.home c.in-NoMemory.ensures.worked) tt;
+}
+
+pub returns-in-Worn-clause-spent : goal.returns-in-Worn-clause-spent
+returns-in-Worn-clause-spent g c =
+    spent c.args.hosts.now _ g.T.Turn.rests TURNS _ _ _ c.rounds.invariant.rounds
+    (worked_at g.T.Seats.place_home c.args.hosts.now g.T.Turn.rests TURNS _ _ _ _ how.Worn c.rounds.invariant.home c.in-Worn.ensures.worked)

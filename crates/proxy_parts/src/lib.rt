@@ -1,0 +1,16 @@
+//! The parts of a server, each over a pass of one hub: workers, the ticker, connections and followers of streams. What each of them does
+//! stands in `part_model`.
+#![tactic(auto)]
+
+mod place;
+mod run;
+mod seated;
+mod ticker;
+mod worker;
+
+pub use part_model::PartEnd;
+pub use place::Place;
+pub use run::{PartDone, run_part};
+pub use seated::Seated;
+pub use ticker::{TICK, keep_ticking, tick};
+pub use worker::{TURNS, keep_working};

@@ -1,0 +1,191 @@
+ghost use Rattle.std.specs.Prelude.{◌≡◌, ◌≤◌, false, None, Some, List, Option, Result, ℕ, [], ◌∷◌};
+ghost use Rattle.std.specs.Arc.{arc_value};
+ghost use Rattle.outside.specs.Calls.{Adds, Begun};
+ghost use Rattle.outside.specs.Faults.{Rose};
+ghost use Rattle.outside.specs.declared.link.LinkFault.{LinkFault as BeginFault};
+ghost use Rattle.turn_hub.specs.Known.{made};
+ghost use Rattle.serve_model.specs.Dialog.{Dialog};
+ghost use Rattle.serve_model.specs.Numbers.{LastNumbered};
+ghost use Rattle.serve_model.specs.Steps.{NoEvent};
+ghost use Rattle.stream_model.specs.Parts.{Follows};
+ghost use Rattle.work_model.specs.Working.{IsAt, ledger};
+ghost use Rattle.part_model.specs.Kinds.{IfConnection, IfFollower, IfTicker, IfWorker, draws, links, place_in, spawns};
+ghost use Rattle.part_model.specs.Rounds.{IsSpent};
+ghost use Rattle.part_model.specs.Ticking.{Ticking};
+ghost use Rattle.proxy_parts.specs.Homes.{home_of};
+ghost use Rattle.proxy_parts.specs.Parts.{Followed, Served};
+
+use crate::place::Place;
+use crate::seated::Seated;
+use crate::ticker::keep_ticking;
+use crate::worker::{TURNS, keep_working};
+use outside::{Clock, Draw, Follow, Link, Part, Sink, Source, Spawner, TicketRange};
+use part_model::PartEnd;
+use proxy_server::serve_on;
+use proxy_streams::follow_stream;
+use serve_model::SessionEnd;
+use std::alloc::Global;
+use std::sync::Wait;
+use stream_model::StreamEnd;
+
+/// What a part leaves: its place, and of a connection its source and sink.
+#[derive(Drop)]
+pub struct PartDone<S, K> {
+    pub place: Place,
+    pub source: Option<S>,
+    pub sink: Option<K>,
+    pub end: PartEnd,
+}
+
+/// Works over a place until no further step can be made.
+fn run_worker<R: Wait, L: Link, P: Spawner<Pass = Place>, C: Clock>(
+    rt: &R,
+    alloc: Global,
+    place: Place,
+    link: &mut L,
+    spawner: &mut P,
+    clock: &mut C,
+) -> Place
+where
+    P::Conn: Drop,
+    ensures home { home_of result ≡ home_of place }
+    ensures spent { IsSpent (arc_value place.hosts) (IsAt home_of (home_of place)) NoEvent TURNS (ledger (Some (made place.pass)) (L.made link.old) (P.handed spawner.old) (L.faults link.old) (P.faults spawner.old))
+        (ledger (Some (made result.pass)) (L.made link.new) (P.handed spawner.new) (L.faults link.new) (P.faults spawner.new)) }
+{
+    let Place { hub, hosts, pass } = place;
+    let mut seated = Seated::new(rt, &hub, &hosts, pass);
+    keep_working(rt, alloc, &mut seated, clock, link, spawner, &hosts);
+    let pass = seated.into_pass();
+    Place { hub, hosts, pass }
+}
+
+/// Ticks over a place until no further step can be made.
+fn run_ticker<R: Wait, C: Clock, D: Draw>(
+    rt: &R,
+    place: Place,
+    clock: &mut C,
+    draw: &mut D,
+) -> Place
+    ensures home { home_of result ≡ home_of place }
+    ensures ticking { Ticking (Some (made place.pass)) (Some (made result.pass)) (D.given draw.old) (D.given draw.new) }
+{
+    let Place { hub, hosts, pass } = place;
+    let mut seated = Seated::new(rt, &hub, &hosts, pass);
+    keep_ticking(rt, &mut seated, clock, draw);
+    let pass = seated.into_pass();
+    Place { hub, hosts, pass }
+}
+
+/// Serves a connection over a place.
+fn run_connection<R: Wait, S: Source, K: Sink, C: Clock, D: Draw>(
+    rt: &R,
+    alloc: Global,
+    place: Place,
+    source: &mut S,
+    sink: &mut K,
+    tickets: TicketRange,
+    clock: &mut C,
+    draw: &mut D,
+) -> (Place, SessionEnd)
+    ensures home { home_of result.0 ≡ home_of place }
+    ensures read_cause { result.1 ≡ SessionEnd.ReadFault → Rose (S.faults source.old) (S.faults source.new) }
+    ensures write_cause { result.1 ≡ SessionEnd.WriteFault → Rose (K.faults sink.old) (K.faults sink.new) }
+    ensures numbered { LastNumbered result.1 tickets.end tickets.next (D.given draw.old) (D.given draw.new) (Some (made place.pass)) (Some (made result.0.pass)) }
+    ensures dialog { Dialog NoEvent (S.left source.old) (Some (made place.pass)) (Some (made result.0.pass)) (K.written sink.old) (K.written sink.new) result.1 }
+{
+    let Place { hub, hosts, pass } = place;
+    let mut seated = Seated::new(rt, &hub, &hosts, pass);
+    let end = serve_on(rt, alloc, &mut seated, tickets, clock, draw, source, sink);
+    let pass = seated.into_pass();
+    (Place { hub, hosts, pass }, end)
+}
+
+/// Begins a stream and follows it over a place.
+fn run_follower<R: Wait, L: Link, C: Clock>(
+    rt: &R,
+    alloc: Global,
+    place: Place,
+    follow: &Follow,
+    link: &mut L,
+    clock: &mut C,
+) -> (Place, StreamEnd)
+    ensures home { home_of result.0 ≡ home_of place }
+    ensures kept { L.faults link.old ≤ L.faults link.new }
+    ensures follows { (begun : Result (Option (List ℕ)) BeginFault) × Adds (L.made link.old) (L.made link.new) (Begun follow.now.member follow.now.call begun ∷ [])
+        × Follows follow.now.stream begun (L.faults link.old) (L.faults link.new) (Some (made place.pass)) (Some (made result.0.pass)) result.1 }
+{
+    let Place { hub, hosts, pass } = place;
+    let mut seated = Seated::new(rt, &hub, &hosts, pass);
+    let end = follow_stream(rt, alloc, &mut seated, clock, link, follow);
+    let pass = seated.into_pass();
+    (Place { hub, hosts, pass }, end)
+}
+
+/// Runs the call that a part names: a worker works and a ticker ticks until no further step can be made, a connection is served and a
+/// stream is followed once. It gives the place back, of the same hub and hosts, and a connection's source and sink.
+pub fn run_part<R: Wait, S: Source, K: Sink, L: Link, P: Spawner<Pass = Place>, C: Clock, D: Draw>(
+    rt: &R,
+    alloc: Global,
+    part: Part<Place, (S, K)>,
+    link: &mut L,
+    spawner: &mut P,
+    clock: &mut C,
+    draw: &mut D,
+) -> PartDone<S, K>
+where
+    P::Conn: Drop,
+    ensures home { home_of result.place ≡ home_of (place_in part) }
+    ensures worker { IfWorker part (λ place. (result.end ≡ PartEnd.Worn) × IsSpent (arc_value place.hosts) (IsAt home_of (home_of place)) NoEvent TURNS
+        (ledger (Some (made place.pass)) (L.made link.old) (P.handed spawner.old) (L.faults link.old) (P.faults spawner.old))
+        (ledger (Some (made result.place.pass)) (L.made link.new) (P.handed spawner.new) (L.faults link.new) (P.faults spawner.new))) }
+    ensures ticker { IfTicker part (λ place. (result.end ≡ PartEnd.Worn) × Ticking (Some (made place.pass)) (Some (made result.place.pass)) (D.given draw.old) (D.given draw.new)) }
+    ensures connection { IfConnection part (λ place connection tickets. Served S.left S.faults K.written K.faults connection tickets (Some (made place.pass)) (Some (made result.place.pass))
+        (D.given draw.old) (D.given draw.new) result.source result.sink result.end) }
+    ensures follower { IfFollower part (λ place follow. Followed follow (L.made link.old) (L.made link.new) (L.faults link.old) (L.faults link.new) (Some (made place.pass)) (Some (made result.place.pass)) result.end) }
+    ensures unlinked { links part ≡ false → link.new ≡ link.old }
+    ensures unspawned { spawns part ≡ false → spawner.new ≡ spawner.old }
+    ensures undrawn { draws part ≡ false → draw.new ≡ draw.old }
+{
+    match part {
+        Part::Worker(place) => PartDone {
+            place: run_worker(rt, alloc, place, link, spawner, clock),
+            source: None,
+            sink: None,
+            end: PartEnd::Worn,
+        },
+        Part::Ticker(place) => PartDone {
+            place: run_ticker(rt, place, clock, draw),
+            source: None,
+            sink: None,
+            end: PartEnd::Worn,
+        },
+        Part::Connection(place, connection, tickets) => {
+            let (mut source, mut sink) = connection;
+            let (place, end) = run_connection(
+                rt,
+                alloc,
+                place,
+                &mut source,
+                &mut sink,
+                tickets,
+                clock,
+                draw,
+            );
+            PartDone {
+                place,
+                source: Some(source),
+                sink: Some(sink),
+                end: PartEnd::Connection(end),
+            }
+        }
+        Part::Follower(place, follow) => {
+            let (place, end) = run_follower(rt, alloc, place, &follow, link, clock);
+            PartDone {
+                place,
+                source: None,
+                sink: None,
+                end: PartEnd::Follower(end),
+            }
+        }
+    }
+}

@@ -1,0 +1,26 @@
+-- One job more, and each end.
+use Rattle.std.proofs.Common.{refl, ◌∙◌, arith}
+use Rattle.work_model.proofs.Works.{none_worked, one_more, undrawn, stopped, turned, done_at}
+use Rattle.proxy_workers.proofs.turns.work.Goals as goal
+
+pub jobs-init : goal.jobs-init
+jobs-init g c = record { home = refl; working = none_worked c.args.hosts.now _ g.T.Turn.rests _ }
+
+pub jobs-preserved : goal.jobs-preserved
+jobs-preserved g c = record {
+  home = c.in-None.ensures.home ∙ c.in-Ok.ensures.home ∙ c.jobs.invariant.home;
+  working = one_more c.args.hosts.now _ g.T.Turn.rests _ _ _ _ _ c.in-Ok.job c.jobs.invariant.working c.in-Ok.ensures.draws
+      (done_at g.T.Seats.place_home c.args.hosts.now _ _ c.in-Ok.job _ _ _ (c.in-Ok.ensures.home ∙ c.jobs.invariant.home) c.in-None.ensures.done);
+}
+
+pub returns-in-Err-clause-worked : goal.returns-in-Err-clause-worked
+returns-in-Err-clause-worked g c =
+    undrawn c.args.hosts.now _ g.T.Turn.rests c.jobs.counter c.args.turns _ _ _ c.in-Err.end (omega arith) c.jobs.invariant.working c.in-Err.ensures.draws
+
+pub returns-in-Some-clause-worked : goal.returns-in-Some-clause-worked
+returns-in-Some-clause-worked g c =
+    stopped c.args.hosts.now _ g.T.Turn.rests c.jobs.counter c.args.turns _ _ _ _ c.in-Ok.job c.in-Some.end (omega arith) c.jobs.invariant.working c.in-Ok.ensures.draws
+    (done_at g.T.Seats.place_home c.args.hosts.now _ _ c.in-Ok.job _ _ _ (c.in-Ok.ensures.home ∙ c.jobs.invariant.home) c.in-Some.ensures.done)
+
+pub returns-clause-worked : goal.returns-clause-worked
+returns-clause-worked g c = turned c.args.hosts.now _ g.T.Turn.rests c.jobs.counter c.args.turns _ _ (omega arith) c.jobs.invariant.working

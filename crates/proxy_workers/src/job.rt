@@ -1,0 +1,164 @@
+ghost use Rattle.std.specs.Prelude.{◌≡◌, IfOk, List};
+ghost use Rattle.outside.specs.Calls.{LinkCall, Handed};
+ghost use Rattle.outside.specs.declared.parts.Part.{Part as Given};
+ghost use Rattle.serve_model.specs.Steps.{Adds, Step};
+ghost use Rattle.work_model.specs.Working.{CallDoes, BeginDoes, IsDone, OnLink, OnSpawner, IsAt, host_of, ledger, lost_end};
+ghost use Rattle.proxy_workers.specs.Handed.{IsFollower};
+
+use crate::seats::Seats;
+use crate::steps::{feed, report};
+use core_model::{CoreEvent, Job};
+use etcd_types::{Bytes, List, NoMemory, Request};
+use outside::{Clock, Follow, Link, Part, Spawner};
+use proxy_calls::{call_bytes, make_call};
+use proxy_server::Turn;
+use std::alloc::Global;
+use work_model::{CallFault, WorkEnd};
+
+/// The host of a member, from 1 on, or nothing where there is none.
+fn host_of(hosts: &List<Bytes>, member: u32) -> &[u8]
+    ensures { result.now ≡ host_of hosts.now member }
+{
+    match hosts.as_slice().get((member as usize).saturating_sub(1)) {
+        Some(host) => host.as_slice(),
+        None => b"".as_slice(),
+    }
+}
+
+/// The end by a call that has no answer, if it is one.
+fn lost_end(fault: CallFault) -> Option<WorkEnd>
+    ensures { result ≡ lost_end fault }
+{
+    match fault {
+        CallFault::Lost => None,
+        CallFault::NoMemory => Some(WorkEnd::NoMemory),
+    }
+}
+
+/// Makes a call once, and feeds its answer, or its loss. An end, where the worker's turns end with it.
+fn do_call<T: Turn, L: Link, C: Clock>(
+    alloc: Global,
+    turn: &mut T,
+    clock: &mut C,
+    link: &mut L,
+    host: &[u8],
+    call: u64,
+    member: u32,
+    request: &Request,
+) -> Option<WorkEnd>
+    ensures home { T.home turn.new ≡ T.home turn.old }
+    ensures does { (steps : List Step) × (calls : List LinkCall) × CallDoes host.now call member request.now steps calls result × Adds (T.made turn.old) (T.made turn.new) steps
+        × OnLink (L.made link.old) (L.made link.new) (L.faults link.old) (L.faults link.new) calls }
+{
+    match make_call(alloc, link, host, member, request) {
+        Ok(answer) => report(turn, clock, call, answer),
+        Err(fault) => feed(turn, clock, CoreEvent::Lost { call }, lost_end(fault)),
+    }
+}
+
+/// A stream that is to be followed, with a seat of its own and the bytes of its call.
+fn follower<T: Seats, C>(
+    alloc: Global,
+    turn: &mut T,
+    host: &[u8],
+    stream: u64,
+    member: u32,
+    request: &Request,
+) -> Result<Part<T::Place, C>, NoMemory>
+    ensures made { T.made turn.new ≡ T.made turn.old }
+    ensures home { T.home turn.new ≡ T.home turn.old }
+    ensures part { IfOk result (λ part. IsFollower T.place_home (T.home turn.old) host.now stream member request.now part) }
+{
+    let call = call_bytes(alloc, host, request)?;
+    let place = turn.another()?;
+    Ok(Part::Follower(
+        place,
+        Follow {
+            stream,
+            member,
+            call,
+        },
+    ))
+}
+
+/// Hands a stream over to be followed, or cuts it where it can't be started. An end, where the worker's turns end with it.
+fn do_begin<T: Seats, P: Spawner<Pass = T::Place>, C: Clock>(
+    alloc: Global,
+    turn: &mut T,
+    clock: &mut C,
+    spawner: &mut P,
+    host: &[u8],
+    stream: u64,
+    member: u32,
+    request: &Request,
+) -> Option<WorkEnd>
+where
+    P::Conn: Drop,
+    ensures home { T.home turn.new ≡ T.home turn.old }
+    ensures does { (steps : List Step) × (handed : List (Handed (Given T.Place P.Conn))) × BeginDoes host.now (IsAt T.place_home (T.home turn.old)) stream member request.now steps handed result
+        × Adds (T.made turn.old) (T.made turn.new) steps × OnSpawner (P.handed spawner.old) (P.handed spawner.new) (P.faults spawner.old) (P.faults spawner.new) handed }
+{
+    let Ok(part) = follower(alloc, turn, host, stream, member, request) else {
+        return feed(
+            turn,
+            clock,
+            CoreEvent::Cut { stream },
+            Some(WorkEnd::NoMemory),
+        );
+    };
+    match spawner.start(part) {
+        Ok(()) => return None,
+        Err(_) => {}
+    }
+    feed(turn, clock, CoreEvent::Cut { stream }, None)
+}
+
+/// Does a job that was drawn. An end, where the worker's turns end with it.
+pub(crate) fn do_job<T: Seats, L: Link, P: Spawner<Pass = T::Place>, C: Clock>(
+    alloc: Global,
+    turn: &mut T,
+    clock: &mut C,
+    link: &mut L,
+    spawner: &mut P,
+    hosts: &List<Bytes>,
+    job: &Job,
+) -> Option<WorkEnd>
+where
+    P::Conn: Drop,
+    ensures home { T.home turn.new ≡ T.home turn.old }
+    ensures done { IsDone hosts.now (IsAt T.place_home (T.home turn.old)) job.now (ledger (T.made turn.old) (L.made link.old) (P.handed spawner.old) (L.faults link.old) (P.faults spawner.old))
+        (ledger (T.made turn.new) (L.made link.new) (P.handed spawner.new) (L.faults link.new) (P.faults spawner.new)) result }
+{
+    match job {
+        Job::Call {
+            call,
+            member,
+            request,
+            ..
+        } => do_call(
+            alloc,
+            turn,
+            clock,
+            link,
+            host_of(hosts, *member),
+            *call,
+            *member,
+            request,
+        ),
+        Job::Begin {
+            stream,
+            member,
+            request,
+        } => do_begin(
+            alloc,
+            turn,
+            clock,
+            spawner,
+            host_of(hosts, *member),
+            *stream,
+            *member,
+            request,
+        ),
+        Job::Close { .. } => None,
+    }
+}

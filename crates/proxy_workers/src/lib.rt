@@ -1,0 +1,11 @@
+//! Workers of a proxy: each draws what is due and makes it, one job after the other. What that is stands in `work_model`.
+#![tactic(auto)]
+
+mod job;
+mod seats;
+mod steps;
+mod turns;
+
+pub use seats::Seats;
+pub use turns::work;
+pub use work_model::WorkEnd;

@@ -1,0 +1,74 @@
+ghost use Rattle.std.specs.Prelude.{◌≡◌, Err, List};
+ghost use Rattle.serve_model.specs.Dialog.{is_worn};
+ghost use Rattle.serve_model.specs.Steps.{Adds, Step};
+ghost use Rattle.work_model.specs.Working.{Fed, Reports, is_full};
+
+use core_model::{CoreEvent, StepFault};
+use etcd_types::Answer;
+use outside::Clock;
+use proxy_server::Turn;
+use serve_model::TurnFault;
+use work_model::WorkEnd;
+
+/// Whether the turn makes no more steps.
+fn is_worn(fault: TurnFault) -> bool
+    ensures { result ≡ is_worn (Err fault) }
+{
+    matches!(fault, TurnFault::Worn)
+}
+
+/// Whether memory was wanting for a step.
+fn is_full(fault: TurnFault) -> bool
+    ensures { result ≡ is_full (Err fault) }
+{
+    matches!(fault, TurnFault::Core(StepFault::NoMemory))
+}
+
+/// Steps on an event, whatever it gives. The end is the one named, unless the turn makes no more steps.
+pub(crate) fn feed<T: Turn, C: Clock>(
+    turn: &mut T,
+    clock: &mut C,
+    event: CoreEvent,
+    end: Option<WorkEnd>,
+) -> Option<WorkEnd>
+    ensures home { T.home turn.new ≡ T.home turn.old }
+    ensures fed { (steps : List Step) × Fed event end steps result × Adds (T.made turn.old) (T.made turn.new) steps }
+{
+    let fault = match turn.turn(event, clock) {
+        Ok(_) => return end,
+        Err(fault) => fault,
+    };
+    if is_worn(fault) {
+        Some(WorkEnd::Worn)
+    } else {
+        end
+    }
+}
+
+/// Feeds the answer to a call, which counts as lost where the core has no room for it.
+pub(crate) fn report<T: Turn, C: Clock>(
+    turn: &mut T,
+    clock: &mut C,
+    call: u64,
+    answer: Answer,
+) -> Option<WorkEnd>
+    ensures home { T.home turn.new ≡ T.home turn.old }
+    ensures reports { (steps : List Step) × Reports call answer steps result × Adds (T.made turn.old) (T.made turn.new) steps }
+{
+    let fault = match turn.turn(CoreEvent::Answer { call, answer }, clock) {
+        Ok(_) => return None,
+        Err(fault) => fault,
+    };
+    if is_worn(fault) {
+        Some(WorkEnd::Worn)
+    } else if is_full(fault) {
+        feed(
+            turn,
+            clock,
+            CoreEvent::Lost { call },
+            Some(WorkEnd::NoMemory),
+        )
+    } else {
+        None
+    }
+}

@@ -1,0 +1,92 @@
+ghost use Rattle.std.specs.Prelude.{◌≡◌, List, Result};
+ghost use Rattle.serve_model.specs.Steps.{Adds, FitsOutcome, Step};
+ghost use Rattle.work_model.specs.Working.{Draws, IsWorked, IsAt, ended_by, ledger};
+
+use crate::job::do_job;
+use crate::seats::Seats;
+use core_model::{CoreEvent, Job, Outcome, StepFault};
+use etcd_types::{Bytes, List};
+use outside::{Clock, Link, Spawner};
+use proxy_server::Turn;
+use serve_model::TurnFault;
+use std::alloc::Global;
+use std::sync::Wait;
+use work_model::WorkEnd;
+
+/// How a worker's turns end by a fault of a step or of a rest.
+fn ended_by(fault: TurnFault) -> WorkEnd
+    ensures { result ≡ ended_by fault }
+{
+    match fault {
+        TurnFault::Core(StepFault::NoMemory) => WorkEnd::NoMemory,
+        TurnFault::Worn | TurnFault::Core(_) => WorkEnd::Worn,
+    }
+}
+
+/// The job that a step found due, if one is.
+fn due_in(outcome: Outcome) -> Option<Job>
+    requires fits { FitsOutcome CoreEvent.Work outcome }
+    ensures { outcome ≡ Outcome.Job result }
+{
+    match outcome {
+        Outcome::Job(job) => job,
+        Outcome::Replied(_)
+        | Outcome::Waiting
+        | Outcome::Pending
+        | Outcome::Item(_)
+        | Outcome::Noted => unreachable!(),
+    }
+}
+
+/// Draws what is due, and rests until something is.
+fn draw<R: Wait, T: Turn, C: Clock>(rt: &R, turn: &mut T, clock: &mut C) -> Result<Job, WorkEnd>
+    ensures home { T.home turn.new ≡ T.home turn.old }
+    ensures draws { (steps : List Step) × Draws T.rests steps result × Adds (T.made turn.old) (T.made turn.new) steps }
+{
+    'looks: for _ in rt.forever() {
+        let outcome = match turn.turn(CoreEvent::Work, clock) {
+            Ok(outcome) => outcome,
+            Err(fault) => return Err(ended_by(fault)),
+        };
+        match due_in(outcome) {
+            Some(job) => return Ok(job),
+            None => {}
+        }
+        match turn.rest(clock) {
+            Ok(()) => {}
+            Err(fault) => return Err(ended_by(fault)),
+        }
+    }
+    unreachable!()
+}
+
+/// Draws so many jobs, one after the other, and does each: a call is made once on the link, a stream is handed to the spawner. It
+/// ends before where no further step can be made, or memory was wanting.
+pub fn work<R: Wait, T: Seats, L: Link, P: Spawner<Pass = T::Place>, C: Clock>(
+    rt: &R,
+    alloc: Global,
+    turn: &mut T,
+    clock: &mut C,
+    link: &mut L,
+    spawner: &mut P,
+    hosts: &List<Bytes>,
+    turns: u64,
+) -> WorkEnd
+where
+    P::Conn: Drop,
+    ensures home { T.home turn.new ≡ T.home turn.old }
+    ensures worked { IsWorked hosts.now (IsAt T.place_home (T.home turn.old)) T.rests turns (ledger (T.made turn.old) (L.made link.old) (P.handed spawner.old) (L.faults link.old) (P.faults spawner.old))
+        (ledger (T.made turn.new) (L.made link.new) (P.handed spawner.new) (L.faults link.new) (P.faults spawner.new)) result }
+{
+    'jobs: for _ in 0..turns {
+        let job = match draw(rt, turn, clock) {
+            Ok(job) => job,
+            Err(end) => return end,
+        };
+        match do_job(alloc, turn, clock, link, spawner, hosts, &job) {
+            None => {}
+            Some(end) => return end,
+        }
+    }
+    WorkEnd::Turns
+}
