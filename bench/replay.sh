@@ -1,7 +1,7 @@
 #!/bin/sh
 # How fast scripts are replayed, at 2,000, 20,000 and 200,000 lines: puts, puts and gets that pass through the proxy to the store, reads
 # of a key that the proxy holds, and 100 watches of one key that each take every change. A line costs the same in a long script as in a
-# short one. It runs the proved program, which ./run --build makes where it isn't in its place.
+# short one. And how long the generated scripts of 2,000 and of 20,000 take. It runs the proved program, which ./run --build makes where it isn't in its place.
 set -eu
 top=$(cd "$(dirname "$0")/.." && pwd)
 "$top/run" --build
@@ -56,4 +56,9 @@ for kind in puts puts_and_gets held_reads watches; do
         printf '%-14s %7d lines %5d ms %8d lines/s %9d bytes written\n' \
             "$kind" "$lines" $((micros / 1000)) $((lines * 1000000 / micros)) "$(wc -c < "$work/transcript")"
     done
+done
+for number in 2000 20000; do
+    before=$(date +%s%N)
+    "$program" replay --generate "$number" > "$work/counts"
+    printf 'generated from %5d: %5d ms, %s\n' "$number" $((($(date +%s%N) - before) / 1000000)) "$(tr '\n' ' ' < "$work/counts")"
 done
