@@ -1,3 +1,2 @@
 mod Hearing
 mod Messages
-mod ShownBytes
