@@ -59,8 +59,8 @@ pub fn run<S: Source, K: Sink, E: Sink>(
         (E.written errors.old) (E.written errors.new) (E.faults errors.old) (E.faults errors.new) version_text result }
     ensures unread { command_of words.now ≢ Some Command.Replay → input.new ≡ input.old }
 
-    // A script's transcript is written; each of its answers is the store's, so is each message of a stream, and each watch has
-    // received a front of the history's events.
+    // A script's transcript is written; each of its answers is the store's, so is each message of a stream, each watch has received a
+    // front of the history's events, and each ok reply to a keepalive is the answer of one that was sent behind it.
     ensures replays { command_of words.now ≡ Some Command.Replay
         → Runs (S.left input.old) (S.left input.new) (K.written output.old) (K.written output.new)
         (E.written errors.old) (E.written errors.new) (E.faults errors.old) (E.faults errors.new) result }
