@@ -1,4 +1,4 @@
-ghost use Rattle.std.specs.Prelude.{◌≡◌, IfErr};
+ghost use Rattle.std.specs.Prelude.{◌≡◌, ◌++◌, ◌∷◌, [], IfErr, OnOk, string_bytes, decimal};
 ghost use Rattle.text_model.specs.Texts.{text_word};
 ghost use Rattle.text_words.specs.Reading.{Gives, IsWrong};
 ghost use Rattle.message_text.specs.Answers.{kv as kv_form, prev, header, header_numbers, dot};
@@ -7,7 +7,8 @@ use crate::text::Text;
 use etcd_types::{Header, Kv, NoMemory};
 use std::alloc::Global;
 use text_words::{
-    ReadError, Words, is_word, push_bytes, push_number, push_word, read_bytes, read_number,
+    ReadError, Words, is_word, push_bytes, push_digits, push_number, push_word, read_bytes,
+    read_number,
 };
 
 /// `K V CREATE MOD VERSION LEASE`
@@ -88,13 +89,21 @@ impl Text for Header {
 
     #[tactic(auto, using(text_model::proofs::TextLaws::in_turn), unfolding(crate::specs::Answers::header, crate::specs::Answers::header_numbers))]
     fn push(&self, out: &mut String) -> Result<(), NoMemory> {
-        write!(
-            out,
-            "{}.{}.{}.{} ",
-            self.cluster, self.member, self.revision, self.term
-        )?;
+        push_dotted(out, self.cluster)?;
+        push_dotted(out, self.member)?;
+        push_dotted(out, self.revision)?;
+        push_number(out, self.term)?;
         Ok(())
     }
+}
+
+/// Appends a number, and a dot.
+fn push_dotted(out: &mut String, number: u64) -> Result<(), NoMemory>
+    ensures { OnOk result (string_bytes out.new ≡ string_bytes out.old ++ decimal number ++ 46 ∷ []) }
+{
+    push_digits(out, number)?;
+    out.push('.')?;
+    Ok(())
 }
 
 fn header_of(word: &[u8]) -> Option<Header>

@@ -1,7 +1,8 @@
--- A piece of a script, byte by byte, and what of its transcript is written and what is pending.
-use Rattle.std.proofs.Common.{◌≡◌, ◌<◌, ℕ, ◌+◌, true, false, List, [], ◌∷◌, ◌++◌, length, take, drop, get_or, refl, sym, ◌∙◌, ap, subst, append_assoc, append-nil}
-use Rattle.std.specs.Prelude.{Option}
-use Rattle.std.proofs.lemmas.List.{take_more, take-append-drop}
+-- A piece of a script, part by part, and what of its transcript is written and what is pending.
+use Rattle.std.proofs.Common.{◌≡◌, ℕ, ◌+◌, ◌-◌, true, false, List, [], ◌++◌, length, take, drop, length-drop, arith, refl, sym, ◌∙◌, ap, subst, append_assoc, append-nil}
+use Rattle.std.specs.Prelude.{Option, string_bytes}
+use Rattle.std.proofs.lemmas.List.{take_all, take-append-drop}
+use Rattle.std.proofs.Math.Seq.{take-add}
 use Rattle.std.proofs.KnownBytes.{Appends-trans}
 use Rattle.std.specs.Io.KnownBytes.{Appends}
 use Rattle.outside.specs.Streams.{WritesFront}
@@ -13,7 +14,7 @@ use Rattle.replay_model.specs.declared.ending.Ending.{Ending}
 use Rattle.replay_model.specs.declared.ending.Ending.TheVariants as ending
 use Rattle.renewed_laws.specs.Renewals.{AnswersShowBytes}
 use Rattle.script_text.specs.declared.item.Item.{Item}
-use Rattle.replay_input.specs.Replay.{Follows, Writes, HasRefused, TakesByte, Fed, Stopped, Feeds, text_so_far}
+use Rattle.replay_input.specs.Replay.{Follows, Writes, HasRefused, TakesPart, Fed, Stopped, Feeds, text_so_far}
 use Rattle.replay_input.specs.declared.replay.Replay.{Replay}
 
 -- what is added to the text is added to what is pending
@@ -45,25 +46,29 @@ broke start old new pending text w b = record {
   written = Appends-trans start old new w.front b.front w.written b.written;
 }
 
-pub next_front : (bytes piece : List ℕ) (i byte : ℕ) → i < length piece → byte ≡ get_or piece i 0
-    → bytes ++ take (i + 1) piece ≡ (bytes ++ take i piece) ++ byte ∷ []
-next_front bytes piece i byte within is =
-    ap (λ (bs : List ℕ). bytes ++ bs) (take_more piece i 0 within)
-    ∙ ap (λ b. bytes ++ (take i piece ++ b ∷ [])) (sym is)
-    ∙ sym (append_assoc bytes (take i piece) (byte ∷ []))
+pub next_part : (bytes piece : List ℕ) (at count : ℕ) → bytes ++ take (at + count) piece ≡ (bytes ++ take at piece) ++ take count (drop at piece)
+next_part bytes piece at count =
+    ap (λ (bs : List ℕ). bytes ++ bs) (take-add at count piece) ∙ sym (append_assoc bytes (take at piece) (take count (drop at piece)))
 
-fed_byte : {C : _} {g : _} (start written : Option (List ℕ)) (old new : Replay C g) (bytes : List ℕ) (byte : ℕ) → Fed start written old bytes
-    → TakesByte old new bytes byte ending.Open → Fed start written new (bytes ++ byte ∷ [])
-fed_byte start written old new bytes byte f t =
-    record { follows = t.follows refl; writes = writes_more new.pending.items (text_so_far (bytes ++ byte ∷ [])) t.added f.writes t.pending t.text }
+-- what stands from a place on is a slice up to the end
+pub rest_taken : {C : _} {g : _} (old new : Replay C g) (bytes piece : List ℕ) (at count : ℕ) (e : Ending)
+    → TakesPart old new bytes (take count (take (length piece - at) (drop at piece))) e → TakesPart old new bytes (take count (drop at piece)) e
+rest_taken old new bytes piece at count e t =
+    subst (λ (rest : List ℕ). TakesPart old new bytes (take count rest) e)
+    (take_all (length piece - at) (drop at piece) (omega (arith, length-drop {A = ℕ} at piece))) t
 
--- one byte more of a piece was taken
-pub fed_more : {C : _} {g : _} (start written : Option (List ℕ)) (old new : Replay C g) (bytes piece : List ℕ) (i byte : ℕ) (e : Ending) → i < length piece → byte ≡ get_or piece i 0
-    → is_open e ≡ true → Fed start written old (bytes ++ take i piece) → TakesByte old new (bytes ++ take i piece) byte e
-    → Fed start written new (bytes ++ take (i + 1) piece)
-fed_more start written old new bytes piece i byte e within is opened f t =
-    subst (Fed start written new) (sym (next_front bytes piece i byte within is))
-    (fed_byte start written old new (bytes ++ take i piece) byte f (subst (TakesByte old new (bytes ++ take i piece) byte) (is_open-true e opened) t))
+fed_part : {C : _} {g : _} (start written : Option (List ℕ)) (old new : Replay C g) (bytes part : List ℕ) → Fed start written old bytes
+    → TakesPart old new bytes part ending.Open → Fed start written new (bytes ++ part)
+fed_part start written old new bytes part f t =
+    record { follows = t.follows refl; writes = writes_more (string_bytes new.pending) (text_so_far (bytes ++ part)) t.added f.writes t.pending t.text }
+
+-- a part more of a piece was taken
+pub fed_more : {C : _} {g : _} (start written : Option (List ℕ)) (old new : Replay C g) (bytes piece : List ℕ) (at count : ℕ) (e : Ending)
+    → is_open e ≡ true → Fed start written old (bytes ++ take at piece) → TakesPart old new (bytes ++ take at piece) (take count (drop at piece)) e
+    → Fed start written new (bytes ++ take (at + count) piece)
+fed_more start written old new bytes piece at count e opened f t =
+    subst (Fed start written new) (sym (next_part bytes piece at count))
+    (fed_part start written old new (bytes ++ take at piece) (take count (drop at piece)) f (subst (TakesPart old new (bytes ++ take at piece) (take count (drop at piece))) (is_open-true e opened) t))
 
 -- a refused line is the first one whatever follows
 refused_more : (e : Ending) (bytes more : List ℕ) → HasRefused bytes e → HasRefused (bytes ++ more) e
@@ -84,21 +89,21 @@ feeds_by start written new bytes ending.PastLimit s = s
 parts_of : (bytes piece : List ℕ) (n : ℕ) → (bytes ++ take n piece) ++ drop n piece ≡ bytes ++ piece
 parts_of bytes piece n = append_assoc bytes (take n piece) (drop n piece) ∙ ap (λ (bs : List ℕ). bytes ++ bs) (take-append-drop n piece)
 
--- a byte refused a line
-pub refused_at : {C : _} {g : _} (start written : Option (List ℕ)) (old new : Replay C g) (bytes piece : List ℕ) (i byte : ℕ) (e : Ending) → i < length piece → byte ≡ get_or piece i 0
-    → is_open e ≡ false → Fed start written old (bytes ++ take i piece) → TakesByte old new (bytes ++ take i piece) byte e
+-- a part refused a line
+pub refused_at : {C : _} {g : _} (start written : Option (List ℕ)) (old new : Replay C g) (bytes piece : List ℕ) (at count : ℕ) (e : Ending)
+    → is_open e ≡ false → Fed start written old (bytes ++ take at piece) → TakesPart old new (bytes ++ take at piece) (take count (drop at piece)) e
     → Feeds start written new (bytes ++ piece) e
-refused_at start written old new bytes piece i byte e within is closed f t =
-    let cut = (bytes ++ take i piece) ++ byte ∷ [] in
-    let more = drop (i + 1) piece in
+refused_at start written old new bytes piece at count e closed f t =
+    let cut = (bytes ++ take at piece) ++ take count (drop at piece) in
+    let more = drop (at + count) piece in
     let all : cut ++ more ≡ bytes ++ piece =
-    ap (λ (bs : List ℕ). bs ++ more) (sym (next_front bytes piece i byte within is)) ∙ parts_of bytes piece (i + 1) in
+    ap (λ (bs : List ℕ). bs ++ more) (sym (next_part bytes piece at count)) ∙ parts_of bytes piece (at + count) in
     let refused = t.refused closed in
-    let written_of_cut : Writes start written new.pending.items (text_so_far cut) =
-    writes_more new.pending.items (text_so_far cut) t.added f.writes t.pending t.text in
+    let written_of_cut : Writes start written (string_bytes new.pending) (text_so_far cut) =
+    writes_more (string_bytes new.pending) (text_so_far cut) t.added f.writes t.pending t.text in
     subst (λ (bs : List ℕ). Feeds start written new bs e) all (feeds_by start written new (cut ++ more) e (record {
       refused = refused_more e cut more refused;
-      writes = subst (λ (items : List Item). Writes start written new.pending.items (transcript_text items)) (sym (items_stay e cut more refused)) written_of_cut;
+      writes = subst (λ (items : List Item). Writes start written (string_bytes new.pending) (transcript_text items)) (sym (items_stay e cut more refused)) written_of_cut;
       shown = subst AnswersShowBytes (sym (items_stay e cut more refused)) t.shown;
     }))
 

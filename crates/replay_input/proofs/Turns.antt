@@ -1,6 +1,6 @@
 -- A turn of the replay, at each of its ends.
 use Rattle.std.proofs.Common.{◌≡◌, ◌≢◌, ◌≤◌, ◌<◌, ◌^◌, ℕ, Bool, true, false, List, [], ◌++◌, length, take, Result, Ok, Err, IfOk, IfErr, inl, inr, refl, sym, ◌∙◌, ap, subst, append_assoc, append-nil, arith}
-use Rattle.std.specs.Prelude.{Option}
+use Rattle.std.specs.Prelude.{Option, string_bytes}
 use Rattle.std.proofs.KnownBytes.{Consumes-trans, Consumes-kept, Consumes-nil, Appends-nil}
 use Rattle.std.specs.Io.KnownBytes.{Appends, Consumes, Keeps, IsAtEnd}
 use Rattle.etcd_types.specs.Keys.{is_empty}
@@ -62,7 +62,7 @@ all_written start written pending text w e =
     subst (Appends start written) (sym (append-nil w.front) ∙ ap (λ (bs : List ℕ). w.front ++ bs) (sym e) ∙ sym w.parts) w.written
 
 pub has_writes : {C : _} {g : _} (left start left' written : Option (List ℕ)) (replay : Replay C g) (read : List ℕ) → Has left start left' written replay read
-    → Writes start written replay.pending.items (text_so_far read)
+    → Writes start written (string_bytes replay.pending) (text_so_far read)
 has_writes left start left' written replay read h =
     subst (λ (pending : List ℕ). Writes start written pending (text_so_far read)) (sym h.nothing) h.writes
 
@@ -178,14 +178,14 @@ pub piece_stopped : {C : _} {g : _} (left start l l' old written : Option (List 
 piece_stopped left start l l' old written replay read piece s h small c n w =
     breaks_off left l' start written read piece s n (none_refused h) small (Consumes-trans left l l' read piece h.consumed c) w
 
-fed_writes : {C : _} {g : _} (start mid : Option (List ℕ)) (new : Replay C g) (bytes : List ℕ) (e : Ending) → Feeds start mid new bytes e → Writes start mid new.pending.items (text_so_far bytes)
+fed_writes : {C : _} {g : _} (start mid : Option (List ℕ)) (new : Replay C g) (bytes : List ℕ) (e : Ending) → Feeds start mid new bytes e → Writes start mid (string_bytes new.pending) (text_so_far bytes)
 fed_writes start mid new bytes ending.Open f = f.writes
 fed_writes start mid new bytes (ending.Refused number refusal) f = f.writes
 fed_writes start mid new bytes ending.PastLimit f = f.writes
 
 -- what a piece gained couldn't be written
 pub flush_stopped : {C : _} {g : _} (left start l l' mid old written : Option (List ℕ)) (replay new : Replay C g) (read piece : List ℕ) (e : Ending) (s : Stop) → Has left start l old replay read
-    → length piece ≤ most_at_once → Consumes l l' piece → s ≢ stop.ReadFault → Feeds start mid new (read ++ piece) e → Breaks mid written new.pending.items → Stops left l' start written s
+    → length piece ≤ most_at_once → Consumes l l' piece → s ≢ stop.ReadFault → Feeds start mid new (read ++ piece) e → Breaks mid written (string_bytes new.pending) → Stops left l' start written s
 flush_stopped left start l l' mid old written replay new read piece e s h small c n f b =
     breaks_off left l' start written read piece s n (none_refused h) small (Consumes-trans left l l' read piece h.consumed c)
     (b start (text_so_far (read ++ piece)) (fed_writes start mid new (read ++ piece) e f))
@@ -197,8 +197,8 @@ open_by start mid new bytes ending.PastLimit o f = absurd (cc)
 
 -- a piece was taken, and no line is refused
 pub goes_on : {C : _} {g : _} (left start l l' mid old written : Option (List ℕ)) (replay new last : Replay C g) (read piece : List ℕ) (e : Ending) → Has left start l old replay read
-    → Consumes l l' piece → is_open e ≡ true → Feeds start mid new (read ++ piece) e → Moves mid written new.pending.items last.pending.items
-    → last ≡ record new { pending = last.pending } → last.pending.items ≡ [] → Has left start l' written last (read ++ piece)
+    → Consumes l l' piece → is_open e ≡ true → Feeds start mid new (read ++ piece) e → Moves mid written (string_bytes new.pending) (string_bytes last.pending)
+    → last ≡ record new { pending = last.pending } → string_bytes last.pending ≡ [] → Has left start l' written last (read ++ piece)
 goes_on left start l l' mid old written replay new last read piece e h c o f m same none =
     let fed = open_by start mid new (read ++ piece) e o f in
     record {
@@ -232,11 +232,11 @@ refused_piece left start l' mid written new read piece ending.PastLimit none sma
     refused_by left start l' written read piece ending.PastLimit none small c o f.refused f.shown w
 
 pub refuses : {C : _} {g : _} (left start l l' mid old written : Option (List ℕ)) (replay new last : Replay C g) (read piece : List ℕ) (e : Ending) → Has left start l old replay read
-    → length piece ≤ most_at_once → Consumes l l' piece → is_open e ≡ false → Feeds start mid new (read ++ piece) e → Moves mid written new.pending.items last.pending.items
-    → last.pending.items ≡ [] → Replays left l' start written e
+    → length piece ≤ most_at_once → Consumes l l' piece → is_open e ≡ false → Feeds start mid new (read ++ piece) e → Moves mid written (string_bytes new.pending) (string_bytes last.pending)
+    → string_bytes last.pending ≡ [] → Replays left l' start written e
 refuses left start l l' mid old written replay new last read piece e h small c o f m written_all =
     refused_piece left start l' mid written new read piece e (none_refused h) small (Consumes-trans left l l' read piece h.consumed c) o f
-    (all_written start written last.pending.items _ (m start (text_so_far (read ++ piece)) (fed_writes start mid new (read ++ piece) e f)) written_all)
+    (all_written start written (string_bytes last.pending) _ (m start (text_so_far (read ++ piece)) (fed_writes start mid new (read ++ piece) e f)) written_all)
 
 -- a read of no bytes takes nothing
 pub none_read : (l l' : Option (List ℕ)) (count : ℕ) (room : List ℕ) → count ≡ 0 → Consumes l l' (take count room) → Consumes l l' []
@@ -256,7 +256,7 @@ nothing_done left written = record {
   writes = inl (record { front = []; rest = text_so_far []; parts = refl; written = Appends-nil written });
 }
 
-pub at_start : {C : _} {g : _} (left written : Option (List ℕ)) (replay : Replay C g) → Follows replay [] → replay.pending.items ≡ [] → Has left written left written replay []
+pub at_start : {C : _} {g : _} (left written : Option (List ℕ)) (replay : Replay C g) → Follows replay [] → string_bytes replay.pending ≡ [] → Has left written left written replay []
 at_start left written replay f none = record {
   consumed = Consumes-nil left;
   follows = f;

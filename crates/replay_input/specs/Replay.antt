@@ -1,10 +1,11 @@
 -- How the program's replay stands for the bytes of a script that it took, and what stands written.
-use Rattle.std.specs.Prelude.{◌≡◌, false, ℕ, ◌+◌, length, List, [], ◌∷◌, ◌++◌, Option}
+use Rattle.std.specs.Prelude.{◌≡◌, ◌==◌, false, ℕ, ◌+◌, length, List, ◌++◌, Option, string_bytes}
+use Rattle.std.specs.List.{list_any}
 use Rattle.std.specs.Io.KnownBytes.{Appends}
 use Rattle.etcd_types.specs.Keys.{is_empty}
 use Rattle.replay_model.specs.Endings.{is_open}
 use Rattle.replay_model.specs.Progress.{progress, finished, passes_limit, HasPassed}
-use Rattle.replay_model.specs.Script.{begun_line}
+use Rattle.replay_model.specs.Script.{begun_line, line_feed}
 use Rattle.replay_model.specs.Transcript.{transcript_text}
 use Rattle.renewed_laws.specs.Renewals.{AnswersShowBytes}
 use Rattle.replay_model.specs.declared.ending.Ending.{Ending}
@@ -49,32 +50,36 @@ HasRefused bytes Open = ⊥
 HasRefused bytes (Refused number refusal) = (progress bytes).ending ≡ Refused number refusal
 HasRefused bytes PastLimit = HasPassed bytes
 
--- what one more byte adds to the text, and where it leaves the replay
-pub record TakesByte {C : _} {g : _} (old new : Replay C g) (bytes : List ℕ) (byte : ℕ) (ending : Ending) : Type 0 where
-  pub refused : is_open ending ≡ false → HasRefused (bytes ++ byte ∷ []) ending
-  pub follows : ending ≡ Open → Follows new (bytes ++ byte ∷ [])
+-- none of these bytes is a line feed
+abbrev pub HasNoFeed : List ℕ → Type 0
+HasNoFeed bytes = list_any (λ b. b == line_feed) bytes ≡ false
+
+-- what more bytes add to the text, and where they leave the replay
+pub record TakesPart {C : _} {g : _} (old new : Replay C g) (bytes part : List ℕ) (ending : Ending) : Type 0 where
+  pub refused : is_open ending ≡ false → HasRefused (bytes ++ part) ending
+  pub follows : ending ≡ Open → Follows new (bytes ++ part)
   pub added : List ℕ
-  pub text : text_so_far (bytes ++ byte ∷ []) ≡ text_so_far bytes ++ added
-  pub pending : new.pending.items ≡ old.pending.items ++ added
-  pub shown : AnswersShowBytes (progress (bytes ++ byte ∷ [])).items
+  pub text : text_so_far (bytes ++ part) ≡ text_so_far bytes ++ added
+  pub pending : string_bytes new.pending ≡ string_bytes old.pending ++ added
+  pub shown : AnswersShowBytes (progress (bytes ++ part)).items
 
 -- what the end of the input adds: a last line without line feed is taken
 pub record TakesEnd {C : _} {g : _} (old new : Replay C g) (bytes : List ℕ) (ending : Ending) : Type 0 where
   pub ended : (finished bytes).ending ≡ ending
   pub added : List ℕ
   pub text : text_of bytes ≡ text_so_far bytes ++ added
-  pub pending : new.pending.items ≡ old.pending.items ++ added
+  pub pending : string_bytes new.pending ≡ string_bytes old.pending ++ added
   pub shown : AnswersShowBytes (finished bytes).items
 
 -- these bytes were taken, and of their lines' text the rest is pending
 pub record Fed {C : _} {g : _} (start written : Option (List ℕ)) (new : Replay C g) (bytes : List ℕ) : Type 0 where
   pub follows : Follows new bytes
-  pub writes : Writes start written new.pending.items (text_so_far bytes)
+  pub writes : Writes start written (string_bytes new.pending) (text_so_far bytes)
 
 -- a line of these bytes was refused, and of the text of those before it the rest is pending
 pub record Stopped {C : _} {g : _} (start written : Option (List ℕ)) (new : Replay C g) (bytes : List ℕ) (ending : Ending) : Type 0 where
   pub refused : HasRefused bytes ending
-  pub writes : Writes start written new.pending.items (text_so_far bytes)
+  pub writes : Writes start written (string_bytes new.pending) (text_so_far bytes)
   pub shown : AnswersShowBytes (progress bytes).items
 
 abbrev pub Feeds : {C : _} {g : _} → Option (List ℕ) → Option (List ℕ) → Replay C g → List ℕ → Ending → Type 0

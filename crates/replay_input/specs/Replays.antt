@@ -1,5 +1,5 @@
 -- What a whole replay takes of its input and writes to its output.
-use Rattle.std.specs.Prelude.{◌≡◌, ◌≤◌, ◌⊎◌, ℕ, List, [], ◌++◌, length, Option, None, Some, Result, Ok, Err}
+use Rattle.std.specs.Prelude.{◌≡◌, ◌≤◌, ◌⊎◌, ℕ, List, [], ◌++◌, length, Option, None, Some, Result, Ok, Err, string_bytes}
 use Rattle.std.specs.Io.KnownBytes.{Appends, Consumes, IsAtEnd}
 use Rattle.replay_model.specs.Progress.{Progress, finished, progress}
 use Rattle.world_model.specs.Answers.{AnswersAreTheStores, MessagesAreTheStores}
@@ -47,7 +47,7 @@ pub record NoneIsRefused (bytes : List ℕ) : Type 0 where
   pub within : BeginsWithin bytes
 
 -- A line is refused for its words or for its step once it is whole: its line feed was read, or the input is at its end. One that
--- passes a limit is refused with the byte that does.
+-- passes a limit is refused with the piece that has the byte that does.
 abbrev pub IsWhole : Option (List ℕ) → List ℕ → Ending → Type 0
 IsWhole left read (Refused number refusal) = ((progress read).ending ≡ Refused number refusal) ⊎ IsAtEnd left
 IsWhole left read _ = Unit {0}
@@ -97,7 +97,7 @@ Stops left left' written written' stop.NoMemory = BreaksOff left left' written w
 pub record Has {C : _} {g : _} (left start left' written : Option (List ℕ)) (replay : Replay C g) (read : List ℕ) : Type 0 where
   pub consumed : Consumes left left' read
   pub follows : Follows replay read
-  pub nothing : replay.pending.items ≡ []
+  pub nothing : string_bytes replay.pending ≡ []
   pub writes : Writes start written [] (text_so_far read)
 
 -- it goes on, or it ended, or it was stopped

@@ -1,4 +1,4 @@
-ghost use Rattle.std.specs.Prelude.{◌≡◌, ◌+◌, ◌≤◌, true, ◌++◌, OnOk, IfOk, Option, length};
+ghost use Rattle.std.specs.Prelude.{◌≡◌, ◌+◌, ◌≤◌, true, ◌++◌, OnOk, IfOk, Option, length, string_bytes};
 ghost use Rattle.replay_model.specs.declared.limits.TheConstants.{MOST_LINES, MOST_BYTES};
 ghost use Rattle.replay_model.specs.Transcript.{transcript_text};
 ghost use Rattle.replay_model.specs.Endings.{is_open};
@@ -11,7 +11,7 @@ use core_face::ProxyCore;
 use etcd_types::{Answer, List, NoMemory};
 use replay_model::{Ending, MOST_BYTES, MOST_LINE_BYTES, MOST_LINES};
 use replay_world::World;
-use script_text::{Item, LineFault, read_line, write_item};
+use script_text::{Item, LineFault, append_item, read_line};
 use shown_bytes::show_body;
 use std::alloc::Global;
 use world_model::LineRefusal;
@@ -66,11 +66,11 @@ impl<C: ProxyCore> Script<C> {
         &mut self,
         line: &[u8],
         feed: bool,
-        out: &mut Vec<u8>,
+        out: &mut String,
     ) -> Result<Ending, NoMemory>
         requires { IsReady self.old }
         ensures line { (p : Progress) → Stands self.old p
-            → IfOk result (λ ending. Adds self.new out.old.items out.new.items ending p (after_line p line.now feed)) }
+            → IfOk result (λ ending. Adds self.new (string_bytes out.old) (string_bytes out.new) ending p (after_line p line.now feed)) }
         ensures bytes { IfOk result (λ ending. is_open ending ≡ true → self.new.bytes ≡ self.old.bytes + size_of line.now feed) }
     {
         let number = self.lines + 1;
@@ -81,7 +81,7 @@ impl<C: ProxyCore> Script<C> {
         match self.gain(number, line) {
             Ok(items) => {
                 show_items(&items);
-                write_items(self.alloc, &items, out)?;
+                write_items(&items, out)?;
                 self.lines = number;
                 self.bytes += size;
                 Ok(Ending::Open)
@@ -124,12 +124,12 @@ fn size_of(line: &[u8], feed: bool) -> u64
     line.len() as u64 + u64::from(feed)
 }
 
-fn write_items(alloc: Global, items: &List<Item>, out: &mut Vec<u8>) -> Result<(), NoMemory>
-    ensures { OnOk result (out.new.items ≡ out.old.items ++ transcript_text items.now) }
+fn write_items(items: &List<Item>, out: &mut String) -> Result<(), NoMemory>
+    ensures { OnOk result (string_bytes out.new ≡ string_bytes out.old ++ transcript_text items.now) }
 {
     for item in items.as_slice() {
-        out.extend_from_slice(write_item(alloc, item)?.as_slice())?;
-        out.push(b'\n')?;
+        append_item(out, item)?;
+        out.push('\n')?;
     }
     Ok(())
 }

@@ -1,3 +1,4 @@
 pub mod Fetching
+pub mod Greatest
 pub mod PlaceSteps
 pub mod Turns

@@ -4,8 +4,10 @@
 mod asking;
 mod place;
 mod places;
+mod tickets;
 mod turn;
 
 pub use place::Place;
 pub use places::Places;
+pub use tickets::Tickets;
 pub use turn::Turn;

@@ -10,6 +10,7 @@ ghost use Rattle.world_model.specs.State.{World, Place as Spot};
 ghost use Rattle.world_model.specs.Steps.{gains};
 ghost use Rattle.world_model.specs.Takes.{is_watch};
 
+use crate::tickets::Tickets;
 use core_face::{CoreEvent, Outcome, ProxyCore, Settings, StepFault};
 use etcd_types::{Answer, List, NoMemory};
 use replay_parts::{Numbers, push_replies};
@@ -27,7 +28,7 @@ pub struct Place<C: ProxyCore> {
     pub life: u64,
     pub core: C,
     /// The tickets that were asked or posted.
-    pub tickets: BTreeSet<u64>,
+    pub tickets: Tickets,
     /// Those that were posted.
     pub posted: BTreeSet<u64>,
     /// The world's numbers of its calls, in the order in which it sent them.
@@ -65,7 +66,7 @@ impl<C: ProxyCore> Place<C> {
             clock,
             life,
             core,
-            tickets: BTreeSet::new(alloc),
+            tickets: Tickets::new(alloc),
             posted: BTreeSet::new(alloc),
             calls: Vec::new(alloc),
             streams: Numbers::new(alloc),
@@ -88,7 +89,7 @@ impl<C: ProxyCore> Place<C> {
     pub fn has_ticket(&self, ticket: u64) -> bool
         ensures { result ≡ is_among self.now.tickets ticket }
     {
-        self.tickets.contains(&ticket)
+        self.tickets.contains(ticket)
     }
 
     /// Whether the ticket is that of a watch.

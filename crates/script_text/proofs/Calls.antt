@@ -1,11 +1,11 @@
 -- What the public calls say of texts.
-use Rattle.std.proofs.Common.{◌≡◌, ℕ, ◌+◌, ◌<◌, true, List, [], ◌∷◌, ◌++◌, length, Option, Some, None, Result, Ok, Err, refl, sym, ap, ◌∙◌, subst, arith}
-use Rattle.std.specs.Prelude.{IfOk, IsSome, option_to_list}
+use Rattle.std.proofs.Common.{◌≡◌, ℕ, ◌+◌, ◌-◌, ◌<◌, true, List, [], ◌∷◌, ◌++◌, length, take, Result, Ok, Err, sym, ap, ◌∙◌, subst, append_assoc, arith}
+use Rattle.std.specs.Prelude.{IfOk, slice_index}
 use Rattle.std.specs.List.{join_with_byte}
-use Rattle.std.proofs.lemmas.Bool.{false≢true}
 use Rattle.std.proofs.lemmas.List.{length-append}
-use Rattle.text_model.specs.Forms.{Word, Form}
-use Rattle.text_model.specs.Texts.{text, written}
+use Rattle.std.proofs.Math.Seq.{get_or-append_seam, take-append_seam}
+use Rattle.text_model.specs.Forms.{Word}
+use Rattle.text_model.specs.Texts.{written}
 use Rattle.text_model.proofs.TextLaws.{written_text}
 use Rattle.script_text.specs.declared.fault.LineFault.{LineFault}
 use Rattle.script_text.specs.declared.line.Line.{Line}
@@ -34,23 +34,6 @@ item_only bytes r given i fits e =
     let At : Result Item ℕ → Type 0 = λ x. Reads 0 r x in
     subst At (ap item_at e ∙ item_again i fits) given
 
--- ---- the last space goes
-
-same_front : (xs ys : List ℕ) (x y : ℕ) → xs ++ x ∷ [] ≡ ys ++ y ∷ [] → xs ≡ ys
-same_front [] [] x y e = refl
-same_front [] (b ∷ []) x y e = absurd (omega (arith, ap length e))
-same_front [] (b ∷ c ∷ bs) x y e = absurd (omega (arith, ap length e))
-same_front (a ∷ []) [] x y e = absurd (omega (arith, ap length e))
-same_front (a ∷ c ∷ cs) [] x y e = absurd (omega (arith, ap length e))
-same_front (a ∷ cs) (b ∷ bs) x y e =
-    let heads : a ≡ b = cc in
-    let tails : cs ++ x ∷ [] ≡ bs ++ y ∷ [] = cc in
-    λ i. heads i ∷ same_front cs bs x y tails i
-
-popped : (front ws_text : List ℕ) (last : Option ℕ) → ws_text ++ 32 ∷ [] ≡ front ++ option_to_list last → IsSome last → front ≡ ws_text
-popped front ws_text None e some = absurd (false≢true some)
-popped front ws_text (Some x) e some = sym (same_front ws_text front 32 x e)
-
 abbrev value_or : {A : Type 0} → A → Result A ℕ → A
 value_or d (Ok x) = x
 value_or d (Err n) = d
@@ -61,14 +44,28 @@ done x = Ok x
 pub same_value : {A : Type 0} (x y : A) → done x ≡ done y → x ≡ y
 same_value x y e = ap (value_or x) e
 
--- an item's words, written one after the other, without the last space
-one_text : (ws : List Word) (out front : List ℕ) (last : Option ℕ) → 0 < length ws → out ≡ written 32 ws → out ≡ front ++ option_to_list last → (0 < length out → IsSome last) → front ≡ join_with_byte 32 ws
-one_text [] out front last some e pop took = absurd (omega arith)
-one_text (w ∷ ws) out front last some e pop took =
-    let whole : out ≡ join_with_byte 32 (w ∷ ws) ++ 32 ∷ [] = e ∙ written_text 32 w ws in
-    let long : 0 < length out = omega (arith, ap length whole, length-append (join_with_byte 32 (w ∷ ws)) (32 ∷ [])) in
-    popped front (join_with_byte 32 (w ∷ ws)) last (sym whole ∙ pop) (took long)
+-- ---- the last space goes
 
-pub item_written : (i : Item) (out front : List ℕ) (last : Option ℕ) → out ≡ written 32 (item_form.spell i) → out ≡ front ++ option_to_list last → (0 < length out → IsSome last) → front ≡ item_text i
+-- words written one after the other end with a space
+spaced : (ws : List Word) → 0 < length ws → written 32 ws ≡ join_with_byte 32 ws ++ 32 ∷ []
+spaced [] some = absurd (omega arith)
+spaced (w ∷ ws) some = written_text 32 w ws
+
+abbrev pub LastGoes : List ℕ → ℕ → List ℕ → Type 0
+LastGoes full n new = 0 < n → slice_index full (n - 1) < 128 → new ≡ take (n - 1) full
+
+last_goes : (front full new : List ℕ) (n : ℕ) → full ≡ front ++ 32 ∷ [] → n ≡ length full → LastGoes full n new → new ≡ front
+last_goes front full new n e long goes =
+    let many : n ≡ length front + 1 = long ∙ ap length e ∙ length-append front (32 ∷ []) in
+    let before : n - 1 ≡ length front = omega (arith, many) in
+    let last : slice_index full (n - 1) ≡ 32 = (λ i. slice_index (e i) (before i)) ∙ get_or-append_seam front 32 [] 0 in
+    goes (omega (arith, many)) (omega (arith, last)) ∙ (λ i. take (before i) (e i)) ∙ take-append_seam front (32 ∷ [])
+
+-- an item's words behind what stands there, without the last space
+pub item_appended : (i : Item) (old full new : List ℕ) (n : ℕ) → full ≡ old ++ written 32 (item_form.spell i) → n ≡ length full → LastGoes full n new → new ≡ old ++ item_text i
 unfolding item_text
-item_written i out front last e pop took = one_text (item_form.spell i) out front last (item_form-HasWords i) e pop took
+item_appended i old full new n e long goes =
+    let text_of = join_with_byte 32 (item_form.spell i) in
+    last_goes (old ++ text_of) full new n
+    (e ∙ ap (λ (bs : List ℕ). old ++ bs) (spaced (item_form.spell i) (item_form-HasWords i)) ∙ sym (append_assoc old text_of (32 ∷ [])))
+    long goes

@@ -13,6 +13,6 @@ pub use fault::LineFault;
 pub use item::Item;
 pub use line::Line;
 pub use texts::{
-    each_item_has_one_text, each_line_has_one_text, places_are_of_first_wrong_words, read_item,
-    read_line, write_item,
+    append_item, each_item_has_one_text, each_line_has_one_text, places_are_of_first_wrong_words,
+    read_item, read_line, write_item,
 };

@@ -1,4 +1,4 @@
-ghost use Rattle.std.specs.Prelude.{◌≡◌, ℕ, ◌+◌, ◌-◌, ◌++◌, ◌∷◌, [], length, true, IfOk, Ok};
+ghost use Rattle.std.specs.Prelude.{◌≡◌, ℕ, ◌+◌, ◌-◌, ◌++◌, ◌∷◌, [], length, true, IfOk, OnOk, Ok, string_bytes};
 ghost use Rattle.text_model.specs.Forms.{whole};
 ghost use Rattle.text_model.specs.Texts.{words};
 ghost use Rattle.text_words.specs.Reading.{Gives};
@@ -41,16 +41,23 @@ pub fn read_item(alloc: Global, line: &[u8]) -> Result<Item, LineFault>
 }
 
 /// The text of an item, without a line feed.
-#[tactic(auto, unfolding(crate::specs::Items::item_text))]
 pub fn write_item(alloc: Global, item: &Item) -> Result<Bytes, NoMemory>
     ensures { IfOk result (λ b. b ≡ item_text item.now) }
 {
     let mut out = String::new(alloc);
-    push_item(&mut out, item)?;
-    let mut bytes = out.into_bytes();
+    append_item(&mut out, item)?;
+    Ok(Bytes::from_vec(out.into_bytes()))
+}
+
+/// Appends the text of an item, without a line feed.
+#[tactic(auto, unfolding(crate::specs::Items::item_text))]
+pub fn append_item(out: &mut String, item: &Item) -> Result<(), NoMemory>
+    ensures { OnOk result (string_bytes out.new ≡ string_bytes out.old ++ item_text item.now) }
+{
+    push_item(out, item)?;
     // The space behind the last word goes.
-    let _space = bytes.pop();
-    Ok(Bytes::from_vec(bytes))
+    let _space = out.pop();
+    Ok(())
 }
 
 #[tactic(auto, unfolding(crate::specs::Lines::line_at))]

@@ -13,4 +13,4 @@ pub use flags::{
 };
 pub use read_words::{MAX_NUMBER, number_of, read_bytes, read_number, read_number_within};
 pub use words::Words;
-pub use write_words::{push_bytes, push_number, push_word};
+pub use write_words::{push_bytes, push_digits, push_number, push_word};

@@ -1,7 +1,9 @@
 ghost use Rattle.std.specs.Prelude.{◌≡◌, ℕ, ◌<◌, ◌≤◌, ◌^◌, Some, IfSome, IfErr, decimal, bytes_eq, IfOk, true, ◌∷◌, []};
+ghost use Rattle.std.specs.List.{list_all};
 ghost use Rattle.std.specs.Str.Parse.{digits_value};
 ghost use Rattle.text_model.specs.Forms.{Form, respelled};
-ghost use Rattle.text_model.specs.Words.{is_within, number, number_within, bytes, bytes_word, bytes_guess, are_bytes};
+ghost use Rattle.text_model.specs.Words.{is_within, number, number_within, bytes, bytes_word, bytes_guess, are_bytes, is_plain};
+ghost use Rattle.text_words.specs.Plain.{is_plain_word};
 ghost use Rattle.text_words.specs.Reading.{Gives, IsWrong};
 
 use crate::fault::ReadError;
@@ -11,7 +13,6 @@ use etcd_types::{Bytes, NoMemory};
 use itoa::Buffer;
 use percent_encoding::percent_decode;
 use std::alloc::Global;
-use std::str;
 
 /// The greatest number of a text.
 pub const MAX_NUMBER: u64 = 0x7fff_ffff_ffff_ffff;
@@ -41,26 +42,24 @@ pub fn number_of(word: &[u8], low: u64, high: u64) -> Option<u64>
     ensures bound { IfSome result (λ n. n ≤ high) }
     ensures value { result ≡ respelled decimal (digits_value 10) (is_within low high) word.now }
 {
-    match parsed(word) {
-        None => None,
-        Some(number) => {
-            if low <= number && number <= high && is_decimal(word, number) {
-                Some(number)
-            } else {
-                None
-            }
-        }
+    let number = guessed_number(word);
+    if low <= number && number <= high && is_decimal(word, number) {
+        Some(number)
+    } else {
+        None
     }
 }
 
-/// The number that a word spells, if it spells one. It may be given for other words too.
-fn parsed(word: &[u8]) -> Option<u64>
-    ensures { (n : ℕ) → n < 2 ^ 64 → word.now ≡ decimal n → result ≡ Some n }
+/// The number that a word spells. Of a word that spells none it says nothing.
+fn guessed_number(word: &[u8]) -> u64
+    ensures { (n : ℕ) → n < 2 ^ 64 → word.now ≡ decimal n → result ≡ n }
 {
-    match str::from_utf8(word) {
-        Err(_) => None,
-        Ok(text) => text.parse::<u64>().ok(),
+    let mut number = 0u64;
+    for byte in word {
+        let digit = u64::from(byte.wrapping_sub(b'0'));
+        number = number.wrapping_mul(10).wrapping_add(digit);
     }
+    number
 }
 
 fn is_decimal(word: &[u8], number: u64) -> bool
@@ -83,8 +82,42 @@ pub fn read_bytes(alloc: Global, words: &mut Words) -> Result<Bytes, ReadError>
     }
 }
 
-/// The bytes that a word spells: they are guessed, and the word has to be their spelling.
+/// The bytes that a word spells, if it spells some.
 fn bytes_of(alloc: Global, word: &[u8]) -> Result<Option<Bytes>, NoMemory>
+    ensures { IfOk result (λ r. r ≡ respelled bytes_word bytes_guess are_bytes word.now) }
+{
+    if is_tilde(word) {
+        return Ok(Some(Bytes::new(alloc)));
+    }
+    if is_plain_word(word) {
+        // Most words spell themselves.
+        return Ok(Some(Bytes::from_slice(alloc, word)?));
+    }
+    Ok(respelled(alloc, word)?)
+}
+
+/// Whether the word has a byte, and each of them stands for itself.
+fn is_plain_word(word: &[u8]) -> bool
+    ensures { result ≡ is_plain_word word.now }
+{
+    !word.is_empty() && are_plain(word)
+}
+
+fn are_plain(bytes: &[u8]) -> bool
+    ensures { result ≡ list_all is_plain bytes.now }
+{
+    bytes.iter().all(|b| is_plain(*b))
+}
+
+/// Whether the byte stands for itself.
+fn is_plain(byte: u8) -> bool
+    ensures { result ≡ is_plain byte }
+{
+    byte.is_ascii_alphanumeric() || byte == b'-' || byte == b'.' || byte == b'_' || byte == b'/'
+}
+
+/// The bytes are guessed, and the word has to be their spelling.
+fn respelled(alloc: Global, word: &[u8]) -> Result<Option<Bytes>, NoMemory>
     ensures { IfOk result (λ r. r ≡ respelled bytes_word bytes_guess are_bytes word.now) }
 {
     let bytes = guessed(alloc, word)?;

@@ -3,6 +3,7 @@ ghost use Rattle.text_model.specs.Texts.{written};
 ghost use Rattle.text_model.specs.Words.{bytes_word, bytes, number};
 
 use etcd_types::{Bytes, NoMemory};
+use itoa::Buffer;
 use percent_encoding::percent_encode;
 use text_model::ESCAPED;
 
@@ -32,7 +33,16 @@ pub fn push_bytes(out: &mut String, value: &Bytes) -> Result<(), NoMemory>
 pub fn push_number(out: &mut String, number: u64) -> Result<(), NoMemory>
     ensures { OnOk result (string_bytes out.new ≡ string_bytes out.old ++ written 32 (decimal number ∷ [])) }
 {
-    write!(out, "{number} ")?;
+    push_digits(out, number)?;
+    out.push(' ')?;
+    Ok(())
+}
+
+/// Appends the digits of a number, and nothing behind them.
+pub fn push_digits(out: &mut String, number: u64) -> Result<(), NoMemory>
+    ensures { OnOk result (string_bytes out.new ≡ string_bytes out.old ++ decimal number) }
+{
+    out.push_str(Buffer::new().format(number))?;
     Ok(())
 }
 

@@ -1,5 +1,6 @@
 -- The end of the script.
 use Rattle.outside.proofs.Results.{on_err}
+use Rattle.std.specs.Prelude.{string_bytes}
 use Rattle.replay_input.specs.Replay.{text_of}
 use Rattle.replay_input.proofs.Feeding.{writes_front, writes_more}
 use Rattle.replay_input.proofs.Turns.{front_of_all, all_written}
@@ -15,6 +16,6 @@ returns-clause-finished g c = λ start bytes f w.
     let written = g.K.Sink.written c.flush.new.output in
     record {
       ended = t.ended;
-      writes = all_written start written c.flush.new.self.pending.items (text_of bytes) (c.in_ok-flush.ensures.ok start (text_of bytes) (writes_more c.take_end.new.self.pending.items (text_of bytes) t.added w t.pending t.text)) c.in_ok-flush.ensures.nothing;
+      writes = all_written start written (string_bytes c.flush.new.self.pending) (text_of bytes) (c.in_ok-flush.ensures.ok start (text_of bytes) (writes_more (string_bytes c.take_end.new.self.pending) (text_of bytes) t.added w t.pending t.text)) c.in_ok-flush.ensures.nothing;
       shown = t.shown;
     }
