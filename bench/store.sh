@@ -45,7 +45,7 @@ for keys in 1000 100000; do
     wait "$program"
     cat "$work/told"
     version=$((made / 300000 - 110))
-    echo "$keys keys, 300000 versions: $version bytes a version beside its key and value; $made bytes in use, $compacted once compacted, $again with as many puts again"
+    echo "$keys keys, 300000 versions: $version bytes a version beside its key and value; $made bytes in use, $compacted once compacted, $again with as many versions again"
     printf '%s 300000\tmemory\t%s\n' "$keys" "$version" >> "$work/times"
     printf '%s 300000\tagain\t%s\n' "$keys" "$((again * 100 / made))" >> "$work/times"
 done
@@ -111,7 +111,7 @@ awk -F '\t' '
         mark("revoke of a lease with 1,000 keys", time(100000, 100000, "revoke of a lease with 1,000 keys"), 3000000, " ns")
         for (keys = 1000; keys <= 100000; keys *= 100) {
             mark("a version over " keys " keys, beside its key and value", value[keys " 300000", "memory"], 200, " bytes")
-            mark("in use over " keys " keys, compacted and put again", value[keys " 300000", "again"], 110, " of 100")
+            mark("in use over " keys " keys, compacted and as many versions kept again", value[keys " 300000", "again"], 110, " of 100")
         }
         exit missed
     }' "$work/times"

@@ -1,7 +1,7 @@
 //! Measures a store over so many keys of ten bytes with values of a hundred, once it made so many revisions: puts, gets,
 //! transactions of five puts and five gets, what a watch is pushed, ranges of 100 keys, and the end of a lease with 1,000 keys.
 //! With the word `stops` it waits for a line of its input once the revisions are made, once they are compacted, and once as many
-//! are made again, so that its memory can be read; and it measures the compaction alone.
+//! versions are kept again, so that its memory can be read; and it measures the compaction alone.
 #![tactic(auto)]
 
 mod requests;
@@ -105,7 +105,9 @@ fn measure_memory(rt: &HostRuntime, bench: &mut Bench, revisions: u64) -> io::Re
     let kept = bench.kept();
     println!(rt; "{kept} versions kept")?;
     wait(rt, "compacted")?;
-    make(bench, revisions)?;
+    make(bench, revisions.saturating_sub(kept))?;
+    let kept = bench.kept();
+    println!(rt; "{kept} versions kept")?;
     wait(rt, "again")
 }
 

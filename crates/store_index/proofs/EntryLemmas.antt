@@ -25,7 +25,7 @@ Found = Option (List Version)
 abbrev at : List ℕ → List ℕ → Bool
 at key = is_at (slice_cmp nat_cmp key)
 
-same-sym : (a b : List ℕ) → same a b ≡ same b a
+pub same-sym : (a b : List ℕ) → same a b ≡ same b a
 same-sym a b = ap is_eq (nat_list_cmp_total.antisymm a b) ∙ turned (slice_cmp nat_cmp b a)
   where
     turned : (o : Ordering) → is_eq (ordering_reverse o) ≡ is_eq o

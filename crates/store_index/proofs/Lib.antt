@@ -5,6 +5,7 @@ pub mod ListedRecords
 pub mod BoundLemmas
 pub mod ReadLemmas
 pub mod ListingLemmas
+pub mod OneKey
 pub mod AddingLemmas
 pub mod IndexLemmas
 pub mod SeenLemmas

@@ -1,4 +1,4 @@
-ghost use Rattle.std.specs.Prelude.{◌≡◌, ◌++◌, length, min, OnOk, IfOk};
+ghost use Rattle.std.specs.Prelude.{◌≡◌, ◌++◌, length, map, min, OnOk, IfOk};
 ghost use Rattle.std.specs.List.{flat_map};
 ghost use Rattle.std.specs.Option.{option_to_list};
 ghost use Rattle.std.specs.Range.Bound.{bound_map};
@@ -25,9 +25,34 @@ pub(crate) fn records_in(
     ensures shown { IfOk result (λ kvs. kvs ≡ shown_by (left_by up_to) range.now map.now.entries) }
     ensures ordered { AreOrdered map.now.entries }
 {
-    let mut kvs = List::new(alloc);
+    // They are found before they are copied: the memory that the next ones lie in is then read while the first ones are looked at.
+    let mut found = Vec::new(alloc);
     for (_, versions) in map.range(bounds(range)) {
-        add_left(alloc, &mut kvs, versions.as_slice(), up_to)?;
+        find_left(&mut found, versions.as_slice(), up_to)?;
+    }
+    Ok(copies(alloc, found.as_slice())?)
+}
+
+/// Adds the record that the versions left to those found, where there is one.
+fn find_left<'a>(
+    found: &mut Vec<&'a Kv>,
+    versions: &'a [Version],
+    up_to: Option<u64>,
+) -> Result<(), NoMemory>
+    ensures { OnOk result (map (λ r. r.now) found.new.items ≡ map (λ r. r.now) found.old.items ++ option_to_list (left_by up_to versions.now)) }
+{
+    if let Some(record) = left_by(versions, up_to) {
+        found.push(record)?;
+    }
+    Ok(())
+}
+
+fn copies(alloc: Global, records: &[&Kv]) -> Result<List<Kv>, NoMemory>
+    ensures { IfOk result (λ kvs. kvs ≡ map (λ r. r.now) records.now) }
+{
+    let mut kvs = List::new(alloc);
+    for record in records {
+        kvs.push(record.copy(alloc)?)?;
     }
     Ok(kvs)
 }
@@ -45,7 +70,7 @@ pub(crate) fn count_versions(map: &BTreeMap<Bytes, KeyVersions>) -> u64
 }
 
 /// Adds the record that the versions left, where there is one.
-fn add_left(
+pub(crate) fn add_left(
     alloc: Global,
     kvs: &mut List<Kv>,
     versions: &[Version],

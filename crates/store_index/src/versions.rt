@@ -10,7 +10,7 @@ ghost use Rattle.store_index.specs.Seen.{with_record, with_records};
 
 use crate::changes::{Changes, after_put, changed_key, copy_change};
 use crate::key_versions::KeyVersions;
-use crate::listing::{count_versions, records_in};
+use crate::listing::{add_left, count_versions, records_in};
 use crate::reading::left_now;
 use etcd_types::{Bytes, KeyRange, Kv, List, NoMemory};
 use kept_model::Version;
@@ -83,6 +83,12 @@ impl Versions {
         ensures shown { IfOk result (λ kvs. kvs ≡ shown_by (left_by up_to) range.now self.now) }
         ensures ordered { AreOrdered self.now }
     {
+        // One key is looked up once, where the bounds of a range are two look-ups.
+        if range.is_one() && !self.is_empty() {
+            let mut kvs = List::new(self.alloc);
+            add_left(self.alloc, &mut kvs, self.of(&range.key), up_to)?;
+            return Ok(kvs);
+        }
         records_in(self.alloc, &self.map, range, up_to)
     }
 

@@ -1,4 +1,5 @@
-ghost use Rattle.std.specs.Prelude.{◌≡◌, ◌++◌, map, IfOk, OnOk};
+ghost use Rattle.std.specs.Prelude.{◌≡◌, [], ◌∷◌, ◌++◌, None, map, IfOk, OnOk};
+ghost use Rattle.etcd_types.specs.declared.answer.Body.TheVariants as body;
 ghost use Rattle.store_model.specs.declared.history.KeyChange.TheVariants as change;
 ghost use Rattle.store_model.specs.History.{History};
 ghost use Rattle.store_model.specs.Transactions.{put_on, run_put, deletion, delete_all, run_delete, run_range, run, run_all, run_txn};
@@ -95,6 +96,9 @@ impl Store {
         if ask.lease != 0 && !self.leases.has(ask.lease) {
             return Ok(Err(refusals::lease_not_found(self.alloc)?));
         }
+        if !ask.ignore_lease && !ask.prev_kv {
+            return Ok(Ok(put_plainly(self.alloc, ask, made)?));
+        }
         let old = record_now(self.alloc, &self.index, made.as_slice(), &ask.key)?;
         Ok(put_on(self.alloc, ask, made, old)?)
     }
@@ -109,6 +113,15 @@ impl Store {
         let gone = self.index.records_with(&ask.range, made.as_slice())?;
         Ok(delete_all(self.alloc, ask, made, gone)?)
     }
+}
+
+/// The put that needs nothing of the key's record before it, so that this isn't looked up.
+fn put_plainly(alloc: Global, ask: &PutAsk, made: &mut Changes) -> Result<Body, NoMemory>
+    ensures made { OnOk result (made.new ≡ made.old ++ change.Put ask.now.key ask.now.value ask.now.lease ∷ []) }
+    ensures body { IfOk result (λ told. told ≡ body.Put None) }
+{
+    made.push(put_change(alloc, ask, ask.lease)?)?;
+    Ok(Body::Put { prev: None })
 }
 
 /// The put, where `old` is the key's record before it.
