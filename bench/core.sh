@@ -1,7 +1,8 @@
 #!/bin/sh
-# Measures the machine of one proxy: a cached read, a write through its owner and a range that is passed on, alone, beside 100,000 keys
-# that are held and 1,000 requests that wait, and beside 10,000 watches that stand on 1,000 keys; and the bytes that a held key, an
-# unanswered request and a watch take. The times are the processor's, from asking to the reply, over what reading the same lines takes,
+# Measures the machine of one proxy: a cached read of one key again and again and of keys at random, a read by which its key comes to be
+# held, a write through its owner and a range that is passed on, alone, beside 100,000 keys that are held and 1,000 requests that wait, and
+# beside 10,000 watches that stand on 1,000 keys; and the bytes that a held key, an unanswered request and a watch take. What keys at
+# random take longer than one key is the processor's wait for memory, since the work is the same. The times are the processor's, from asking to the reply, over what reading the same lines takes,
 # the least of several tries. Keys have ten bytes and values a hundred. Arguments may name another build of the program, and a number
 # by which all these counts are divided, where they take too long. The program is proved and built first, where it isn't yet.
 set -eu
@@ -24,7 +25,7 @@ class Proxy:
 
     def __init__(self):
         self.program = subprocess.Popen([PROGRAM], stdin=subprocess.PIPE, stdout=subprocess.PIPE, text=True)
-        self.calls, self.streams, self.revision, self.held = 0, 1, 2, 0
+        self.calls, self.streams, self.revision, self.held, self.new = 0, 1, 2, 0, 0
         self.tell(["new 1 ~ L/ 1000000", "at 1", "do tick 0"])
         self.tell([f"do work", f"do answer {self.call()} ok 1.1.1.1 grant {1 << 62} 1000000"])
         self.tell(["do work", "do item 1 created 1.1.1.1"])
@@ -62,13 +63,14 @@ class Proxy:
 
     # what stands beside what is measured
 
+    def held_by(self, key):
+        self.revision += 1
+        return [f"ask 1 0 range {key} ~ 0 0 -", "work",
+                f"answer {self.call()} ok 1.1.{self.revision}.1 txn t 2 range 1 - 1 {key} {VALUE} 2 2 1 0 put -", "take 1"]
+
     def hold(self, count):
         for number in range(self.held, self.held + count):
-            self.revision += 1
-            self.tell([
-                f"do ask 1 0 range {key(number)} ~ 0 0 -", "do work",
-                f"do answer {self.call()} ok 1.1.{self.revision}.1 txn t 2 range 1 - 1 {key(number)} {VALUE} 2 2 1 0 put -",
-                "do take 1"])
+            self.tell(["do " + line for line in self.held_by(key(number))])
         self.held += count
 
     def wait(self, count):
@@ -87,6 +89,13 @@ class Proxy:
 
     def reading(self):
         return [f"ask 1 0 range {self.some_key()} ~ 0 0 -"]
+
+    def reading_one(self):
+        return [f"ask 1 0 range {key(self.held // 3)} ~ 0 0 -"]
+
+    def holding(self):
+        self.new += 1
+        return self.held_by(f"{self.some_key()}.{self.new}")
 
     def writing(self):
         self.revision += 1
@@ -110,8 +119,9 @@ class Proxy:
         return (min(done) - min(read)) // rounds
 
     def told(self, beside, rounds):
-        print(f"{beside}: a cached read {self.timed(self.reading, 10 * rounds)} ns, a write through {self.timed(self.writing, rounds)} ns, "
-              f"a range passed on {self.timed(self.passing, rounds)} ns", flush=True)
+        print(f"{beside}: a cached read of one key {self.timed(self.reading_one, 10 * rounds)} ns, of keys at random "
+              f"{self.timed(self.reading, 10 * rounds)} ns, a write through {self.timed(self.writing, rounds)} ns, a range passed on "
+              f"{self.timed(self.passing, rounds)} ns, a read that takes its key {self.timed(self.holding, rounds)} ns", flush=True)
 
 
 def each(add, count):

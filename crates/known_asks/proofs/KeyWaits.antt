@@ -1,5 +1,5 @@
 -- Reads that wait at their key have the first rank; where there are none, a rule for them alone changes nothing.
-use Rattle.std.proofs.Common.{◌≡◌, ℕ, Bool, true, false, not, ◌||◌, ◌&&◌, ◌==◌, nat_lt, List, [], ◌∷◌, map, Option, Some, None, refl, sym, ◌∙◌, ap, arith}
+use Rattle.std.proofs.Common.{◌≡◌, ℕ, Bool, true, false, not, ◌||◌, ◌&&◌, ◌==◌, nat_lt, List, [], ◌∷◌, map, Option, Some, None, refl, sym, ◌∙◌, arith}
 use Rattle.std.specs.List.{list_all}
 use Rattle.std.proofs.lemmas.Bool.Decides.{nat_tests}
 use Rattle.etcd_types.specs.Keys.{before}
@@ -8,14 +8,13 @@ use Rattle.wait_model.specs.declared.sending.Sending.TheVariants as sending
 use Rattle.read_model.specs.declared.asked.Asked.{Asked}
 use Rattle.read_model.specs.declared.asked.Stage.{Stage}
 use Rattle.read_model.specs.declared.asked.Stage.TheVariants as stage
-use Rattle.known_asks.specs.Changes.{stage_or, staged_by}
 use Rattle.known_asks.specs.Firsts.{IsNext, IsNextOf}
 use Rattle.known_asks.specs.Marks.{stage_rank, stage_number, mark_of}
 use Rattle.known_asks.specs.Waiting.{waits_at_key, none_waits}
 use Rattle.known_asks.proofs.Firsts.{all_imply, by_least, in_numbers}
 use Rattle.known_asks.proofs.MarkOrder.{sooner, by_kind}
 
-waiting_rank : (s : Stage) → waits_at_key s ≡ true → stage_rank s ≡ 0
+pub waiting_rank : (s : Stage) → waits_at_key s ≡ true → stage_rank s ≡ 0
 waiting_rank (stage.Calling s) e = absurd (cc)
 waiting_rank stage.Acquiring e = refl
 waiting_rank stage.Joined e = refl
@@ -24,7 +23,7 @@ waiting_rank stage.Writes e = absurd (cc)
 waiting_rank (stage.Grouped s) e = absurd (cc)
 waiting_rank (stage.Replied v) e = absurd (cc)
 
-other_rank : (s : Stage) → waits_at_key s ≡ false → nat_lt 0 (stage_rank s) ≡ true
+pub other_rank : (s : Stage) → waits_at_key s ≡ false → nat_lt 0 (stage_rank s) ≡ true
 other_rank (stage.Calling (sending.Due since)) e = refl
 other_rank (stage.Calling (sending.Out call)) e = refl
 other_rank stage.Acquiring e = absurd (cc)
@@ -36,7 +35,7 @@ other_rank (stage.Grouped (Some (sending.Due since))) e = refl
 other_rank (stage.Grouped (Some (sending.Out call))) e = refl
 other_rank (stage.Replied v) e = refl
 
-no_earlier : (c n t : ℕ) → sooner c n t 0 0 0 ≡ true → ⊥
+pub no_earlier : (c n t : ℕ) → sooner c n t 0 0 0 ≡ true → ⊥
 no_earlier c n t e = grind (arith, nat_tests)
 
 not_first : (n t d m u : ℕ) → nat_lt 0 d ≡ true → sooner 0 n t 0 0 0 || not (sooner 0 n t d m u) ≡ true → ⊥
@@ -69,6 +68,3 @@ pub all_stay : (f : Asked → Asked) (xs : List Asked) → ((a : Asked) → wait
 all_stay f [] l h = refl
 all_stay f (a ∷ xs) l h = λ i.
     sym (l a (not_true (waits_at_key a.stage) (and_first (not (waits_at_key a.stage)) (none_waits xs) h))) i ∷ all_stay f xs l (and_second (not (waits_at_key a.stage)) (none_waits xs) h) i
-
-pub none_staged : (f : Asked → Option Stage) (xs : List Asked) → ((a : Asked) → waits_at_key a.stage ≡ false → f a ≡ None) → none_waits xs ≡ true → xs ≡ map (staged_by f) xs
-none_staged f xs l h = all_stay (staged_by f) xs (λ a e. ap (λ o. stage_or o a) (l a e)) h

@@ -6,3 +6,4 @@ pub mod MarkOrder
 pub mod Moves
 pub mod Since
 pub mod Tickets
+pub mod WaitingFirst

@@ -1,4 +1,4 @@
-ghost use Rattle.std.specs.Prelude.{◌≡◌, ◌++◌, ◌∷◌, [], map, true, false, None, OnOk, OnErr};
+ghost use Rattle.std.specs.Prelude.{◌≡◌, ◌++◌, ◌∷◌, [], map, true, false, None, IfOk, OnOk, OnErr};
 ghost use Rattle.std.specs.Option.{option_copied};
 ghost use Rattle.core_model.specs.ClockWork.{timed_out_ask};
 ghost use Rattle.core_model.specs.Fits.{once};
@@ -6,17 +6,20 @@ ghost use Rattle.core_model.specs.Lookups.{ask_at, without_ask};
 ghost use Rattle.core_model.specs.Takes.{least_ready};
 ghost use Rattle.read_model.specs.PlainRead.{in_stage};
 ghost use Rattle.known_asks.specs.Asks.{one_changed, none_times_out};
+ghost use Rattle.read_model.specs.declared.asked.Asked.{Asked as Value};
 ghost use Rattle.known_asks.specs.Callers.{AreCallers, IsFirstCaller};
-ghost use Rattle.known_asks.specs.Waiting.{none_waits};
+ghost use Rattle.known_asks.specs.Changes.{restaged, staged_by};
+ghost use Rattle.known_asks.specs.Waiting.{none_waits, waits_at_key};
 ghost use Rattle.known_asks.specs.Firsts.{IsNext, IsNextOf, IsFirstDueOf};
 
 use crate::callers::{Callers, callers_before, calls_as};
 use crate::marks::{CALL_OUT, DUE, REPLIED, mark_of};
 use crate::places::{bound, change_one, change_rows, oldest_of, places, row_of, set_row};
+use crate::restage::Restage;
 use crate::rule::Rule;
 use crate::stages::ready_ticket;
 use crate::times::{REQUEST_TIME, TimeOut};
-use crate::waiting::waits_at_key;
+use crate::waiting::{changes_at, waits_at_key};
 use etcd_types::NoMemory;
 use mark_rows::{Mark, MarkRows};
 use numbered_rows::place;
@@ -180,6 +183,14 @@ impl Asks {
         }
     }
 
+    /// The least ticket from this one on whose reply stands. No clause speaks of it: it tells whom to wake.
+    pub fn ready_from(&self, ticket: u64) -> Option<u64> {
+        match self.first_from(&Mark::new(REPLIED, 0, ticket)) {
+            Some(ask) => ready_ticket(ask),
+            None => None,
+        }
+    }
+
     /// The one that is due first: since the earliest step, and of one step the least ticket.
     pub fn first_due(&self) -> Option<&Asked>
         ensures { IsFirstDueOf (option_copied result) self.now }
@@ -220,6 +231,23 @@ impl Asks {
             Some(ask) => callers_before(ask, ticket, call),
             None => Callers::One(ticket),
         }
+    }
+
+    /// What the rule changes of the reads that wait at their key, by ticket, where it changes no other.
+    pub(crate) fn waiting_changes<R: Restage>(
+        &self,
+        alloc: Global,
+        rule: &R,
+    ) -> Result<Vec<(u64, Stage)>, NoMemory>
+        requires { (a : Value) → waits_at_key a.stage ≡ false → R.stage_of rule.now a ≡ None }
+        ensures { IfOk result (λ changes. restaged changes.items self.now ≡ map (staged_by (R.stage_of rule.now)) self.now) }
+    {
+        Ok(changes_at(
+            alloc,
+            &self.rows,
+            self.marks.from(&Mark::new(0, 0, 0)),
+            rule,
+        )?)
     }
 
     /// Whether a read waits at its key. It takes logarithmic time.

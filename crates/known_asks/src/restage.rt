@@ -54,7 +54,7 @@ fn changes_of<R: Restage>(
     Ok(changes)
 }
 
-fn add_change<R: Restage>(
+pub(crate) fn add_change<R: Restage>(
     alloc: Global,
     changes: &mut Vec<(u64, Stage)>,
     ask: &Asked,

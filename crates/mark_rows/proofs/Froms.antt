@@ -67,7 +67,7 @@ less Equal e = absurd (cc)
 less Greater e = absurd (cc)
 
 -- what is below none of a list isn't before its first
-not_before : (es : Keyed ℕ) (x j : List ℕ) (n : ℕ) → T (below_all (slice_cmp nat_cmp) x es) → at es j ≡ Some n → before j x ≡ false
+pub not_before : (es : Keyed ℕ) (x j : List ℕ) (n : ℕ) → T (below_all (slice_cmp nat_cmp) x es) → at es j ≡ Some n → before j x ≡ false
 not_before [] x j n b e = absurd (cc)
 not_before (y ∷ es) x j n b e =
     elim (same j y.0) as (λ c. same j y.0 ≡ c → cond c (Some y.1) (at es j) ≡ Some n → before j x ≡ false) [
@@ -78,7 +78,7 @@ not_before (y ∷ es) x j n b e =
     ] refl e
 
 -- none of a list that is below all is it
-not_below : (es : Keyed ℕ) (x j : List ℕ) (n : ℕ) → T (below_all (slice_cmp nat_cmp) x es) → at es j ≡ Some n → same j x ≡ true → ⊥
+pub not_below : (es : Keyed ℕ) (x j : List ℕ) (n : ℕ) → T (below_all (slice_cmp nat_cmp) x es) → at es j ≡ Some n → same j x ≡ true → ⊥
 not_below [] x j n b e t = cc
 not_below (y ∷ es) x j n b e t =
     elim (same j y.0) as (λ c. same j y.0 ≡ c → cond c (Some y.1) (at es j) ≡ Some n → ⊥) [

@@ -1,5 +1,5 @@
 -- Each comes into the stage of the rule, or stays, as the definitions have it.
-use Rattle.std.proofs.Common.{◌≡◌, ℕ, Bool, true, false, ◌&&◌, cond, List, [], ◌∷◌, map, Option, Some, None, refl, ap}
+use Rattle.std.proofs.Common.{◌≡◌, ℕ, Bool, true, false, ◌&&◌, cond, List, [], ◌∷◌, map, Option, Some, None, refl, ◌∙◌, ap}
 use Rattle.etcd_types.specs.declared.record.Header.{Header}
 use Rattle.proxy_model.specs.declared.lease.Entry.{Entry}
 use Rattle.proxy_model.specs.Keyed.{Keyed, at}
@@ -14,6 +14,7 @@ use Rattle.read_model.specs.Release.{stands, in_place}
 use Rattle.known_asks.specs.Changes.{stage_or, staged_by}
 use Rattle.known_asks.specs.Waiting.{waits_at_key}
 use Rattle.read_core.specs.Falls.{ground_at, stands_on, fallen, again_stage}
+use Rattle.read_core.specs.Readers.{reading_stage, readers_stage}
 
 stays_or : (b : Bool) (s : Stage) (a : Asked) → stage_or (cond b None (Some s)) a ≡ cond b a (in_stage s a)
 stays_or true s a = refl
@@ -55,3 +56,20 @@ again_stays h step es acquires a w =
 pub lost_stays : (members step : ℕ) (k : List ℕ) (a : Asked) → waits_at_key a.stage ≡ false → told_lost members step k a ≡ a
 lost_stays members step k a w =
     ap (λ b. cond (b && same (ask_key a) k) (lost_once members step a) a) (not_acquiring a.stage w)
+
+reading_none : (own other s : Stage) → waits_at_key s ≡ false → reading_stage own other s ≡ None
+reading_none own other (stage.Calling s) w = refl
+reading_none own other stage.Acquiring w = absurd (cc)
+reading_none own other stage.Joined w = absurd (cc)
+reading_none own other stage.Behind w = absurd (cc)
+reading_none own other stage.Writes w = refl
+reading_none own other (stage.Grouped s) w = refl
+reading_none own other (stage.Replied v) w = refl
+
+nothing : (b : Bool) → ◌≡◌ {A = Option Stage} (cond b None None) None
+nothing true = refl
+nothing false = refl
+
+pub readers_stay : (k : List ℕ) (own other : Stage) (a : Asked) → waits_at_key a.stage ≡ false → readers_stage k own other a ≡ None
+readers_stay k own other a w =
+    ap (λ o. cond (same (ask_key a) k) o None) (reading_none own other a.stage w) ∙ nothing (same (ask_key a) k)

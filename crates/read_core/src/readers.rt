@@ -9,7 +9,7 @@ use crate::decisions::called;
 use crate::records::shown;
 use crate::standing::key_of;
 use etcd_types::{Bytes, Header, Kv, NoMemory};
-use known_asks::{Asked, Asks, Restage, Rule, Stage, change_waiting, lose_once, stage_changes};
+use known_asks::{Asked, Asks, Restage, Rule, Stage, change_waiting, lose_once, waiting_changes};
 use std::alloc::Global;
 
 /// What the reads of a key come to when its acquire is answered.
@@ -71,7 +71,7 @@ pub fn reader_changes(
         held,
         step,
     };
-    Ok(stage_changes(alloc, asks, &readers)?)
+    Ok(waiting_changes(alloc, asks, &readers)?)
 }
 
 /// The acquire of the key was lost, and with it a call of the read that it was for.

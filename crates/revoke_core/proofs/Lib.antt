@@ -7,3 +7,5 @@ pub mod NoticeParts
 pub mod SendParts
 pub mod AnswerParts
 pub mod ReadParts
+pub mod Ranges
+pub mod Keeping

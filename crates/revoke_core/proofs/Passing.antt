@@ -54,13 +54,13 @@ append-assoc : {A : Type 0} (xs : List A) (y : A) (zs : List A) → (xs ++ y ∷
 append-assoc [] y zs = refl
 append-assoc (x ∷ xs) y zs = ap (λ l. x ∷ l) (append-assoc xs y zs)
 
-pub passing_more : (step : ℕ) (es₀ : Keyed Entry) (ss₀ : Keyed Bool) (ws₀ : List Write) (i : ℕ) (es : Keyed Entry) (ss : Keyed Bool) (ws : List Write) (w : Write) (b : Bool) → Passing step es₀ ss₀ ws₀ i es ss ws → i < length ws → w ≡ get_or ws i w → b ≡ is_blocked ws i → Passing step es₀ ss₀ ws₀ (i + 1) (turn_if step b es ss w).entries (turn_if step b es ss w).spoiled (set ws i (turn_if step b es ss w).write)
+pub passing_more : (step : ℕ) (es₀ : Keyed Entry) (ss₀ : Keyed Bool) (ws₀ : List Write) (i : ℕ) (es : Keyed Entry) (ss : Keyed Bool) (ws : List Write) (w : Write) (b : Bool) → Passing step es₀ ss₀ ws₀ i es ss ws → i < length ws → w ≡ get_or ws i w → turn_if step b es ss w ≡ turn_if step (is_blocked ws i) es ss w → Passing step es₀ ss₀ ws₀ (i + 1) (turn_if step b es ss w).entries (turn_if step b es ss w).spoiled (set ws i (turn_if step b es ss w).write)
 unfolding passed
 passing_more step es₀ ss₀ ws₀ i es ss ws w b h l e g =
     let earlier = reverse (take i ws) in
     let rest = drop (i + 1) ws in
     let t = turn_if step b es ss w in
-    let same : turn step earlier es ss w ≡ t = sym (same_turn step (list_any (shares w) earlier) es ss w) ∙ ap (λ x. turn_if step x es ss w) (sym (g ∙ blocked_is ws i w l e)) in
+    let same : turn step earlier es ss w ≡ t = sym (same_turn step (list_any (shares w) earlier) es ss w) ∙ ap (λ x. turn_if step x es ss w) (sym (blocked_is ws i w l e)) ∙ sym g in
     let d : drop i ws ≡ w ∷ rest = drop_more ws i w l ∙ ap (λ x. x ∷ rest) (sym e) in
     let q : Turn → Pass = λ u. passed step (u.write ∷ earlier) u.entries u.spoiled rest in
     let before : reverse (take (i + 1) (set ws i t.write)) ≡ t.write ∷ earlier = ap reverse (take_more_set ws i t.write l) ∙ reverse-append (take i ws) (t.write ∷ []) in

@@ -5,3 +5,4 @@ pub mod Rests
 pub mod Sends
 pub mod Steps
 pub mod Told
+pub mod Keeping

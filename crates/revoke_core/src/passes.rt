@@ -3,9 +3,10 @@ ghost use Rattle.std.specs.List.{list_any};
 ghost use Rattle.wait_model.specs.Covers.{covers, shares};
 ghost use Rattle.wait_model.specs.Passes.{passed};
 ghost use Rattle.wait_model.specs.Stages.{is_waiting, stage_on};
+ghost use Rattle.revoke_core.specs.Keeping.{StaysAlike};
 ghost use Rattle.revoke_core.specs.Steps.{is_blocked};
 
-use crate::turns::{covers, shares, take_turn, waits_now};
+use crate::turns::{covers, is_kept, shares, take_turn, waits_now};
 use etcd_types::Bytes;
 use keyed_rows::Rows;
 use lease_table::LeaseTable;
@@ -23,9 +24,21 @@ pub(crate) fn pass(
     ensures entries { table.new.entries ≡ (passed step [] table.old.entries spoiled.old writes.old.items).entries }
 {
     for at in 0..writes.len() {
-        let blocked = is_blocked(writes, at);
-        take_turn(&mut writes[at], blocked, spoiled, table, step);
+        let still = stays(writes, at, spoiled, table);
+        take_turn(&mut writes[at], still, spoiled, table, step);
     }
+}
+
+/// Whether the write at this place does nothing at its turn but to wait. What its own keys show is looked at first: so of the writes
+/// that wait few look at all earlier ones.
+fn stays(writes: &[Write], at: usize, spoiled: &Rows<bool>, table: &LeaseTable) -> bool
+    requires { at < length writes.now }
+    ensures { StaysAlike result writes.now at table.now.entries spoiled.now }
+{
+    if is_kept(&writes[at], spoiled, table) {
+        return true;
+    }
+    is_blocked(writes, at)
 }
 
 /// Whether the write at this place waits for its turn and shares a key with an earlier one.

@@ -12,6 +12,7 @@ ghost use Rattle.wait_model.specs.Phases.{is_leaving};
 ghost use Rattle.wait_model.specs.SeveralKeys.{by_ranges, ranges_begun, given_up_over, spoiled_over, any_covered};
 ghost use Rattle.wait_model.specs.SingleKeys.{by_keys, keys_begun, let_go_leased, begun_over, any_key};
 ghost use Rattle.wait_model.specs.Stages.{stage_on, is_found_over, is_over, is_waiting};
+ghost use Rattle.revoke_core.specs.Keeping.{is_kept};
 ghost use Rattle.revoke_core.specs.Steps.{begun_at, let_go_at};
 
 use etcd_types::{Bytes, KeyRange, Op, PutAsk, Request};
@@ -114,6 +115,27 @@ fn is_by_keys(write: &Write) -> bool
     ensures { result ≡ is_by_keys write.now }
 {
     write.ranges.as_slice().iter().all(|range| range.is_one())
+}
+
+/// Whether it waits, and its turn changes nothing whatever earlier writes there are: an acquire of a key of its own is due or out, or an
+/// entry of one leaves, and it gives none up.
+pub(crate) fn is_kept(write: &Write, spoiled: &Rows<bool>, table: &LeaseTable) -> bool
+    ensures { result ≡ is_kept table.now.entries spoiled.now write.now }
+{
+    waits_now(&write.stage)
+        && is_by_keys(write)
+        && (is_claimed(write, spoiled) || (is_left(write, table) && !is_any_leased(write)))
+}
+
+/// Whether it puts a key of its own with a lease.
+fn is_any_leased(write: &Write) -> bool
+    ensures { result ≡ any_key write.now (leased write.now.request) }
+{
+    write
+        .ranges
+        .as_slice()
+        .iter()
+        .any(|range| is_leased(&write.request, &range.key))
 }
 
 fn by_keys(write: &mut Write, spoiled: &Rows<bool>, table: &mut LeaseTable, step: u64)
@@ -300,10 +322,17 @@ pub(crate) fn covers(write: &Write, key: &Bytes) -> bool
         .any(|range| range.contains(key))
 }
 
+/// Whether a key that it writes has an entry. It looks at the ends of its ranges alone.
 fn has_any(write: &Write, table: &LeaseTable) -> bool
     ensures { result ≡ any_covered write.now table.now.entries }
 {
-    table.entries().iter().any(|row| covers(write, &row.0))
+    is_any_in(write.ranges.as_slice(), table)
+}
+
+fn is_any_in(ranges: &[KeyRange], table: &LeaseTable) -> bool
+    ensures { result ≡ list_any (λ r. list_any (λ e. contains r e.0) table.now.entries) ranges.now }
+{
+    ranges.iter().any(|range| table.has_in(range))
 }
 
 fn has_claims(write: &Write, spoiled: &Rows<bool>) -> bool

@@ -12,7 +12,7 @@ use crate::release::After;
 use core_model::Acquire;
 use etcd_types::{Answer, Header, NoMemory};
 use keyed_rows::Rows;
-use known_asks::{Asks, Stage, Verdict, set_stages, stage_changes};
+use known_asks::{Asks, Stage, Verdict, set_stages, waiting_changes};
 use lease_table::LeaseTable;
 use revoke_core::{NotShape, ReadAnswer, Settled, Waits};
 use std::alloc::Global;
@@ -113,7 +113,7 @@ fn changes_after(
         table,
         acquires,
     };
-    Ok(stage_changes(alloc, asks, &rule)?)
+    Ok(waiting_changes(alloc, asks, &rule)?)
 }
 
 /// What is settled is replied. It takes no memory.
