@@ -1,7 +1,7 @@
 #!/bin/sh
 # Measures how JSON bodies of 4 MiB are read as requests and written again: one long value, many operations, many
-# unknown and many unlike names, nesting without end, digits, blanks and bytes of no text. The program is proved and
-# built first, where it isn't yet.
+# unknown and many unlike names, nesting without end, digits, blanks and bytes of no text; and then the calls that a proxy
+# makes most. The program is proved and built first, where it isn't yet.
 set -eu
 cd "$(dirname "$0")/../crates/json_bench"
 [ -x out/json_bench ] || rt run > /dev/null
@@ -28,3 +28,4 @@ repeated '{"success":[' $size | measure 'nested' /v3/kv/txn
 { printf '{"lease":'; repeated 1 $((size - 10)); printf '}'; } | measure 'digits' /v3/kv/put
 repeated ' ' $size | measure 'blanks' /v3/kv/put
 head -c $size /dev/zero | tr '\0' '\377' | measure 'no text' /v3/kv/put
+./out/json_bench calls

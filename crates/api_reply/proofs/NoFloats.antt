@@ -8,14 +8,9 @@ use Rattle.etcd_types.specs.declared.answer.Body.{Body, Row_of-Body, end_of-Body
 use Rattle.etcd_types.specs.declared.answer.Body.TheVariants.{Range, Put, Delete, Txn', Compact, Grant, Revoke, KeepAlive, TimeToLive, Leases}
 use Rattle.etcd_types.specs.declared.answer.Reply.{Reply}
 use Rattle.etcd_types.specs.declared.answer.Refusal.{Refusal}
-use Rattle.etcd_types.specs.declared.watch.Change.{Change}
-use Rattle.etcd_types.specs.declared.watch.Change.TheVariants as change
-use Rattle.etcd_types.specs.declared.watch.Event.{Event}
-use Rattle.etcd_types.specs.declared.watch.WatchItem.{WatchItem}
-use Rattle.etcd_types.specs.declared.watch.WatchItem.TheVariants.{Created, Events, Canceled}
 use Rattle.json_model.specs.FieldNames as names
 use Rattle.json_model.specs.Written.{Field, field, number_value, list_value, text_of, with_field, members_of, items_of}
-use Rattle.json_model.specs.WrittenReplies.{header_written, header_field, record_written, record_value, prev_value, range_fields_of, put_fields_of, delete_fields_of, lease_fields_of, time_to_live_fields_of, lease_value, leases_fields_of, txn_fields_of, response_written, response_value, row_responses, body_fields, refusal_written, put_event_written, deleted_written, delete_event_written, event_written, event_value, created_written, events_written, canceled_written, item_written}
+use Rattle.json_model.specs.WrittenReplies.{header_written, header_field, record_written, record_value, prev_value, range_fields_of, put_fields_of, delete_fields_of, lease_fields_of, time_to_live_fields_of, lease_value, leases_fields_of, txn_fields_of, response_written, response_value, row_responses, body_fields, refusal_written}
 use Rattle.etcd_types.proofs.Bools.{or_none}
 use Rattle.json_model.proofs.NoFloats.{field_float, fields_float, members_float, number_float, signed_float, bytes_float, flag_float, list_float, items_float}
 
@@ -127,26 +122,6 @@ reply_no_float r = members_float (header_field r.header ∷ body_fields r.body) 
 pub refusal_no_float : (r : Refusal) → members_have_float (members_of (refusal_written r)) ≡ false
 unfolding refusal_written
 refusal_no_float r = members_float (refusal_written r) refl
-
--- ---- messages of a watch
-
-event_fields_float : (c : Change) (prev : Option Kv) → fields_float (event_written c prev) ≡ false
-unfolding put_event_written delete_event_written deleted_written
-event_fields_float (change.Put kv) prev = or_none _ _ (record_float kv) (or_none _ _ (prev_float prev) refl)
-event_fields_float (change.Delete key modified) prev =
-    or_none _ _ (members_float (deleted_written key modified) (or_none _ _ (bytes_float key) (or_none _ _ (number_float modified) refl))) (or_none _ _ (prev_float prev) refl)
-
-event_float : (e : Event) → has_float (event_value e) ≡ false
-event_float e = members_float (event_written e.change e.prev) (event_fields_float e.change e.prev)
-
-item_float : (i : WatchItem) → fields_float (item_written i) ≡ false
-unfolding created_written events_written canceled_written
-item_float (Created h) = or_none _ _ (header_field_float h) refl
-item_float (Events h events) = or_none _ _ (header_field_float h) (or_none _ _ (list_float (items_of event_value events) (items_float event_value events event_float)) refl)
-item_float (Canceled h compact) = or_none _ _ (header_field_float h) (or_none _ _ (number_float compact) refl)
-
-pub item_no_float : (i : WatchItem) → members_have_float (members_of (item_written i)) ≡ false
-item_no_float i = members_float (item_written i) (item_float i)
 
 -- ---- an object within another
 

@@ -5,9 +5,9 @@ ghost use Rattle.serde_json.specs.Written.{members_have_float, compact_text};
 ghost use Rattle.json_model.specs.Written.{members_of, object_of};
 ghost use Rattle.json_model.specs.WrittenReplies as spec;
 
-use crate::events::item_object;
 use crate::records::put_header;
 use crate::responses::put_body_fields;
+use direct_json::{item_text, range_text};
 use etcd_types::{Answer, Body, Bytes, NoMemory, Refusal, Reply, WatchItem};
 use json_fields::{object_text, put_object, put_value};
 use serde_json::{Map, Value};
@@ -75,8 +75,9 @@ fn result_line(alloc: Global, fields: Map<String, Value>) -> Result<Bytes, NoMem
     Ok(object_line(alloc, line)?)
 }
 
+/// A reply by its object.
 #[tactic(auto, using(crate::proofs::NoFloats::reply_no_float))]
-fn reply_text(alloc: Global, reply: &Reply) -> Result<Bytes, NoMemory>
+fn object_reply_text(alloc: Global, reply: &Reply) -> Result<Bytes, NoMemory>
     ensures { IfOk result (λ b. b ≡ spec.reply_text reply.now) }
 {
     let fields = reply_object(alloc, reply)?;
@@ -84,6 +85,18 @@ fn reply_text(alloc: Global, reply: &Reply) -> Result<Bytes, NoMemory>
         Ok(result_line(alloc, fields)?)
     } else {
         Ok(object_text(alloc, fields)?)
+    }
+}
+
+/// The reply of a range is written without an object, since cached reads are answered by it.
+fn reply_text(alloc: Global, reply: &Reply) -> Result<Bytes, NoMemory>
+    ensures { IfOk result (λ b. b ≡ spec.reply_text reply.now) }
+{
+    match &reply.body {
+        Body::Range { count, more, kvs } => {
+            Ok(range_text(alloc, &reply.header, *count, *more, kvs)?)
+        }
+        _ => Ok(object_reply_text(alloc, reply)?),
     }
 }
 
@@ -111,10 +124,8 @@ pub fn encode_reply(alloc: Global, answer: &Answer) -> Result<(u16, Bytes), NoMe
 }
 
 /// The line of a watch's message in the same form: `{"result":OBJECT}` and a line feed. `NoMemory` where memory was wanting.
-#[tactic(auto, using(crate::proofs::NoFloats::item_no_float))]
 pub fn encode_item(alloc: Global, item: &WatchItem) -> Result<Bytes, NoMemory>
     ensures { IfOk result (λ b. b ≡ spec.item_text item.now) }
 {
-    let fields = item_object(alloc, item)?;
-    Ok(result_line(alloc, fields)?)
+    Ok(item_text(alloc, item)?)
 }

@@ -7,7 +7,6 @@
 mod bodies;
 mod decode;
 mod encode;
-mod events;
 mod records;
 mod responses;
 

@@ -5,6 +5,7 @@ ghost use Rattle.json_model.specs.Faults.{Gives, GivesRequest, of_request};
 ghost use Rattle.json_model.specs.Mapping as spec;
 
 use crate::paths::path_of;
+use crate::plain::plain_request;
 use etcd_types::{Bytes, NoMemory, Request};
 use json_fields::{FieldFault, object_of};
 use json_model::{ApiFault, Extra, Path, Reading};
@@ -96,7 +97,10 @@ fn decode(alloc: Global, reading: Reading, path: &[u8], body: &[u8]) -> Result<R
 pub fn decode_request(alloc: Global, path: &[u8], body: &[u8]) -> Result<Request, ApiFault>
     ensures { GivesRequest (λ request. request) result (spec.request_of Client path.now body.now) }
 {
-    decode(alloc, Reading::Client, path, body)
+    match plain_request(alloc, path, body) {
+        Some(request) => Ok(request),
+        None => decode(alloc, Reading::Client, path, body),
+    }
 }
 
 /// The request of a proxy to a store: as `decode_request`, but that `ignore_lease` and transactions within transactions

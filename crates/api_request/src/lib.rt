@@ -7,6 +7,7 @@ mod decode;
 mod encode;
 mod fields;
 mod paths;
+mod plain;
 mod transactions;
 
 pub use decode::{decode_call, decode_request};

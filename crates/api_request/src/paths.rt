@@ -23,7 +23,7 @@ pub(crate) fn path_text(path: Path) -> &'static str
     }
 }
 
-fn is_path(text: &[u8], path: Path) -> bool
+pub(crate) fn is_path(text: &[u8], path: Path) -> bool
     ensures { result ≡ spec.is_path text.now path }
 {
     text == path_text(path).as_bytes()

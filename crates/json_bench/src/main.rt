@@ -1,6 +1,8 @@
 //! Measures how fast a JSON body is read as a request, and the request written again. The one word is the path of the
-//! request; the body is the standard input.
+//! request; the body is the standard input. With the word `calls` it measures the calls that a proxy makes most.
 #![tactic(auto)]
+
+mod calls;
 
 use api_request::{ApiFault, decode_request, encode_request};
 use etcd_types::Request;
@@ -47,8 +49,11 @@ fn main(rt: HostRuntime) -> io::Result<()> {
         words.push(word)?;
     }
     let [path] = words.as_slice() else {
-        return println!(rt; "json_bench PATH < BODY");
+        return println!(rt; "json_bench PATH < BODY, or json_bench calls");
     };
+    if path.as_str() == "calls" {
+        return calls::tell_calls(&rt, alloc);
+    }
     let mut body = Vec::new(alloc);
     rt.reader().read_to_end(&mut body)?;
     let start = Instant::now(&rt)?;

@@ -1,0 +1,6 @@
+pub mod Plain
+pub mod Primitives
+pub mod InOrder
+pub mod Finished
+pub mod Shapes
+pub mod Drafted
