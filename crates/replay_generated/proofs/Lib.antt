@@ -4,3 +4,4 @@ pub mod Makings
 pub mod Pushing
 pub mod Telling
 pub mod Turns
+pub mod Taking

@@ -46,7 +46,7 @@ counted_is : (w : World) (r : Result (List Item) LineRefusal) → is_ok (counted
 counted_is w (Ok items) = refl
 counted_is w (Err why) = refl
 
-can_push_so : (w : World) (number : ℕ) (got : World × List Item) → next (Some w) (line.Push number) ≡ Ok got → can_push w number ≡ true
+pub can_push_so : (w : World) (number : ℕ) (got : World × List Item) → next (Some w) (line.Push number) ≡ Ok got → can_push w number ≡ true
 can_push_so w number got e =
     let x = message_pushed w number in
     sym (tells w number).taken ∙ sym (refused_is x.gained) ∙ sym (counted_is x.world (refused_so x.gained)) ∙ ap (λ (t : Taken). is_ok t) e

@@ -86,8 +86,11 @@ script number = made number
 unfoldable pub begun : ℕ → Making
 begun number = add (line.World 2 [] (codes "L/")) (record { lines = []; items = []; world = None; state = number })
 
+abbrev pub starting : List Line
+starting = line.Start 1 ∷ line.Start 2 ∷ line.Start 3 ∷ line.Tick 1 ∷ line.Tick 2 ∷ line.Tick 3 ∷ []
+
 abbrev pub all_started : Making → Making
-all_started m = add_all (line.Start 1 ∷ line.Start 2 ∷ line.Start 3 ∷ line.Tick 1 ∷ line.Tick 2 ∷ line.Tick 3 ∷ []) m
+all_started m = add_all starting m
 
 -- these are the counts of its items, and the newest revision of its store
 pub record Tells (s : Summary) (m : Making) : Type 0 where

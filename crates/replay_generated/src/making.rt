@@ -1,7 +1,10 @@
 ghost use Rattle.std.specs.Prelude.{◌≡◌, ◌≢◌, ◌<◌, ◌+◌, ◌/◌, ◌^◌, OnOk, IfOk, IfErr};
 ghost use Rattle.replay_generated.specs.Made.{HasStreams, IsDue, Makes, Refuses, Sends, Takes};
+ghost use Rattle.generated_laws.specs.Laws.{PushTaken};
+ghost use Rattle.replay_generated.specs.Taken.{CanAdd, CanMake};
 ghost use Rattle.replay_world.specs.Step.{IsStep};
 ghost use Rattle.world_model.specs.declared.fault.WorldFault.TheVariants as fault;
+ghost use Rattle.script_text.specs.declared.line.Line.TheVariants as lines;
 ghost use Rattle.world_model.specs.Generated.{add, asking, call_in, drawn, push_one};
 
 use core_face::ProxyCore;
@@ -83,11 +86,10 @@ impl<C: ProxyCore> Making<C> {
         }
     }
 
-    /// A line is added.
-    ///
-    /// No line of a generated script is refused. Were one, that would be told as want of memory.
+    /// A line is added, which the world takes.
     pub fn add(&mut self, line: Line) -> Result<(), NoMemory>
-        requires { IsStep line }
+        requires line { IsStep line }
+        requires goes { CanAdd line self.old }
         ensures { OnOk result (Makes (add line) self.old self.new) }
     {
         match self.take(line) {
@@ -95,22 +97,24 @@ impl<C: ProxyCore> Making<C> {
                 drop(items);
                 Ok(())
             }
-            Err(_) => Err(NoMemory),
+            Err(why) => Err(wanting(why)),
         }
     }
 
     /// The proxy sends what is due first, and the number of the call that it sent is told, where it sent one.
     pub fn add_send(&mut self, proxy: u64) -> Result<Option<u64>, NoMemory>
+        requires { CanAdd (lines.Send proxy) self.old }
         ensures { IfOk result (λ call. Sends proxy call self.old self.new) }
     {
         match self.take(Line::Send { proxy }) {
             Ok(items) => Ok(call_in(items.as_slice())),
-            Err(_) => Err(NoMemory),
+            Err(why) => Err(wanting(why)),
         }
     }
 
     /// A stream is pushed what the store has for it, and that is delivered.
     pub fn push_one(&mut self, stream: u64) -> Result<(), NoMemory>
+        requires { CanMake (PushTaken stream) self.old }
         ensures { OnOk result (Makes (push_one stream) self.old self.new) }
     {
         match self.take(Line::Push { stream }) {
@@ -183,5 +187,15 @@ fn unless_wanting(why: WorldFault) -> Result<(), NoMemory>
     match why {
         WorldFault::NoMemory => Err(NoMemory),
         _ => Ok(()),
+    }
+}
+
+/// Of a line that the world takes, memory alone can be wanting.
+fn wanting(why: WorldFault) -> NoMemory
+    requires { why ≡ fault.NoMemory }
+{
+    match why {
+        WorldFault::NoMemory => NoMemory,
+        _ => unreachable!(),
     }
 }

@@ -1,5 +1,7 @@
 ghost use Rattle.std.specs.Prelude.{◌≡◌, ◌≤◌, [], OnOk, IfOk, codes};
-ghost use Rattle.replay_generated.specs.Made.{IsOf, Makes, all_started, begun, script};
+ghost use Rattle.generated_laws.specs.Laws.{AllTaken};
+ghost use Rattle.replay_generated.specs.Taken.{CanMake};
+ghost use Rattle.replay_generated.specs.Made.{IsOf, Makes, all_started, begun, script, starting};
 ghost use Rattle.replay_world.specs.World.{Stands};
 ghost use Rattle.world_model.specs.State.{starting_world};
 
@@ -47,6 +49,7 @@ impl<C: ProxyCore> Making<C> {
 
     /// Three proxies start, and look at their clocks.
     fn start(&mut self) -> Result<(), NoMemory>
+        requires { CanMake (AllTaken starting) self.old }
         ensures { OnOk result (Makes all_started self.old self.new) }
     {
         self.add(Line::Start { proxy: 1 })?;

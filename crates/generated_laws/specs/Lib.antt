@@ -1,0 +1,4 @@
+pub mod OnTime
+pub mod Proxies
+pub mod Worlds
+pub mod Laws
