@@ -68,7 +68,7 @@ use Rattle.proxy_model.specs.Prefixes.{leasing_range}
 use Rattle.proxy_model.specs.Session.{is_live}
 use Rattle.value_texts.specs.Fits.{AllOf, If, Number, Few, HeaderFits, AnswerFits, EventsFit, MessageFits, OpFits, RequestFits}
 use Rattle.value_texts.proofs.Alls.{either, all_push, all_map, all_filter}
-use Rattle.sent_texts.specs.Sends.{OwnFits, AskFits, ReadsFit, UpstreamFits, StreamFits, WatchFits, BroadcastsFit, OpeningFits, JobFits, OutFits, MembersFit, SeatFits, CoreFits}
+use Rattle.sent_texts.specs.Sends.{IsFlat, FlatAsk, OwnFits, AskFits, ReadsFit, UpstreamFits, StreamFits, WatchFits, BroadcastsFit, OpeningFits, JobFits, OutFits, MembersFit, SeatFits, CoreFits}
 use Rattle.sent_texts.proofs.Unwraps.{Stands, heard_fits, message_fits}
 use Rattle.sent_texts.proofs.Requests.{prefix_end_fits}
 use Rattle.sent_texts.proofs.Owned.{proceeded_fits, submitted_fits, gone_fits, given_up_fits, all_noticed_fits}
@@ -221,6 +221,36 @@ few_ranges (request.TimeToLive lease keys) e = omega arith
 few_ranges request.Leases e = omega arith
 few_ranges (request.Watch ask) e = omega arith
 
+flat_of : (o : Op) → unserved_op o ≡ None → IsFlat o
+flat_of (op.Range ask) e = tt
+flat_of (op.Put ask) e = tt
+flat_of (op.Delete ask) e = tt
+flat_of (op.Txn' compare m success n failure) e = absurd (cc)
+
+all_flat : (ops : List Op) → unserved_ops ops ≡ None → AllOf IsFlat ops
+all_flat [] e = tt
+all_flat (o ∷ ops) e =
+    let a = first_none (unserved_op o) (unserved_ops ops ∷ []) e in
+    (flat_of o a.0, all_flat ops (first_none (unserved_ops ops) [] a.1).0)
+
+ask_flat : (q : Request) → unserved q ≡ None → FlatAsk q
+ask_flat (request.Txn t) e =
+    let a = first_none (unserved_ops t.success) (unserved_ops t.failure ∷ []) e in
+    (all_flat t.success a.0, all_flat t.failure (first_none (unserved_ops t.failure) [] a.1).0)
+ask_flat (request.Range ask) e = tt
+ask_flat (request.Put ask) e = tt
+ask_flat (request.Delete ask) e = tt
+ask_flat (request.Compact revision physical) e = tt
+ask_flat (request.Grant ttl lease) e = tt
+ask_flat (request.Revoke lease) e = tt
+ask_flat (request.KeepAlive lease) e = tt
+ask_flat (request.TimeToLive lease keys) e = tt
+ask_flat request.Leases e = tt
+ask_flat (request.Watch ask) e = tt
+
+asked_flat : (p : List ℕ) (q : Request) → refusal_of p q ≡ None → FlatAsk q
+asked_flat p q e = ask_flat q (none_mapped (unserved q) (first_none (option_map unsupported (unserved q)) _ e).0)
+
 second_false : (a b : Bool) → a ≡ true → a && b ≡ false → b ≡ false
 second_false true b e f = f
 second_false false b e f = absurd (cc)
@@ -241,7 +271,7 @@ served p q l e f =
 write_fits : (a : Asked) (c : Core) → Served a.request → AskFits a → CoreFits c → Leaves (write_is_asked a c)
 write_fits a c s k h =
     let own = submitted a.ticket a.request c.own in
-    go_on _ (asked_more stage.Writes a (record c { own = own }) k (with_own_fits c own (submitted_fits a.ticket a.request c.own k.ticket s.request s.few h.reads.ground.own) h))
+    go_on _ (asked_more stage.Writes a (record c { own = own }) k (with_own_fits c own (submitted_fits a.ticket a.request c.own k.ticket s.request k.flat s.few h.reads.ground.own) h))
 
 answered_at_once : (o : Option Body) (a : Asked) (c : Core) → AskFits a → CoreFits c → Leaves (answered_or_called o a c)
 answered_at_once None a c k h = call_fits a c k h
@@ -281,7 +311,7 @@ ask_fits now ticket q word c t f h =
     h (by_refusal (refusal_of c.own.waits.prefix q) refl)
   where
     by_refusal : (r : Option Refusal) → refusal_of c.own.waits.prefix q ≡ r → Leaves (refused_or_taken r (moment c now) (asked_at now ticket q word) c)
-    by_refusal None e = request_fits q now (asked_at now ticket q word) c f (λ l. served c.own.waits.prefix q l e f) (record { ticket = t; request = f }) h
+    by_refusal None e = request_fits q now (asked_at now ticket q word) c f (λ l. served c.own.waits.prefix q l e f) (record { ticket = t; request = f; flat = asked_flat c.own.waits.prefix q e }) h
     by_refusal (Some r) e = h
 
 -- ---- Answer, Lost
@@ -320,7 +350,7 @@ groups_fit step call lease v c h = with_asks_fits c _ (all_map AskFits AskFits (
     one a t = either AskFits (is_out_stage call a.stage) _ _ (at_stage a _ t) (either AskFits (keeps lease a.request && waits_next a.stage) _ a (at_stage a _ t) t)
 
 lost_ask_fits : (k : CallKind) (o : OutCall) (c : Core) (a : Asked) → AskFits a → AskFits (lost_ask k o c a)
-lost_ask_fits k o c a t = either AskFits (is_read k) (lost_once c.members.count c.own.waits.step a) (in_stage (stage.Replied verdict.Lost) a) (record { ticket = t.ticket; request = t.request }) (at_stage a _ t)
+lost_ask_fits k o c a t = either AskFits (is_read k) (lost_once c.members.count c.own.waits.step a) (in_stage (stage.Replied verdict.Lost) a) (record { ticket = t.ticket; request = t.request; flat = t.flat }) (at_stage a _ t)
 
 lost_job_fits : (now : ℕ) (o : OutCall) (j : OutJob) (c : Core) → CoreFits c → CoreFits (lost_job now o j c)
 lost_job_fits now o (job.Grant lease) c h = grant_fails o c h
@@ -394,7 +424,7 @@ ask_ends : (k : CallKind) (o : OutCall) (a : Answer) (c : Core) → CoreFits c �
 ask_ends k o (answer.Done reply) c h =
     either KeptIf (is_body_of k reply.body) (Some (ask_done k o reply c)) None
     (either CoreFits (is_stale_reply k o reply) (with_caller o.call (stale_once c.members.count c.own.waits.step) (member_failed o c)) (with_caller o.call (said (answer.Done reply)) c)
-    (caller_fits o.call (stale_once c.members.count c.own.waits.step) (member_failed o c) (λ a t. record { ticket = t.ticket; request = t.request }) (failed_fits o c h))
+    (caller_fits o.call (stale_once c.members.count c.own.waits.step) (member_failed o c) (λ a t. record { ticket = t.ticket; request = t.request; flat = t.flat }) (failed_fits o c h))
     (caller_fits o.call (said (answer.Done reply)) c (λ a t. at_stage a _ t) h)) tt
 ask_ends k o (answer.Refused r) c h = caller_fits o.call (said (answer.Refused r)) c (λ a t. at_stage a _ t) h
 

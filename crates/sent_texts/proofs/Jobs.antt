@@ -47,7 +47,8 @@ use Rattle.core_model.specs.Stepped.{Stepped}
 use Rattle.core_model.specs.Watching.{with_watches, stream_job, stream_sent}
 use Rattle.value_texts.specs.Fits.{AllOf, If, Bytes, Number, RangeFits, RequestFits}
 use Rattle.value_texts.proofs.Alls.{either, all_append, all_push, all_map}
-use Rattle.sent_texts.specs.Sends.{KeyedFits, EntryFits, AcquireFits, FoundFits, StageFits, WriteFits, OwnFits, AskFits, StreamFits, OpeningFits, JobFits, OutFits, CoreFits, OutcomeFits}
+use Rattle.sent_texts.proofs.Nesting.{ask_narrow, narrow_under, numbered_flat, guarded_narrow}
+use Rattle.sent_texts.specs.Sends.{Narrow, KeyedFits, EntryFits, AcquireFits, FoundFits, StageFits, WriteFits, OwnFits, AskFits, StreamFits, OpeningFits, JobFits, OutFits, CoreFits, OutcomeFits}
 use Rattle.sent_texts.proofs.Requests.{request_under_fits, numbered_fits, acquire_fits, rescind_fits, revoke_fits, guarded_fits}
 use Rattle.sent_texts.proofs.Keys.{at_fits, changed_there}
 use Rattle.sent_texts.proofs.Owned.{first_fits, with_first_fits}
@@ -191,11 +192,15 @@ pub record SendsFit (s : Stepped) : Type 0 where
 current_fits : (c : Core) → CoreFits c → Number c.members.current
 current_fits c h = let a = h.members.current in let b = h.members.few in omega (arith, a, b)
 
-goes : (now : ℕ) (j : OutJob) (ticket : ℕ) (q : Request) (c d : Core) → JobFits j → Number ticket → RequestFits 127 q → CoreFits c → AllOf OutFits c.out → CoreFits d → SendsFit (goes_out now j ticket q c d)
-goes now j ticket q c d b t f h out k = record {
+goes : (now : ℕ) (j : OutJob) (ticket : ℕ) (q : Request) (c d : Core) → JobFits j → Number ticket → RequestFits 127 q → Narrow q → CoreFits c → AllOf OutFits c.out → CoreFits d → SendsFit (goes_out now j ticket q c d)
+goes now j ticket q c d b t f g h out k = record {
   core = record { settings = k.settings; members = k.members; seat = k.seat; leasing = k.leasing; reads = record { ground = record { own = k.reads.ground.own; acquires = k.reads.ground.acquires }; asks = k.reads.asks }; out = all_push OutFits c.out (out_call now j c) out b; watches = k.watches };
-  sent = (current_fits c h, t, request_under_fits c.settings.namespace q h.settings.namespace f);
+  sent = (current_fits c h, t, request_under_fits c.settings.namespace q h.settings.namespace f, narrow_under c.settings.namespace q g);
 }
+
+session_narrow : (ttl : ℕ) (s : Session) (o : Option Standing) → Narrow (session_request ttl s o)
+session_narrow ttl s None = tt
+session_narrow ttl s (Some x) = tt
 
 session_fits : (ttl : ℕ) (s : Session) (o : Option Standing) → Number ttl → Number s.number → RequestFits 127 (session_request ttl s o)
 session_fits ttl s None t n = (t, n)
@@ -211,6 +216,7 @@ record JobSentFits (x : JobSent) : Type 0 where
   own : OwnFits x.own
   ticket : Number x.due.ticket
   request : RequestFits 127 x.due.request
+  narrow : Narrow x.due.request
 
 abbrev DueCallFits : DueCall → Type 0
 DueCallFits d = Bytes d.key × Number d.create
@@ -277,11 +283,13 @@ call_of_fits call d (Some w) own b k h =
       own = record { prefix = h.prefix; entries = h.entries; writes = with_first_fits (has_ticket d.place.number) (stage_revoking call d.key w.stage) own.waits.writes (revoking_fits call d.key w.stage k.stage) h.writes };
       ticket = k.ticket;
       request = revoke_fits own.waits.prefix d.key d.create h.prefix b.0 b.1;
+      narrow = (tt, tt);
     })
     (record {
       own = record { prefix = h.prefix; entries = h.entries; writes = with_first_fits (has_ticket d.place.number) (stage_sent call w.stage) own.waits.writes (stage_sent_fits call w.stage k.stage) h.writes };
       ticket = k.ticket;
       request = guarded_fits own.waits.prefix w.request (compared w own.entries) h.prefix k.request k.few (λ j. compared_fits w own.entries j h.entries);
+      narrow = guarded_narrow own.waits.prefix w.request (compared w own.entries) k.flat;
     })
 
 call_sent_fits : (call : ℕ) (o : Option DueCall) (own : Ownership) → If DueCallFits o → OwnFits own → If JobSentFits (call_sent call o own)
@@ -294,6 +302,7 @@ after_fits call (Some e) own f h = record {
   own = record { prefix = h.prefix; entries = changed_there EntryFits own.entries e.0 (rescind_sent true) (λ x n. n) h.entries; writes = h.writes };
   ticket = zero_number;
   request = rescind_fits own.waits.prefix e.0 e.1.create h.prefix f.0 f.1;
+  narrow = (tt, tt);
 }
 
 job_sent_fits : (call : ℕ) (own : Ownership) → OwnFits own → If JobSentFits (job_sent call own)
@@ -302,23 +311,23 @@ job_sent_fits call own h = after_fits call (first_rescind own.entries) own (resc
 
 writes_sent_fits : (now : ℕ) (o : Option JobSent) (c : Core) → If JobSentFits o → CoreFits c → SendsFit (writes_sent now o c)
 writes_sent_fits now None c n h = record { core = h; sent = tt }
-writes_sent_fits now (Some x) c n h = goes now job.Wait x.due.ticket x.due.request c (record c { own = x.own }) tt n.ticket n.request h h.out (with_own_fits c x.own n.own h)
+writes_sent_fits now (Some x) c n h = goes now job.Wait x.due.ticket x.due.request c (record c { own = x.own }) tt n.ticket n.request n.narrow h h.out (with_own_fits c x.own n.own h)
 
 -- the others
 
 acquires_sent_fits : (now : ℕ) (k : List ℕ) (x : Acquire) (c : Core) → Bytes k → AcquireFits x → CoreFits c → SendsFit (acquires_sent now k x c)
 acquires_sent_fits now k x c b f h =
-    goes now (job.Acquire k) x.ticket (request.Txn (acquire c.own.waits.prefix k x.session)) c (with_reads c _) b f.ticket (acquire_fits c.own.waits.prefix k x.session h.reads.ground.own.prefix b f.session) h h.out
+    goes now (job.Acquire k) x.ticket (request.Txn (acquire c.own.waits.prefix k x.session)) c (with_reads c _) b f.ticket (acquire_fits c.own.waits.prefix k x.session h.reads.ground.own.prefix b f.session) ((tt, (tt, tt)), (tt, (tt, tt))) h h.out
     (with_reads_fits c _ (acquire_sent_fits (next_call c) k (reads_of c) h.reads) h)
 
 ask_sent_fits : (now : ℕ) (a : Asked) (c : Core) → AskFits a → CoreFits c → SendsFit (ask_sent now a c)
 ask_sent_fits now a c k h =
-    goes now (job.Ask _) a.ticket _ c (record c { asks = map (called_as (next_call c) a.ticket) c.asks }) tt k.ticket (numbered_fits a.word a.request k.request) h h.out
+    goes now (job.Ask _) a.ticket _ c (record c { asks = map (called_as (next_call c) a.ticket) c.asks }) tt k.ticket (numbered_fits a.word a.request k.request) (ask_narrow _ (numbered_flat a.word a.request k.flat)) h h.out
     (with_asks_fits c _ (all_map AskFits AskFits (called_as (next_call c) a.ticket) (λ b t. either AskFits (has_ask_ticket a.ticket b) _ b (at_stage b _ t) t) c.asks h.reads.asks) h)
 
 keeps_sent_fits : (now lease ticket : ℕ) (c : Core) → Number lease → Number ticket → CoreFits c → SendsFit (keeps_sent now lease ticket c)
 keeps_sent_fits now lease ticket c l t h =
-    goes now (job.Group lease) ticket (request.KeepAlive lease) c (record c { asks = map (group_sent (next_call c) lease) c.asks }) tt t l h h.out
+    goes now (job.Group lease) ticket (request.KeepAlive lease) c (record c { asks = map (group_sent (next_call c) lease) c.asks }) tt t l tt h h.out
     (with_asks_fits c _ (all_map AskFits AskFits (group_sent (next_call c) lease) (λ b t. either AskFits (keeps lease b.request && is_due_stage b.stage) _ b (at_stage b _ t) t) c.asks h.reads.asks) h)
 
 opened_fits : (o : Opening) (c : Core) → OpeningFits o → CoreFits c → SendsFit (stream_opened o c)
@@ -354,7 +363,7 @@ pub work_fits : (now : ℕ) (o : Option DueJob) (c : Core) → If DueFits o → 
 work_fits now None c d h = record { core = h; sent = tt }
 work_fits now (Some (ForSession s)) c d h =
     goes now (session_out s.number s.standing) 0 (session_request c.settings.ttl s s.standing) c (record c { seat = Some (seat_sent (next_call c) s) }) (session_job_fits s.number s.standing) zero_number
-    (session_fits c.settings.ttl s s.standing h.settings.ttl d) h h.out
+    (session_fits c.settings.ttl s s.standing h.settings.ttl d) (session_narrow c.settings.ttl s s.standing) h h.out
     (record { settings = h.settings; members = h.members; seat = d; leasing = h.leasing; reads = record { ground = record { own = h.reads.ground.own; acquires = h.reads.ground.acquires }; asks = h.reads.asks }; out = h.out; watches = h.watches })
 work_fits now (Some ForWrites) c d h = writes_sent_fits now (job_sent (next_call c) c.own) c (job_sent_fits (next_call c) c.own h.reads.ground.own) h
 work_fits now (Some (ForAcquire k x)) c d h = acquires_sent_fits now k x c d.0 d.1 h

@@ -1,5 +1,6 @@
 pub mod Unwraps
 pub mod Requests
+pub mod Nesting
 pub mod Keys
 pub mod Owned
 pub mod Reading

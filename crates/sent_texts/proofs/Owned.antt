@@ -54,7 +54,7 @@ use Rattle.wait_model.specs.State.{Ownership}
 use Rattle.wait_model.specs.Writes.{first_by, with_first, without_first, sends, asks, job_of, has_ticket, is_asked_as}
 use Rattle.value_texts.specs.Fits.{AllOf, If, IsByte, Bytes, Number, Few, KvFits, BodyFits, RowFits, ReplyFits, AnswerFits, ChangeFits, EventFits, RequestFits}
 use Rattle.value_texts.proofs.Alls.{either, all_push, all_map, all_filter, all_drop, all_flat}
-use Rattle.sent_texts.specs.Sends.{KeyedFits, EntryFits, FoundFits, StageFits, WriteFits, OwnFits}
+use Rattle.sent_texts.specs.Sends.{KeyedFits, EntryFits, FoundFits, StageFits, FlatAsk, WriteFits, OwnFits}
 use Rattle.sent_texts.proofs.Keys.{at_fits, with_at_fits, changed_there, each_fits, without_fits}
 
 abbrev pub WriteIf : Option Write → Type 0
@@ -63,7 +63,7 @@ WriteIf o = If WriteFits o
 -- ---- writes
 
 with_stage : (w : Write) (s : WriteStage) → WriteFits w → StageFits s → WriteFits (staged w s)
-with_stage w s h f = record { ticket = h.ticket; request = h.request; stage = f; few = h.few }
+with_stage w s h f = record { ticket = h.ticket; request = h.request; flat = h.flat; stage = f; few = h.few }
 
 pub first_fits : (q : Write → Bool) (ws : List Write) → AllOf WriteFits ws → WriteIf (first_by q ws)
 first_fits q [] h = tt
@@ -146,9 +146,9 @@ proceeded_fits own h =
 
 -- ---- a write is handed in, and a session ends
 
-pub submitted_fits : (ticket : ℕ) (q : Request) (own : Ownership) → Number ticket → RequestFits 126 q → Few (written_ranges q) → OwnFits own → OwnFits (submitted ticket q own)
-submitted_fits ticket q own t f few h =
-    record { prefix = h.prefix; entries = h.entries; writes = all_push WriteFits own.waits.writes (new_write ticket q) h.writes (record { ticket = t; request = f; stage = tt; few = few }) }
+pub submitted_fits : (ticket : ℕ) (q : Request) (own : Ownership) → Number ticket → RequestFits 126 q → FlatAsk q → Few (written_ranges q) → OwnFits own → OwnFits (submitted ticket q own)
+submitted_fits ticket q own t f g few h =
+    record { prefix = h.prefix; entries = h.entries; writes = all_push WriteFits own.waits.writes (new_write ticket q) h.writes (record { ticket = t; request = f; flat = g; stage = tt; few = few }) }
 
 due_again_fits : (single : Bool) (s : Sending) → StageFits (due_again single s)
 due_again_fits single (sending.Due since) = either StageFits single (Sends false (sending.Due since)) Waiting tt tt

@@ -51,7 +51,7 @@ AsksFit xs = AllOf AskFits xs
 
 -- a request at another stage
 pub at_stage : (a : Asked) (s : Stage) → AskFits a → AskFits (in_stage s a)
-at_stage a s h = record { ticket = h.ticket; request = h.request }
+at_stage a s h = record { ticket = h.ticket; request = h.request; flat = h.flat }
 
 key_fits_of : (q : Request) → RequestFits 127 q → Bytes (key_of q)
 key_fits_of (request.Range ask) f = f.range.0
@@ -176,7 +176,7 @@ abbrev ClaimFits : Claim → Type 0
 ClaimFits (Acquired create kv) = Number create
 ClaimFits (OwnedBy kv owner) = If OwnerFits owner
 
-record_shown : (most : ℕ) (bs : List Body) (i : ℕ) → AllOf (BodyFits most 127) bs → If (KvFits most) (record_of bs i)
+pub record_shown : (most : ℕ) (bs : List Body) (i : ℕ) → AllOf (BodyFits most 127) bs → If (KvFits most) (record_of bs i)
 record_shown most bs i h = by_body (slice_get bs i) (get_all (BodyFits most 127) bs i h)
   where
     first : (kvs : List Kv) → AllOf (KvFits most) kvs → If (KvFits most) (first_of kvs)
@@ -236,7 +236,7 @@ acquire_answered_fits most m k a r l n b f h = answered_acquire_fits most m k (a
 pub acquire_lost_fits : (members : ℕ) (m : Moment) (k : List ℕ) (r : Reads) → MomentFits m → ReadsFit r → ReadsFit (acquire_lost members m k r)
 acquire_lost_fits members m k r n h =
     let xs = map (told_lost members r.own.waits.step k) r.asks in
-    let f : AsksFit xs = all_map AskFits AskFits (told_lost members r.own.waits.step k) (λ a t. either AskFits (acquires_at k a) (lost_once members r.own.waits.step a) a (record { ticket = t.ticket; request = t.request }) t) r.asks h.asks in
+    let f : AsksFit xs = all_map AskFits AskFits (told_lost members r.own.waits.step k) (λ a t. either AskFits (acquires_at k a) (lost_once members r.own.waits.step a) a (record { ticket = t.ticket; request = t.request; flat = t.flat }) t) r.asks h.asks in
     released_fits false m (on (acquire_gone k (ground_of r)) xs) n (parts_fit (acquire_gone k (ground_of r)) xs (gone_fits k (ground_of r) h.ground) f)
 
 pub acquire_sent_fits : (call : ℕ) (k : List ℕ) (r : Reads) → ReadsFit r → ReadsFit (acquire_sent call k r)

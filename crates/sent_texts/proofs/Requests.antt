@@ -203,9 +203,9 @@ written_fit deep (request.Watch ask) f = tt
 
 -- the parts of a range delete: two at most
 
-record PartsFit (n : ℕ) (rs : List KeyRange) : Type 0 where
-  all : AllOf RangeFits rs
-  few : length rs ≤ n
+pub record PartsFit (n : ℕ) (rs : List KeyRange) : Type 0 where
+  pub all : AllOf RangeFits rs
+  pub few : length rs ≤ n
 
 before_fits : (p : List ℕ) (r : KeyRange) → Bytes p → RangeFits r → PartsFit 1 (part_before p r)
 before_fits p r h f =
@@ -219,7 +219,7 @@ behind_fits end r h f =
     either (PartsFit 1) (not (is_zero end) && (is_zero r.end || before (start_behind end r) r.end)) (record { key = start_behind end r; end = r.end } ∷ []) []
     (record { all = ((start, f.1), tt); few = omega arith }) (record { all = tt; few = omega arith })
 
-parts_fit : (p : List ℕ) (r : KeyRange) → Bytes p → RangeFits r → PartsFit 2 (parts p r)
+pub parts_fit : (p : List ℕ) (r : KeyRange) → Bytes p → RangeFits r → PartsFit 2 (parts p r)
 parts_fit p r h f =
     let a = before_fits p r h f in
     let b = behind_fits (prefix_end p) r (prefix_end_fits p h) f in

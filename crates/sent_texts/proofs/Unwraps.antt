@@ -65,7 +65,7 @@ records_fit most p kvs h =
     so (records_without p kvs) (all_so (KvFits most) (KvFits most) (record_without p) (record_fits most p) kvs h.all)
   where
     so : (u : Unwrapped (List Kv)) → Stands (AllSo (KvFits most) (length kvs)) u → Stands (KvsFit most) u
-    so (Ok xs) k = record { all = k.all; few = subst Number (sym k.count) h.few }
+    so (Ok xs) k = record { all = k.all; few = subst (λ (n : ℕ). n ≤ most) (sym k.count) h.few }
     so (Err e) k = tt
 
 own_fit : (p : List ℕ) (ks : List (List ℕ)) → AllOf Bytes ks → AllOf Bytes (own_keys p ks)

@@ -34,10 +34,10 @@ use Rattle.sent_texts.specs.Sends.{UpstreamFits, StreamFits, WatchFits, Broadcas
 
 -- ---- lists of streams and watches
 
-abbrev Streams : List Stream → Type 0
+abbrev pub Streams : List Stream → Type 0
 Streams ss = AllOf StreamFits ss
 
-abbrev Watches : List Watch → Type 0
+abbrev pub Watches : List Watch → Type 0
 Watches ws = AllOf WatchFits ws
 
 with_stream_fits : (n : ℕ) (f : Stream → Stream) (ss : List Stream) → ((s : Stream) → StreamFits s → StreamFits (f s)) → Streams ss → Streams (with_stream n f ss)
@@ -98,9 +98,9 @@ seated_in_fits last s w f h =
     let d = decided_fits s.stream.next w f.next h in
     told_if_fits s.stream.created last (record (decided s.stream.next w) { place = place.In s.number }) (record { range = d.range; next = d.next })
 
-record SeatedFits (x : Seated) : Type 0 where
-  streams : Streams x.streams
-  watch : WatchFits x.watch
+pub record SeatedFits (x : Seated) : Type 0 where
+  pub streams : Streams x.streams
+  pub watch : WatchFits x.watch
 
 seated_at_fits : (ss : List Stream) (given step : ℕ) (last : Header) (w : Watch) (o : Option Stream) → If StreamFits o → Streams ss → WatchFits w → SeatedFits (seated_at ss given step last w o)
 seated_at_fits ss given step last w (Some s) f g h = record { streams = g; watch = seated_in_fits last s w f h }
@@ -126,7 +126,7 @@ or_fits : (a b : Option Stream) → If StreamFits a → If StreamFits b → If S
 or_fits None b f g = g
 or_fits (Some s) b f g = f
 
-join_fits : (ss : List Stream) (range : KeyRange) (next seen : ℕ) → Streams ss → If StreamFits (stream_to_join ss range next seen)
+pub join_fits : (ss : List Stream) (range : KeyRange) (next seen : ℕ) → Streams ss → If StreamFits (stream_to_join ss range next seen)
 join_fits ss range next seen h =
     either (If StreamFits) (next == 0) (or_else (best_of range (capped (seen + 1)) None ss) (opening_from_now range ss)) (best_of range next None ss)
     (or_fits (best_of range (capped (seen + 1)) None ss) (opening_from_now range ss) (best_fits range (capped (seen + 1)) None ss tt h) (opening_found range ss h)) (best_fits range next None ss tt h)
@@ -141,7 +141,7 @@ joined_fits b ticket ask last r s h =
 
 -- ---- streams are emptied, merged and cut
 
-without_stream_fits : (n : ℕ) (ss : List Stream) → Streams ss → Streams (without_stream n ss)
+pub without_stream_fits : (n : ℕ) (ss : List Stream) → Streams ss → Streams (without_stream n ss)
 without_stream_fits n ss h = all_filter StreamFits (is_other n) ss h
 
 emptied_as_fits : (n step : ℕ) (ss : List Stream) (o : Option Stream) → Streams ss → Streams (emptied_as n step ss o)
@@ -181,7 +181,7 @@ left_one_fits header compact step last ss given w f h =
     either SeatedFits (nat_lt w.next compact) (record { streams = ss; given = given; watch = ended header compact w }) (seated ss given step last w)
     (record { streams = f; watch = record { range = h.range; next = h.next } }) (seated_fits ss given step last w f h)
 
-left_by_fits : (n next : ℕ) (header : Header) (compact step : ℕ) (last : Header) (ss : List Stream) (given : ℕ) (w : Watch) → Number next → Streams ss → WatchFits w → SeatedFits (left_by n next header compact step last ss given w)
+pub left_by_fits : (n next : ℕ) (header : Header) (compact step : ℕ) (last : Header) (ss : List Stream) (given : ℕ) (w : Watch) → Number next → Streams ss → WatchFits w → SeatedFits (left_by n next header compact step last ss given w)
 left_by_fits n next header compact step last ss given w m f h =
     either SeatedFits (is_in n w.place) (left_one header compact step last ss given (leaving next w)) (record { streams = ss; given = given; watch = w })
     (left_one_fits header compact step last ss given (leaving next w) f (record { range = h.range; next = most_of w.next next h.next m })) (record { streams = f; watch = h })

@@ -1,5 +1,9 @@
 -- A proxy all whose requests, keys and numbers are as the texts of what it sends need them.
-use Rattle.std.specs.Prelude.{ℕ, ◌≤◌, Some, Result, Ok}
+use Rattle.std.specs.Prelude.{ℕ, ◌≤◌, List, [], ◌∷◌, Some, Result, Ok}
+use Rattle.etcd_types.specs.declared.operation.Op.{Op, Row_of-Op, end_of-Op, more_of-Op}
+use Rattle.etcd_types.specs.declared.operation.Op.TheVariants as op
+use Rattle.etcd_types.specs.declared.request.Request.{Request}
+use Rattle.etcd_types.specs.declared.request.Request.TheVariants as request
 use Rattle.proxy_model.specs.declared.lease.Entry.{Entry}
 use Rattle.proxy_model.specs.Keyed.{Keyed}
 use Rattle.proxy_model.specs.Members.{Members}
@@ -41,6 +45,37 @@ pub record AcquireFits (x : Acquire) : Type 0 where
   pub ticket : Number x.ticket
   pub session : Number x.session
 
+-- ---- how requests nest: a client's doesn't, and one that is sent has a transaction for its only operation at most
+
+abbrev pub IsFlat : Op → Type 0
+IsFlat (op.Range ask) = Unit {0}
+IsFlat (op.Put ask) = Unit {0}
+IsFlat (op.Delete ask) = Unit {0}
+IsFlat (op.Txn' compare m success n failure) = ⊥
+
+abbrev pub FlatRow : {m : _} → Row_of-Op m → Type 0
+FlatRow end_of-Op = Unit {0}
+FlatRow (more_of-Op one rest) = IsFlat one × FlatRow rest
+
+abbrev pub FlatAsk : Request → Type 0
+FlatAsk (request.Txn t) = AllOf IsFlat t.success × AllOf IsFlat t.failure
+FlatAsk _ = Unit {0}
+
+abbrev pub OneOp : Op → Type 0
+OneOp (op.Range ask) = Unit {0}
+OneOp (op.Put ask) = Unit {0}
+OneOp (op.Delete ask) = Unit {0}
+OneOp (op.Txn' compare m success n failure) = FlatRow success × FlatRow failure
+
+abbrev pub NarrowOps : List Op → Type 0
+NarrowOps [] = Unit {0}
+NarrowOps (o ∷ []) = OneOp o
+NarrowOps (o ∷ p ∷ ops) = AllOf IsFlat (o ∷ p ∷ ops)
+
+abbrev pub Narrow : Request → Type 0
+Narrow (request.Txn t) = NarrowOps t.success × AllOf IsFlat t.failure
+Narrow _ = Unit {0}
+
 -- ---- writes
 
 abbrev pub FoundFits : Found → Type 0
@@ -55,6 +90,7 @@ StageFits (Finds found) = AllOf FoundFits found
 pub record WriteFits (w : Write) : Type 0 where
   pub ticket : Number w.ticket
   pub request : RequestFits 126 w.request
+  pub flat : FlatAsk w.request
   pub stage : StageFits w.stage
   pub few : Few (written_ranges w.request)
 
@@ -68,6 +104,7 @@ pub record OwnFits (own : Ownership) : Type 0 where
 pub record AskFits (a : Asked) : Type 0 where
   pub ticket : Number a.ticket
   pub request : RequestFits 127 a.request
+  pub flat : FlatAsk a.request
 
 pub record GroundFits (g : Ground) : Type 0 where
   pub own : OwnFits g.own
@@ -140,7 +177,7 @@ EventFits most (event.Item stream x) = MessageFits most x
 EventFits most _ = Unit {0}
 
 abbrev pub SentFits : Job → Type 0
-SentFits (job.Call call member ticket q) = Number member × Number ticket × RequestFits 127 q
+SentFits (job.Call call member ticket q) = Number member × Number ticket × RequestFits 127 q × Narrow q
 SentFits (job.Begin stream member q) = Number member × RequestFits 127 q
 SentFits (job.Close stream) = Unit {0}
 

@@ -26,7 +26,7 @@ use Rattle.store_model.specs.Compares.{all_hold}
 use Rattle.store_model.specs.FirstRefusals.{row_items, longest, exceeds, exceeds_row}
 use Rattle.store_model.specs.Transactions.{Ran, RanAll, seen, unchanged, has_lease, put_on, run_put, deletion, run_delete, answered, with_body, first_then, run, run_row}
 use Rattle.value_texts.specs.Fits.{AllOf, Bytes, Number, KvFits, KvsFit, PrevFits, BodyFits, RowFits, RefusalFits, PutFits, OpFits, OpRowFits, op_row_length}
-use Rattle.value_texts.proofs.Alls.{either, all_append, all_push, all_map, all_take, few_map, few_take, bytes_are}
+use Rattle.value_texts.proofs.Alls.{either, all_append, all_push, all_map, all_take, most_map, most_take, bytes_are}
 use Rattle.value_texts.proofs.AnswerTexts.{row_counts}
 use Rattle.value_texts.proofs.RequestTexts.{op_counts}
 use Rattle.store_texts.specs.Stores.{changes, KeyChangeFits, AreFit}
@@ -66,20 +66,22 @@ without_fits most kv h = record { key = h.key; value = tt; create = h.create; mo
 
 limited_fit : (most limit : ℕ) (kvs : List Kv) → KvsFit most kvs → KvsFit most (limited limit kvs)
 limited_fit most limit kvs h =
-    either (KvsFit most) (limit == 0) kvs (take limit kvs) h (record { all = all_take (KvFits most) limit kvs h.all; few = few_take limit kvs h.few })
+    either (KvsFit most) (limit == 0) kvs (take limit kvs) h (record { all = all_take (KvFits most) limit kvs h.all; few = most_take most limit kvs h.few })
 
 shown_fit : (most : ℕ) (ask : RangeAsk) (kvs : List Kv) → KvsFit most kvs → KvsFit most (shown ask kvs)
 shown_fit most ask kvs h =
     let l = limited_fit most ask.limit kvs h in
     either (KvsFit most) ask.keys_only (map without_value (limited ask.limit kvs)) (limited ask.limit kvs)
-    (record { all = all_map (KvFits most) (KvFits most) without_value (without_fits most) (limited ask.limit kvs) l.all; few = few_map without_value (limited ask.limit kvs) l.few }) l
+    (record { all = all_map (KvFits most) (KvFits most) without_value (without_fits most) (limited ask.limit kvs) l.all; few = most_map most without_value (limited ask.limit kvs) l.few }) l
 
 no_records : (most : ℕ) → KvsFit most []
 no_records most = record { all = tt; few = omega arith }
 
-body_fits : (most deep : ℕ) (ask : RangeAsk) (kvs : List Kv) → KvsFit most kvs → BodyFits most deep (range_body ask kvs)
-body_fits most deep ask kvs h =
-    either (BodyFits most deep) ask.count_only (body.Range (length kvs) false []) (body.Range (length kvs) _ (shown ask kvs)) (h.few, no_records most) (h.few, shown_fit most ask kvs h)
+body_fits : (most deep : ℕ) (ask : RangeAsk) (kvs : List Kv) → most ≤ max_number → KvsFit most kvs → BodyFits most deep (range_body ask kvs)
+body_fits most deep ask kvs m h =
+    let few = h.few in
+    let count : Number (length kvs) = omega (arith, few, m) in
+    either (BodyFits most deep) ask.count_only (body.Range (length kvs) false []) (body.Range (length kvs) _ (shown ask kvs)) (count, no_records most) (count, shown_fit most ask kvs h)
 
 asked_fits : (most : ℕ) (h : History) (revision : ℕ) → HistoryFits most h → HistoryFits most (asked_history h revision)
 asked_fits most h revision f = either (HistoryFits most) (revision == 0) h (up_to_revision h revision) f (history_was most (revision - 1) h f)
@@ -89,7 +91,7 @@ read_fits most deep h latest compacted ask m f =
     either (ReadFits most deep) (nat_lt latest ask.revision) _ _ future_fits
     (either (ReadFits most deep) (not (ask.revision == 0) && nat_lt ask.revision compacted) _ _ compacted_fits
     (either (ReadFits most deep) (is_unsupported ask.sort) _ _ unsupported_fits
-    (body_fits most deep ask (records_now (asked_history h ask.revision) ask.range) (records_fit most (asked_history h ask.revision) ask.range m (asked_fits most h ask.revision f)))))
+    (body_fits most deep ask (records_now (asked_history h ask.revision) ask.range) m (records_fit most (asked_history h ask.revision) ask.range m (asked_fits most h ask.revision f)))))
 
 -- ---- operations
 

@@ -26,7 +26,7 @@ use Rattle.store_model.specs.Leases.{all_keys, is_attached, attached, record_key
 use Rattle.store_model.specs.Transactions.{Ran, run, has_lease, deletion}
 use Rattle.store_model.specs.Step.{Step, done, refused, unless, settled, exec_op, told_at, read_applied, exec_range, exec_compact, exec_grant, exec_revoke, exec}
 use Rattle.value_texts.specs.Fits.{AllOf, Bytes, Number, Few, HeaderFits, KvFits, KvsFit, BodyFits, RefusalFits, AnswerFits, RangeAskFits, OpFits, OpRowFits, op_row_length, OpsFit, TxnFits, RequestFits}
-use Rattle.value_texts.proofs.Alls.{either, all_map, all_filter, few_map, few_filter, bytes_are}
+use Rattle.value_texts.proofs.Alls.{either, all_map, all_filter, few_map, most_filter, bytes_are}
 use Rattle.value_texts.proofs.RequestTexts.{op_counts}
 use Rattle.store_texts.specs.Laws.{AnswersFit}
 use Rattle.store_texts.specs.Stores.{LeaseFits, StoreFits, HasRoom}
@@ -171,7 +171,7 @@ grant_fits most member s ttl number small m n h room =
 pub attached_fit : (most number : ℕ) (s : State) → most ≤ max_number → StoreFits most s → HasRoom most s → KvsFit most (attached s.history number)
 attached_fit most number s small h room =
     let r = records_fit most s.history all_keys small (history_fits most s h room) in
-    record { all = all_filter (KvFits most) (is_attached number) (records_now s.history all_keys) r.all; few = few_filter (is_attached number) (records_now s.history all_keys) r.few }
+    record { all = all_filter (KvFits most) (is_attached number) (records_now s.history all_keys) r.all; few = most_filter most (is_attached number) (records_now s.history all_keys) r.few }
 
 pub ended_fits : (most number : ℕ) (s : State) → most ≤ max_number → StoreFits most s → HasRoom most s → StoreFits most (ended s number)
 ended_fits most number s small h room =
@@ -194,12 +194,13 @@ tells_fits most member s number false keys small n h room = (n, refl, omega arit
 tells_fits most member s number true keys small n h room =
     let g = granted_fits s.leases number h.leases in
     let a = attached_fit most number s small h room in
+    let few = a.few in
     let ks = map record_key (attached s.history number) in (
       n,
       le-leb (granted s.leases number) max_number g,
       g,
       either (AllOf Bytes) keys ks [] (all_map (KvFits most) Bytes record_key (λ kv k. k.key) (attached s.history number) a.all) tt,
-      either Few keys ks [] (few_map record_key (attached s.history number) a.few) (omega arith),
+      either Few keys ks [] (few_map record_key (attached s.history number) (omega (arith, few, small))) (omega arith),
     )
 
 lists_fit : (most : ℕ) (s : State) → most ≤ max_number → StoreFits most s → HasRoom most s → AllOf Number (map lease_number s.leases) × Few (map lease_number s.leases)

@@ -37,9 +37,9 @@ use Rattle.told_texts.specs.Room.{GoesOnWithRoom, RoomFrom}
 use Rattle.told_texts.proofs.Asked.{scripts_speak}
 
 -- so many revisions and leases at most
-record Counts (k : ℕ) (s : State) : Type 0 where
-  revisions : length s.history ≤ k
-  leases : length s.leases ≤ k
+pub record Counts (k : ℕ) (s : State) : Type 0 where
+  pub revisions : length s.history ≤ k
+  pub leases : length s.leases ≤ k
 
 same_counts : (k : ℕ) (s t : State) → length t.history ≤ length s.history → length t.leases ≤ length s.leases → Counts k s → Counts k t
 same_counts k s t a b h = let c = h.revisions in let d = h.leases in record { revisions = omega (arith, a, c); leases = omega (arith, b, d) }
@@ -161,18 +161,18 @@ effect_grows w after items (applies member revision t e) = applied_grows w.store
 effect_grows w after items (pushes n s t i e a b f) = pushed_grows w.store t i n f
 effect_grows w after items (turns p x e o v y own told at is t) = turn_grows w v p (with_core x (stepped x.core e x.clock).core) y e o own told t
 
-abbrev TakenCounts : ℕ → Taken → Type 0
+abbrev pub TakenCounts : ℕ → Taken → Type 0
 TakenCounts k (Ok gained) = Counts k gained.0.store
 TakenCounts k (Err why) = Unit {0}
 
-counted_grows : (k : ℕ) (w : World) (l : Line) (r : Result (List Item) LineRefusal) → (done w l).gained ≡ r → Counts k w.store → TakenCounts (k + 1) (counted_as (done w l).world r)
+pub counted_grows : (k : ℕ) (w : World) (l : Line) (r : Result (List Item) LineRefusal) → (done w l).gained ≡ r → Counts k w.store → TakenCounts (k + 1) (counted_as (done w l).world r)
 counted_grows k w l (Ok items) e h =
     let g = effect_grows w (done w l).world items (effect w l items e) in
     let c = grows k w.store (done w l).world.store g.revisions g.leases h in
     record { revisions = c.revisions; leases = c.leases }
 counted_grows k w l (Err why) e h = tt
 
-room_of : (most k : ℕ) (w : World) → k + 2 ≤ most → changes w.store.history ≤ most → Counts k w.store → HasRoom most w.store
+pub room_of : (most k : ℕ) (w : World) → k + 2 ≤ most → changes w.store.history ≤ most → Counts k w.store → HasRoom most w.store
 room_of most k w l c h = let a = h.revisions in let b = h.leases in record { revisions = omega (arith, a, l); changes = c; leases = omega (arith, b, l) }
 
 goes_on : (k most : ℕ) (lines : List Line) (t : Taken) → TakenCounts k t → GoesOnWithRoom (λ after. FewFrom most after lines) t → ((w : World) → Counts k w.store → FewFrom most w lines → RoomFrom most w lines)
@@ -187,7 +187,7 @@ from_small k most w (x ∷ lines) l c f = (
   goes_on (k + 1) most lines (taken w x) (counted_grows k w x (done w x).gained refl c) f.1 (λ v d g. from_small (k + 1) most v lines (omega (arith, l)) d g),
 )
 
-begun_counts : (l : Line) → TakenCounts 0 (begun l)
+pub begun_counts : (l : Line) → TakenCounts 0 (begun l)
 begun_counts (line.World members namespace leasing) = record { revisions = omega arith; leases = omega arith }
 begun_counts _ = tt
 

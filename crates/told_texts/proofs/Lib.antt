@@ -3,3 +3,10 @@ pub mod Spoken
 pub mod Asked
 pub mod Growth
 pub mod Closed
+pub mod Pinned
+pub mod Answered
+pub mod Posts
+pub mod Whole
+pub mod Weights
+pub mod FewChanges
+pub mod Scripts

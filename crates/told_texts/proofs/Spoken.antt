@@ -36,7 +36,7 @@ use Rattle.core_model.specs.declared.event.Outcome.TheVariants as outcome
 use Rattle.core_model.specs.declared.event.StepFault.{StepFault}
 use Rattle.core_model.specs.Step.{stepped}
 use Rattle.core_model.specs.Takes.{ready}
-use Rattle.sent_texts.specs.Sends.{SettingsFit, CoreFits, EventFits, OutcomeFits}
+use Rattle.sent_texts.specs.Sends.{Narrow, SettingsFit, CoreFits, EventFits, OutcomeFits}
 use Rattle.sent_texts.proofs.Steps as proxies
 use Rattle.world_model.specs.declared.fault.LineRefusal.{LineRefusal}
 use Rattle.world_model.specs.declared.sent_call.SentCall.{SentCall}
@@ -74,25 +74,26 @@ kept_put {A} P (e ∷ es) k x n h = by_case (nat_cmp k e.0) (kept_put P es k x n
 
 -- ---- the world
 
-abbrev PlaceSpeaks : Place → Type 0
+abbrev pub PlaceSpeaks : Place → Type 0
 PlaceSpeaks x = CoreFits x.core
 
-record CallSpeaks (most : ℕ) (call : SentCall) : Type 0 where
-  member : Number call.member
-  request : RequestFits 127 call.request
-  executed : If (AnswerFits most) call.executed
+pub record CallSpeaks (most : ℕ) (call : SentCall) : Type 0 where
+  pub member : Number call.member
+  pub request : RequestFits 127 call.request
+  pub narrow : Narrow call.request
+  pub executed : If (AnswerFits most) call.executed
 
-abbrev StreamSpeaks : ℕ → OpenedStream → Type 0
+abbrev pub StreamSpeaks : ℕ → OpenedStream → Type 0
 StreamSpeaks most s = AllOf (MessageFits most) s.waiting
 
-record WorldSpeaks (most : ℕ) (w : World) : Type 0 where
-  settings : SettingsFit (settings w)
-  places : AllKept PlaceSpeaks w.places
-  calls : Each (CallSpeaks most) w.calls
-  streams : Each (StreamSpeaks most) w.streams
-  store : StoreFits most w.store
+pub record WorldSpeaks (most : ℕ) (w : World) : Type 0 where
+  pub settings : SettingsFit (settings w)
+  pub places : AllKept PlaceSpeaks w.places
+  pub calls : Each (CallSpeaks most) w.calls
+  pub streams : Each (StreamSpeaks most) w.streams
+  pub store : StoreFits most w.store
 
-nth_found : {A : Type 0} (P : A → Type 0) (xs : List A) (n : ℕ) (x : A) → nth xs n ≡ Some x → Each P xs → P x
+pub nth_found : {A : Type 0} (P : A → Type 0) (xs : List A) (n : ℕ) (x : A) → nth xs n ≡ Some x → Each P xs → P x
 nth_found P xs n x e h = subst (If P) e (either (If P) (n == 0) None (slice_get xs (n - 1)) tt (got P xs (n - 1) h))
   where
     got : {A : Type 0} (P : A → Type 0) (xs : List A) (i : ℕ) → Each P xs → If P (slice_get xs i)
@@ -100,7 +101,7 @@ nth_found P xs n x e h = subst (If P) e (either (If P) (n == 0) None (slice_get 
     got P (x ∷ xs) zero h = h.0
     got P (x ∷ xs) (suc i) h = got P xs i h.1
 
-place_found : (most : ℕ) (w : World) (p : ℕ) (x : Place) → place_at w p ≡ Some x → WorldSpeaks most w → CoreFits x.core
+pub place_found : (most : ℕ) (w : World) (p : ℕ) (x : Place) → place_at w p ≡ Some x → WorldSpeaks most w → CoreFits x.core
 place_found most w p x e h = subst (If PlaceSpeaks) e (kept_found PlaceSpeaks w.places p h.places)
 
 with_place_speaks : (most : ℕ) (w : World) (p : ℕ) (x : Place) → CoreFits x.core → WorldSpeaks most w → WorldSpeaks most (with_place w p x)
@@ -126,14 +127,14 @@ fetched_fits most (suc n) x got l h = by_ticket (ready x.core) (λ y g k. fetche
 
 -- ---- what comes to a proxy
 
-asked_parts : (p t : ℕ) (q : Request) → is_item (item.Asked p t q) ≡ true → Number t × RequestFits 127 q
+pub asked_parts : (p t : ℕ) (q : Request) → is_item (item.Asked p t q) ≡ true → Number t × RequestFits 127 q
 unfolding is_item item_form item_words
 asked_parts p t q e =
     let a = and_second (proxy.fits p) (ticket.fits t && asks.request.fits q) e in
     let b = and_first (ticket.fits t) (asks.request.fits q) a in
     (leb-true t max_number (and_second (nat_le 1 t) (nat_le t max_number) b), request_from q (and_second (ticket.fits t) (asks.request.fits q) a))
 
-comes : (most : ℕ) (w v : World) (p : ℕ) (x y : Place) (e : CoreEvent) (o : Outcome) (own : List Item) (told : Replies) → Turn w p x e o v y own told → Each AskedHasText own → WorldSpeaks most w → EventFits most e
+pub comes : (most : ℕ) (w v : World) (p : ℕ) (x y : Place) (e : CoreEvent) (o : Outcome) (own : List Item) (told : Replies) → Turn w p x e o v y own told → Each AskedHasText own → WorldSpeaks most w → EventFits most e
 comes most w v p x y e o own told (ticks z) a h = tt
 comes most w v p x y e o own told (asks_it t q z f) a h = asked_parts p t q a.0
 comes most w v p x y e o own told (posts_it t path body q z f) a h = asked_parts p t q a.1.0
@@ -150,7 +151,7 @@ comes most w v p x y e o own told (leaves t z) a h = tt
 
 -- ---- what comes of it
 
-abbrev MadeFits : Item → Type 0
+abbrev pub MadeFits : Item → Type 0
 MadeFits (item.Sent p call member t q) = made_fits (item.Sent p call member t q) ≡ true
 MadeFits (item.Opened p stream member q) = made_fits (item.Opened p stream member q) ≡ true
 MadeFits (item.Executed call a) = made_fits (item.Executed call a) ≡ true
@@ -202,7 +203,7 @@ turn_speaks most w v p x y e o own told (calls n member t q) u h c = record {
   world = record {
     settings = h.settings;
     places = h.places;
-    calls = each_append (CallSpeaks most) w.calls (new_call p x n member q ∷ []) h.calls (record { member = u.0; request = u.2; executed = tt }, tt);
+    calls = each_append (CallSpeaks most) w.calls (new_call p x n member q ∷ []) h.calls (record { member = u.0; request = u.2; narrow = u.3; executed = tt }, tt);
     streams = h.streams;
     store = h.store;
   };
@@ -223,10 +224,10 @@ turn_speaks most w v p x y e o own told (opens n member ask) u h c = record {
 turn_speaks most w v p x y e o own told (closes n stream at) u h c = record { world = closed_speaks most w stream _ h; place = c; made = (tt, tt) }
 turn_speaks most w v p x y e o own told (answers n call b z f g) u h c =
     let k = nth_found (CallSpeaks most) w.calls n call f h.calls in
-    record { world = with_call_speaks most w n call (record call { settled = true }) (record { member = k.member; request = k.request; executed = k.executed }) h; place = c; made = (tt, tt) }
+    record { world = with_call_speaks most w n call (record call { settled = true }) (record { member = k.member; request = k.request; narrow = k.narrow; executed = k.executed }) h; place = c; made = (tt, tt) }
 turn_speaks most w v p x y e o own told (loses n call z f) u h c =
     let k = nth_found (CallSpeaks most) w.calls n call f h.calls in
-    record { world = with_call_speaks most w n call (record call { settled = true }) (record { member = k.member; request = k.request; executed = k.executed }) h; place = c; made = (tt, tt) }
+    record { world = with_call_speaks most w n call (record call { settled = true }) (record { member = k.member; request = k.request; narrow = k.narrow; executed = k.executed }) h; place = c; made = (tt, tt) }
 turn_speaks most w v p x y e o own told (delivers n s i rest z f g a b r) u h c =
     record { world = with_stream_speaks most w n (record s { waiting = rest }) (subst (AllOf (MessageFits most)) r (nth_found (StreamSpeaks most) w.streams n s f h.streams)).1 h; place = c; made = (tt, tt) }
 turn_speaks most w v p x y e o own told (cuts n s z f g a b) u h c = record { world = with_stream_speaks most w n _ tt h; place = c; made = (tt, tt) }
@@ -252,7 +253,7 @@ effect_speaks most w after gained l (executes n call e) s r q h =
       world = record {
         settings = h.settings;
         places = h.places;
-        calls = set_each (CallSpeaks most) w.calls (n - 1) _ (record { member = c.member; request = c.request; executed = k.1 }) h.calls;
+        calls = set_each (CallSpeaks most) w.calls (n - 1) _ (record { member = c.member; request = c.request; narrow = c.narrow; executed = k.1 }) h.calls;
         streams = h.streams;
         store = k.0;
       };
@@ -284,21 +285,21 @@ effect_speaks most w after gained l (turns p x e o v y own told at is t) s r q h
 
 -- ---- all lines
 
-abbrev TakenSpeaks : ℕ → Taken → Type 0
+abbrev pub TakenSpeaks : ℕ → Taken → Type 0
 TakenSpeaks most (Ok gained) = WorldSpeaks most gained.0 × Each MadeFits gained.1
 TakenSpeaks most (Err why) = Unit {0}
 
-abbrev Allows : ℕ → Taken → Type 0
+abbrev pub Allows : ℕ → Taken → Type 0
 Allows most (Ok gained) = Each AskedHasText gained.1 × HasRoom most gained.0.store
 Allows most (Err why) = Unit {0}
 
-counted_speaks : (most : ℕ) (w : World) (l : Line) (r : Result (List Item) LineRefusal) → (done w l).gained ≡ r → most + 1 ≤ max_number → HasRoom most w.store → WorldSpeaks most w → Allows most (counted_as (done w l).world r) → TakenSpeaks most (counted_as (done w l).world r)
+pub counted_speaks : (most : ℕ) (w : World) (l : Line) (r : Result (List Item) LineRefusal) → (done w l).gained ≡ r → most + 1 ≤ max_number → HasRoom most w.store → WorldSpeaks most w → Allows most (counted_as (done w l).world r) → TakenSpeaks most (counted_as (done w l).world r)
 counted_speaks most w l (Ok gained) e small room h a =
     let k = effect_speaks most w (done w l).world gained small (effect w l gained e) a.0 room (record { revisions = a.1.revisions; changes = a.1.changes; leases = a.1.leases }) h in
     (record { settings = k.world.settings; places = k.world.places; calls = k.world.calls; streams = k.world.streams; store = k.world.store }, k.made)
 counted_speaks most w l (Err why) e small room h a = tt
 
-allowed : (most : ℕ) (lines : List Line) (t : Taken) (rest : World → List Item) → GoesOnWithRoom (λ after. RoomFrom most after lines) t → Each AskedHasText (items_and_then t rest) → Allows most t
+pub allowed : (most : ℕ) (lines : List Line) (t : Taken) (rest : World → List Item) → GoesOnWithRoom (λ after. RoomFrom most after lines) t → Each AskedHasText (items_and_then t rest) → Allows most t
 allowed most lines (Ok gained) rest r s = (each_first AskedHasText gained.1 (rest gained.0) s, has_room most gained.0 lines r)
 allowed most lines (Err why) rest r s = tt
 
@@ -321,7 +322,7 @@ world_fits members namespace leasing e =
     let b = and_second (is_within 1 9 members) (bytes.fits namespace && bytes.fits leasing) e in
     (leb-true 1 members (and_first (nat_le 1 members) (nat_le members 9) m), leb-true members 9 (and_second (nat_le 1 members) (nat_le members 9) m), bytes_of namespace (and_first (bytes.fits namespace) (bytes.fits leasing) b), bytes_of leasing (and_second (bytes.fits namespace) (bytes.fits leasing) b))
 
-begun_speaks : (most : ℕ) (l : Line) → 1 ≤ most → is_line 1 l ≡ true → TakenSpeaks most (begun l)
+pub begun_speaks : (most : ℕ) (l : Line) → 1 ≤ most → is_line 1 l ≡ true → TakenSpeaks most (begun l)
 begun_speaks most (line.World members namespace leasing) some e =
     let f = world_fits members namespace leasing (parts_of 1 (line.World members namespace leasing) e) in
     let nine = f.1 in (

@@ -3,3 +3,7 @@ pub mod Spoken
 pub mod Asked
 pub mod Growth
 pub mod Closed
+pub mod Answered
+pub mod Posts
+pub mod Whole
+pub mod Scripts

@@ -77,11 +77,15 @@ length_take (suc n) (x ∷ xs) = let r = length_take n xs in omega (arith, r)
 pub few_map : {A B : Type 0} (f : A → B) (xs : List A) → Few xs → Few (map f xs)
 few_map f xs h = subst Number (sym (length_map f xs)) h
 
-pub few_filter : {A : Type 0} (p : A → Bool) (xs : List A) → Few xs → Few (filter p xs)
-few_filter p xs h = let r = length_filter p xs in omega (arith, r, h)
+-- at most so many
+pub most_map : {A B : Type 0} (most : ℕ) (f : A → B) (xs : List A) → length xs ≤ most → length (map f xs) ≤ most
+most_map most f xs h = subst (λ (k : ℕ). k ≤ most) (sym (length_map f xs)) h
 
-pub few_take : {A : Type 0} (n : ℕ) (xs : List A) → Few xs → Few (take n xs)
-few_take n xs h = let r = length_take n xs in omega (arith, r, h)
+pub most_filter : {A : Type 0} (most : ℕ) (p : A → Bool) (xs : List A) → length xs ≤ most → length (filter p xs) ≤ most
+most_filter most p xs h = let r = length_filter p xs in omega (arith, r, h)
+
+pub most_take : {A : Type 0} (most n : ℕ) (xs : List A) → length xs ≤ most → length (take n xs) ≤ most
+most_take most n xs h = let r = length_take n xs in omega (arith, r, h)
 
 -- ---- as tests
 

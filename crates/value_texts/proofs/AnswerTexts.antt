@@ -56,7 +56,7 @@ prev_fits most m None f = refl
 prev_fits most m (Some k) f = kv_fits most m k f
 
 kvs_fit : (most : ℕ) → most ≤ max_number → (ks : List Kv) → KvsFit most ks → (listed number kv).fits ks ≡ true
-kvs_fit most m ks f = and_both (is_within 0 max_number (length ks)) (list_all kv.fits ks) (is_number (length ks) f.few) (all_tests (KvFits most) kv.fits (kv_fits most m) ks f.all)
+kvs_fit most m ks f = and_both (is_within 0 max_number (length ks)) (list_all kv.fits ks) (is_number (length ks) (least most (length ks) m f.few)) (all_tests (KvFits most) kv.fits (kv_fits most m) ks f.all)
 
 -- ---- bodies
 
@@ -111,8 +111,8 @@ mutual
   body_fits most m (suc n) (body.Range count more kvs) f = by_layer true (body_form n) (body.Range count more kvs) (layer.Range count more kvs) (outs-Range count more kvs) (range_fits most m count more kvs f.0 f.1)
   body_fits most m zero (body.Put old) f = by_layer false never (body.Put old) (layer.Put old) (outs-Put old) (prev_fits most m old f)
   body_fits most m (suc n) (body.Put old) f = by_layer true (body_form n) (body.Put old) (layer.Put old) (outs-Put old) (prev_fits most m old f)
-  body_fits most m zero (body.Delete count kvs) f = by_layer false never (body.Delete count kvs) (layer.Delete count kvs) (outs-Delete count kvs) (delete_fits most m count kvs f.0 f.1)
-  body_fits most m (suc n) (body.Delete count kvs) f = by_layer true (body_form n) (body.Delete count kvs) (layer.Delete count kvs) (outs-Delete count kvs) (delete_fits most m count kvs f.0 f.1)
+  body_fits most m zero (body.Delete count kvs) f = by_layer false never (body.Delete count kvs) (layer.Delete count kvs) (outs-Delete count kvs) (delete_fits most m count kvs (least most count m f.0) f.1)
+  body_fits most m (suc n) (body.Delete count kvs) f = by_layer true (body_form n) (body.Delete count kvs) (layer.Delete count kvs) (outs-Delete count kvs) (delete_fits most m count kvs (least most count m f.0) f.1)
   body_fits most m zero body.Compact f = by_layer false never body.Compact layer.Compact outs-Compact refl
   body_fits most m (suc n) body.Compact f = by_layer true (body_form n) body.Compact layer.Compact outs-Compact refl
   body_fits most m zero (body.Grant lease left) f = by_layer false never (body.Grant lease left) (layer.Grant lease left) (outs-Grant lease left) (two_numbers lease left f.0 f.1)

@@ -1,3 +1,4 @@
 pub mod Alls
+pub mod Weaker
 pub mod AnswerTexts
 pub mod RequestTexts

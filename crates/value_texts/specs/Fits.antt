@@ -1,5 +1,6 @@
 -- Values whose parts are as their texts need them: bytes, numbers below 2^63, lists of fewer than 2^63 members, transactions that
--- nest at most so deep, compares with one operand. Revisions and versions are at most `most`, which is itself below 2^63.
+-- nest at most so deep, compares with one operand. Revisions, versions, and how many records there are or were deleted, are at most
+-- `most`, which is itself below 2^63.
 use Rattle.std.specs.Prelude.{◌≡◌, ℕ, zero, suc, ◌^◌, ◌<◌, ◌≤◌, true, ◌==◌, List, [], ◌∷◌, length, Option, None, Some}
 use Rattle.text_model.specs.Words.{max_number}
 use Rattle.etcd_types.specs.Keys.{is_empty}
@@ -75,7 +76,7 @@ PrevFits most o = If (KvFits most) o
 
 pub record KvsFit (most : ℕ) (kvs : List Kv) : Type 0 where
   pub all : AllOf (KvFits most) kvs
-  pub few : Few kvs
+  pub few : length kvs ≤ most
 
 -- what may stand one deeper
 abbrev pub Within : (ℕ → Type 0) → ℕ → Type 0
@@ -91,7 +92,7 @@ abbrev mutual
   pub BodyFits : ℕ → ℕ → Body → Type 0
   BodyFits most deep (body.Range count more kvs) = Number count × KvsFit most kvs
   BodyFits most deep (body.Put prev) = PrevFits most prev
-  BodyFits most deep (body.Delete deleted prevs) = Number deleted × KvsFit most prevs
+  BodyFits most deep (body.Delete deleted prevs) = (deleted ≤ most) × KvsFit most prevs
   BodyFits most deep (body.Txn' succeeded m inner) = Within (λ n. RowFits most n inner) deep × (row_length inner ≤ 128)
   BodyFits most deep body.Compact = Unit {0}
   BodyFits most deep (body.Grant lease ttl) = Number lease × Number ttl

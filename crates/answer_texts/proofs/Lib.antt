@@ -1,0 +1,9 @@
+pub mod Kept
+pub mod Bodies
+pub mod Refusals
+pub mod Owned
+pub mod Reading
+pub mod Watching
+pub mod Cores
+pub mod Sent
+pub mod Steps
