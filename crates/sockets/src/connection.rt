@@ -1,38 +1,50 @@
-ghost use Rattle.std.specs.Prelude.{None};
-
-use crate::limits::{
-    FIRST_BYTE, LARGE, LINGER, LINGER_PIECE, LINGER_PIECES, REQUEST, TRIES, WRITE, left_of, time,
-};
+use crate::head_end::HeadEnd;
+use crate::limits::ConnectionLimits;
 use crate::permits::Permits;
+use crate::sink::SocketSink;
+use crate::source::SocketSource;
+use crate::times::Until;
+use crate::transfer::receive;
 use etcd_types::NoMemory;
-use outside::{Failed, Sink, Source};
 use std::alloc::Global;
-use std::io::{ErrorKind, Read, Write};
 use std::net::{Shutdown, TcpStream};
 use std::rt::Clock as Times;
+use std::sync::Arc;
 use std::sync::atomic::AtomicU64;
 use std::sync::atomic::Ordering::SeqCst;
-use std::sync::{Arc, Wait};
 use std::time::Duration;
 
-// What both ends of a connection share. The two are used by one thread at a time.
-struct Shared {
-    stream: TcpStream,
-    // when the first byte since the last write came, in milliseconds, or 0 where none did
-    began: AtomicU64,
-    // how many bytes came since the last write
-    came: AtomicU64,
+/// How many pieces are read of what a client still sends when its connection is closed, and how long each is.
+const LINGER_PIECES: u32 = 16;
+
+const LINGER_PIECE: usize = 4_096;
+
+/// What both ends of a connection share. The two are used by one thread at a time.
+pub(crate) struct Shared {
+    pub(crate) stream: TcpStream,
+    pub(crate) limits: ConnectionLimits,
+    // until when the head or body is to come that is read, or 0 where no byte came since the last reply
+    pub(crate) until: AtomicU64,
+    // how many bytes came since the last reply
+    pub(crate) came: AtomicU64,
     // 1 where the connection holds a permit
-    holds: AtomicU64,
-    permits: Arc<Permits, Global>,
+    pub(crate) holds: AtomicU64,
+    pub(crate) permits: Arc<Permits, Global>,
 }
 
 impl Shared {
-    // Gives the permit back, where one is held.
-    fn release(&self) {
+    /// Gives the permit back, where one is held.
+    pub(crate) fn release(&self) {
         if self.holds.swap(0, SeqCst) == 1 {
             self.permits.give();
         }
+    }
+
+    /// The next byte is the first of a request.
+    pub(crate) fn begin_anew(&self) {
+        self.release();
+        self.until.store(0, SeqCst);
+        self.came.store(0, SeqCst);
     }
 }
 
@@ -42,7 +54,8 @@ impl Drop for Shared {
         self.release();
         let Shared {
             stream: _stream,
-            began: _,
+            limits: _,
+            until: _,
             came: _,
             holds: _,
             permits: _permits,
@@ -50,35 +63,28 @@ impl Drop for Shared {
     }
 }
 
-/// Where a connection's bytes come from. A read waits ten minutes for the first byte since the last write, and a minute in
-/// all for what follows it; where more than 64 KB follow, it also waits for a permit.
-#[derive(Drop)]
-pub struct SocketSource<R: Drop> {
-    rt: R,
-    shared: Arc<Shared, Global>,
-    faults: u64,
-}
-
-/// Where a connection's bytes go. A write is taken whole within half a minute, or else fails.
-#[derive(Drop)]
-pub struct SocketSink<R: Drop> {
-    rt: R,
-    shared: Arc<Shared, Global>,
-    /// An earlier write was taken in part alone.
-    broken: bool,
-    faults: u64,
-}
-
-/// The two ends of a connection, without a failure yet.
+/// The two ends of a connection, without a failure yet, with the limits that clients have.
 pub fn ends_of<R: Drop + Copy>(
     alloc: Global,
     rt: R,
     stream: TcpStream,
     permits: Arc<Permits, Global>,
 ) -> Result<(SocketSource<R>, SocketSink<R>), NoMemory> {
+    ends_within(alloc, rt, stream, permits, ConnectionLimits::default())
+}
+
+/// The two ends of a connection, without a failure yet, with limits of its own.
+pub fn ends_within<R: Drop + Copy>(
+    alloc: Global,
+    rt: R,
+    stream: TcpStream,
+    permits: Arc<Permits, Global>,
+    limits: ConnectionLimits,
+) -> Result<(SocketSource<R>, SocketSink<R>), NoMemory> {
     let shared = Shared {
         stream,
-        began: AtomicU64::new(0),
+        limits,
+        until: AtomicU64::new(0),
         came: AtomicU64::new(0),
         holds: AtomicU64::new(0),
         permits,
@@ -88,147 +94,18 @@ pub fn ends_of<R: Drop + Copy>(
     let source = SocketSource {
         rt,
         shared,
+        head: HeadEnd::Within,
+        limit: Duration::ZERO,
         faults: 0,
     };
     let sink = SocketSink {
         rt,
         shared: other,
+        limit: Duration::ZERO,
         broken: false,
         faults: 0,
     };
     Ok((source, sink))
-}
-
-impl<R: Wait + Times + Drop> SocketSource<R> {
-    // How long the next read may wait.
-    fn left(&self) -> Option<Duration> {
-        match self.shared.began.load(SeqCst) {
-            0 => Some(Duration::from_millis(FIRST_BYTE)),
-            began => left_of(&self.rt, began, REQUEST),
-        }
-    }
-
-    // Notes that so many bytes came. None where a permit is needed and not to be had.
-    fn note(&self, count: usize) -> Option<()> {
-        let began = self.shared.began.load(SeqCst);
-        if began == 0 {
-            self.shared.began.store(time(&self.rt)?, SeqCst);
-        }
-        let came = self.shared.came.load(SeqCst).saturating_add(count as u64);
-        self.shared.came.store(came, SeqCst);
-        if came > LARGE && self.shared.holds.load(SeqCst) == 0 {
-            if !self.shared.permits.take(&self.rt, REQUEST) {
-                return None;
-            }
-            self.shared.holds.store(1, SeqCst);
-        }
-        Some(())
-    }
-}
-
-impl<R: Wait + Times + Drop> Source for SocketSource<R> {
-    ghost left = { λ s. None };
-
-    ghost faults = { λ s. s.faults };
-
-    fn read(&mut self, room: &mut [u8]) -> Result<usize, Failed> {
-        for _ in 0..TRIES {
-            let Some(left) = self.left() else {
-                break;
-            };
-            if self.shared.stream.set_read_timeout(Some(left)).is_err() {
-                break;
-            }
-            let mut stream = &self.shared.stream;
-            match stream.read(room) {
-                Ok(count) => {
-                    if self.note(count).is_none() {
-                        break;
-                    }
-                    return Ok(count);
-                }
-                Err(error) if error.kind() == ErrorKind::Interrupted => {}
-                Err(_) => break,
-            }
-        }
-        self.faults = self.faults.saturating_add(1);
-        Err(Failed)
-    }
-
-    /// The other end is gone where the connection was closed or failed. One that closed its writing half counts as gone.
-    fn check(&mut self) -> Result<(), Failed> {
-        let stream = &self.shared.stream;
-        let mut room = [0u8; 1];
-        let looked = match stream.set_nonblocking(true) {
-            Ok(()) => stream.peek(&mut room),
-            Err(error) => Err(error),
-        };
-        let there = match looked {
-            Ok(count) => count > 0,
-            Err(error) => { matches!(error.kind(), ErrorKind::WouldBlock | ErrorKind::Interrupted) }
-        };
-        if there && stream.set_nonblocking(false).is_ok() {
-            return Ok(());
-        }
-        self.faults = self.faults.saturating_add(1);
-        Err(Failed)
-    }
-}
-
-impl<R: Times + Drop> SocketSink<R> {
-    // Writes the bytes, and says how many of them are left.
-    fn write_all(&self, piece: &[u8]) -> usize {
-        let Some(start) = time(&self.rt) else {
-            return piece.len();
-        };
-        let mut rest = piece;
-        for _ in 0..TRIES {
-            if rest.is_empty() {
-                break;
-            }
-            let Some(left) = left_of(&self.rt, start, WRITE) else {
-                break;
-            };
-            if self.shared.stream.set_write_timeout(Some(left)).is_err() {
-                break;
-            }
-            let mut stream = &self.shared.stream;
-            match stream.write(rest) {
-                Ok(0) => break,
-                Ok(count) => rest = &rest[count..],
-                Err(error) if error.kind() == ErrorKind::Interrupted => {}
-                Err(_) => break,
-            }
-        }
-        rest.len()
-    }
-}
-
-impl<R: Times + Drop> Sink for SocketSink<R> {
-    ghost written = { λ s. None };
-
-    ghost faults = { λ s. s.faults };
-
-    /// Where a front of the piece was taken alone, that is told, and each later write fails.
-    fn write(&mut self, piece: &[u8]) -> Result<usize, Failed> {
-        self.shared.release();
-        self.shared.began.store(0, SeqCst);
-        self.shared.came.store(0, SeqCst);
-        let left = if self.broken {
-            piece.len()
-        } else {
-            self.write_all(piece)
-        };
-        if left > 0 {
-            self.broken = true;
-        }
-        let done = piece.len().saturating_sub(left);
-        if done > 0 || piece.is_empty() {
-            return Ok(done);
-        }
-        self.faults = self.faults.saturating_add(1);
-        Err(Failed)
-    }
 }
 
 /// Closes a connection so that its client still gets what was written last: says that nothing more comes, and reads what
@@ -237,21 +114,17 @@ impl<R: Times + Drop> Sink for SocketSink<R> {
 pub fn linger<R: Times + Drop>(source: SocketSource<R>, sink: SocketSink<R>) {
     let shared = &source.shared;
     shared.release();
-    let (Ok(()), Some(start)) = (shared.stream.shutdown(Shutdown::Write), time(&source.rt)) else {
+    let (Ok(()), Ok(until)) = (
+        shared.stream.shutdown(Shutdown::Write),
+        Until::after(&source.rt, shared.limits.linger),
+    ) else {
         return;
     };
     let mut room = [0u8; LINGER_PIECE];
     for _ in 0..LINGER_PIECES {
-        let Some(left) = left_of(&source.rt, start, LINGER) else {
-            return;
-        };
-        let mut stream = &shared.stream;
-        match stream.set_read_timeout(Some(left)) {
-            Ok(()) => match stream.read(&mut room) {
-                Ok(0) | Err(_) => return,
-                Ok(_) => {}
-            },
-            Err(_) => return,
+        match receive(&source.rt, &shared.stream, &mut room, until) {
+            Ok(0) | Err(_) => return,
+            Ok(_) => {}
         }
     }
 }

@@ -2,6 +2,7 @@ ghost use Rattle.std.specs.Prelude.{None};
 
 use etcd_types::Bytes;
 use outside::{Failed, Host};
+use std::io::ErrorKind;
 use std::net::{Net, TcpListener, TcpStream};
 use std::rt::Clock as Times;
 use std::sync::Wait;
@@ -11,13 +12,13 @@ use std::{io, str, thread};
 /// How long is paused after an accept that failed in passing, in milliseconds.
 const PAUSE: u64 = 10;
 
-/// What accepts connections on an address of the system.
+/// What accepts connections on an address of the system. Where it can't listen, or accepts no more, it says why in one line on the
+/// standard error.
 #[derive(Drop)]
 pub struct SocketHost<R: Drop> {
     rt: R,
-    listener: Option<TcpListener>,
-    cause: Option<io::Error>,
-    faults: u64,
+    pub(crate) listener: Option<TcpListener>,
+    pub(crate) faults: u64,
 }
 
 impl<R: Drop> SocketHost<R> {
@@ -26,14 +27,8 @@ impl<R: Drop> SocketHost<R> {
         SocketHost {
             rt,
             listener: None,
-            cause: None,
             faults: 0,
         }
-    }
-
-    /// Why the last call failed, where the system said it.
-    pub fn cause(&self) -> Option<&io::Error> {
-        self.cause.as_ref()
     }
 }
 
@@ -59,7 +54,21 @@ fn accepted<R: Wait + Times>(rt: &R, listener: &TcpListener) -> io::Result<TcpSt
     unreachable!()
 }
 
-impl<R: Net<Listener = TcpListener, Stream = TcpStream> + Wait + Times + Drop> Host
+impl<R: Net<Listener = TcpListener, Stream = TcpStream> + Wait + Times + Eprint + Drop> SocketHost<
+    R,
+> {
+    // The next connection, which sends what is written at once.
+    fn accepted(&self) -> io::Result<TcpStream> {
+        let Some(listener) = &self.listener else {
+            return Err(io::Error::from(ErrorKind::NotConnected));
+        };
+        let stream = accepted(&self.rt, listener)?;
+        let _ = stream.set_nodelay(true);
+        Ok(stream)
+    }
+}
+
+impl<R: Net<Listener = TcpListener, Stream = TcpStream> + Wait + Times + Eprint + Drop> Host
     for SocketHost<R> {
     type Conn = TcpStream;
 
@@ -68,31 +77,28 @@ impl<R: Net<Listener = TcpListener, Stream = TcpStream> + Wait + Times + Drop> H
     ghost faults = { λ h. h.faults };
 
     fn listen(&mut self, address: &Bytes) -> Result<(), Failed> {
-        if let Ok(address) = str::from_utf8(address.as_slice()) {
-            match TcpListener::bind(&self.rt, address) {
-                Ok(listener) => {
-                    self.listener = Some(listener);
-                    return Ok(());
-                }
-                Err(error) => self.cause = Some(error),
+        let address = str::from_utf8(address.as_slice()).unwrap_or("");
+        match TcpListener::bind(&self.rt, address) {
+            Ok(listener) => {
+                self.listener = Some(listener);
+                Ok(())
+            }
+            Err(error) => {
+                let _ = eprintln!(self.rt; "etcd_proxy: can't listen on {address}: {error}");
+                self.faults = self.faults.saturating_add(1);
+                Err(Failed)
             }
         }
-        self.faults = self.faults.saturating_add(1);
-        Err(Failed)
     }
 
-    /// A connection sends what is written at once.
     fn accept(&mut self) -> Result<TcpStream, Failed> {
-        if let Some(listener) = &self.listener {
-            match accepted(&self.rt, listener) {
-                Ok(stream) => {
-                    let _ = stream.set_nodelay(true);
-                    return Ok(stream);
-                }
-                Err(error) => self.cause = Some(error),
+        match self.accepted() {
+            Ok(stream) => Ok(stream),
+            Err(error) => {
+                let _ = eprintln!(self.rt; "etcd_proxy: no more connections are accepted: {error}");
+                self.faults = self.faults.saturating_add(1);
+                Err(Failed)
             }
         }
-        self.faults = self.faults.saturating_add(1);
-        Err(Failed)
     }
 }

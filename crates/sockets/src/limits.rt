@@ -1,43 +1,67 @@
-//! How long is waited for what.
+ghost use Rattle.std.specs.Prelude.{◌≡◌, ◌*◌, ◌/◌, min};
 
-use std::rt::Clock as Times;
-use std::time::Duration;
-
-/// For the first byte of a request, in milliseconds.
-pub(crate) const FIRST_BYTE: u64 = 600_000;
-
-/// For the rest of a request from its first byte on: half a minute for its head, and as much for its body.
-pub(crate) const REQUEST: u64 = 60_000;
-
-/// For one write to be taken whole.
-pub(crate) const WRITE: u64 = 30_000;
-
-/// For the bytes that a client still sends when its connection is closed.
-pub(crate) const LINGER: u64 = 1_000;
-
-/// How many of those bytes are read, in pieces of this size.
-pub(crate) const LINGER_PIECES: u32 = 16;
-
-pub(crate) const LINGER_PIECE: usize = 4_096;
-
-/// A request that has more bytes needs a permit.
-pub(crate) const LARGE: u64 = 65_536;
-
-/// How often a call that a signal interrupted is tried in all. No signal comes so often.
-pub(crate) const TRIES: u32 = u32::MAX;
-
-/// The time since some start, in milliseconds, from 1 on.
-pub(crate) fn time<R: Times>(rt: &R) -> Option<u64> {
-    let time = rt.monotonic().ok()?;
-    Some(u64::try_from(time.as_millis()).unwrap_or(u64::MAX).max(1))
+/// How long a client is waited for, in milliseconds.
+#[derive(Clone, Copy, Debug, PartialEq, Eq)]
+pub struct ConnectionLimits {
+    /// For the first byte of a request.
+    pub first_byte: u64,
+    /// For the rest of its head, in all.
+    pub head: u64,
+    /// For its body, in all, and for a permit where it is large.
+    pub body: u64,
+    /// For one write to be taken whole.
+    pub write: u64,
+    /// For the bytes that it still sends when its connection is closed.
+    pub linger: u64,
 }
 
-/// What is left of a limit that began at this time, where any is.
-pub(crate) fn left_of<R: Times>(rt: &R, start: u64, limit: u64) -> Option<Duration> {
-    let passed = time(rt)?.saturating_sub(start);
-    if passed < limit {
-        Some(Duration::from_millis(limit - passed))
-    } else {
-        None
+impl Default for ConnectionLimits {
+    /// Ten minutes for a first byte; half a minute for a head, a body and a write; a second for the bytes at the end.
+    fn default() -> ConnectionLimits {
+        ConnectionLimits {
+            first_byte: 600_000,
+            head: 30_000,
+            body: 30_000,
+            write: 30_000,
+            linger: 1_000,
+        }
+    }
+}
+
+/// How long a member is waited for, in milliseconds.
+#[derive(Clone, Copy, Debug, PartialEq, Eq)]
+pub struct LinkLimits {
+    /// To take a connection.
+    pub connect: u64,
+    /// For a whole call that reads, grants or keeps alive, and for the sending of a call that begins a stream.
+    pub read: u64,
+    /// For a whole call that writes.
+    pub write: u64,
+    /// A stream that said nothing for so long has its member asked.
+    pub silence: u64,
+    /// For the answer to that.
+    pub ask: u64,
+    /// A stream that said nothing for so long is cut, whatever its member answers.
+    pub cut: u64,
+}
+
+impl LinkLimits {
+    /// The limits of a proxy whose session lives for so many seconds. A call that reads, grants or keeps alive has a second and
+    /// a half, one that writes five, and none has more than a third of the session's time to live, so that a member that hangs
+    /// leaves time to try another.
+    pub fn of_ttl(seconds: u64) -> LinkLimits
+        ensures read { result.read ≡ min 1500 (seconds * 1000 / 3) }
+        ensures write { result.write ≡ min 5000 (seconds * 1000 / 3) }
+    {
+        // from 15 seconds on, a third is more than each of the two
+        let third = seconds.min(15) * 1_000 / 3;
+        LinkLimits {
+            connect: 1_000,
+            read: third.min(1_500),
+            write: third.min(5_000),
+            silence: 10_000,
+            ask: 1_500,
+            cut: 600_000,
+        }
     }
 }

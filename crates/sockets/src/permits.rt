@@ -1,4 +1,5 @@
-use crate::limits::{left_of, time};
+use crate::times::Until;
+use std::io;
 use std::rt::Clock as Times;
 use std::sync::Wait;
 use std::sync::atomic::AtomicU64;
@@ -7,7 +8,7 @@ use std::sync::atomic::Ordering::SeqCst;
 /// What a connection holds while a large request of it is read, so that not all of them take their memory at once.
 #[derive(Debug, Drop)]
 pub struct Permits {
-    free: AtomicU64,
+    pub(crate) free: AtomicU64,
 }
 
 impl Permits {
@@ -18,11 +19,8 @@ impl Permits {
         }
     }
 
-    /// Takes a permit, and waits for one at most so many milliseconds. Says whether it has one.
-    pub(crate) fn take<R: Wait + Times>(&self, rt: &R, limit: u64) -> bool {
-        let Some(start) = time(rt) else {
-            return false;
-        };
+    /// Takes a permit, and waits for one up to that moment at most.
+    pub(crate) fn take<R: Wait + Times>(&self, rt: &R, until: Until) -> io::Result<()> {
         for _ in rt.forever() {
             let free = self.free.load(SeqCst);
             if free > 0 {
@@ -31,13 +29,10 @@ impl Permits {
                     .compare_exchange(free, free - 1, SeqCst, SeqCst)
                     .is_ok()
                 {
-                    return true;
+                    return Ok(());
                 }
             } else {
-                let Some(left) = left_of(rt, start, limit) else {
-                    return false;
-                };
-                self.free.park_timeout(rt, 0, left);
+                self.free.park_timeout(rt, 0, until.left(rt)?);
             }
         }
         unreachable!()

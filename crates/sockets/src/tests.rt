@@ -1,132 +1,165 @@
+mod ends;
+mod links;
+
 use super::*;
-use etcd_types::{Bytes, List};
-use outside::{Host, Link, LinkFault, Sink, Source};
+use etcd_types::{Bytes, List, NoMemory};
+use outside::Host;
 use std::alloc::Global;
-use std::io::{Read, Write};
-use std::net::{Net, TcpListener, TcpStream};
+use std::fmt::Display;
+use std::io;
+use std::io::{ErrorKind, Read, Write};
+use std::net::{Net, SocketAddr, TcpListener, TcpStream};
 use std::rt::Clock as Times;
+use std::sync::atomic::AtomicU64;
+use std::sync::atomic::Ordering::SeqCst;
 use std::sync::{Arc, Wait};
 use std::test::Fail;
-use std::thread;
+use std::time::Duration;
 
-const LIMITS: LinkLimits = LinkLimits {
-    connect: 1_000,
-    read: 5_000,
-    write: 5_000,
-    silence: 5_000,
-};
-
-/// A host that listens there.
-fn listening<R: Net<Listener = TcpListener, Stream = TcpStream> + Wait + Times + Drop>(
+/// A system whose clock refuses a reading, and that counts the lines on its standard error.
+#[derive(Drop)]
+struct Watched<R> {
     rt: R,
-    alloc: Global,
-    address: &[u8],
-) -> Result<SocketHost<R>, Fail> {
-    let mut host = SocketHost::new(rt);
-    let address = Bytes::from_slice(alloc, address)?;
-    match host.listen(&address) {
-        Ok(()) => Ok(host),
-        Err(fault) => Err(Fail::new(fault)),
+    /// The reading that is refused, from 1 on, or 0 for none.
+    refused: AtomicU64,
+    readings: AtomicU64,
+    lines: AtomicU64,
+}
+
+impl<R> Watched<R> {
+    fn new(rt: R) -> Watched<R> {
+        Watched {
+            rt,
+            refused: AtomicU64::new(0),
+            readings: AtomicU64::new(0),
+            lines: AtomicU64::new(0),
+        }
+    }
+
+    /// From now on the reading of this number is refused.
+    fn refuse(&self, reading: u64) {
+        self.readings.store(0, SeqCst);
+        self.refused.store(reading, SeqCst);
+    }
+
+    /// How many lines were written.
+    fn lines(&self) -> u64 {
+        self.lines.load(SeqCst)
     }
 }
 
-/// A link to one member there.
-fn link_to<R: Drop>(rt: R, alloc: Global, address: &[u8]) -> Result<SocketLink<R>, Fail> {
-    let mut hosts = List::new(alloc);
-    hosts.push(Bytes::from_slice(alloc, address)?)?;
-    Ok(SocketLink::new(rt, Arc::new(alloc, hosts)?, LIMITS))
+impl<R: Wait> Wait for Watched<R> {}
+
+impl<R: Times> Times for Watched<R> {
+    fn monotonic(&self) -> io::Result<Duration> {
+        let reading = self.readings.fetch_add(1, SeqCst).wrapping_add(1);
+        if reading == self.refused.load(SeqCst) {
+            return Err(io::Error::from(ErrorKind::Unsupported));
+        }
+        self.rt.monotonic()
+    }
+
+    fn since_1970(&self) -> io::Result<Duration> {
+        self.rt.since_1970()
+    }
+
+    fn sleep(&self, duration: Duration) {
+        self.rt.sleep(duration)
+    }
 }
 
-#[test]
-fn an_accepted_connection_carries_bytes_both_ways(rt: HostRuntime) -> Result<(), Fail> {
-    let alloc: Global = rt.alloc();
-    let mut host = listening(rt, alloc, b"127.0.0.1:42371")?;
-    let client = TcpStream::connect(&rt, "127.0.0.1:42371")?;
-    let Ok(stream) = host.accept() else {
-        panic!(rt; "no connection was accepted");
-    };
-    let permits = Arc::new(alloc, Permits::new(1))?;
-    let (mut source, mut sink) = ends_of(alloc, rt, stream, permits)?;
-    let mut room = [0u8; 8];
-    assert!(rt; source.check().is_ok());
-    let mut end = &client;
-    assert_eq!(rt; end.write(b"ask")?, 3);
-    assert_eq!(rt; source.read(&mut room), Ok(3));
-    assert_eq!(rt; &room[..3], b"ask".as_slice());
-    assert_eq!(rt; sink.write(b"reply"), Ok(5));
-    assert_eq!(rt; end.read(&mut room)?, 5);
-    assert_eq!(rt; &room[..5], b"reply".as_slice());
-    drop(client);
-    assert!(rt; source.check().is_err());
-    assert_eq!(rt; source.read(&mut room), Ok(0));
-    linger(source, sink);
-    Ok(())
+impl<R> Eprint for Watched<R> {
+    fn eprint<D: Display + Drop>(&self, _value: D) -> io::Result<()> {
+        Ok(())
+    }
+
+    fn eprintln<D: Display + Drop>(&self, _value: D) -> io::Result<()> {
+        self.lines.fetch_add(1, SeqCst);
+        Ok(())
+    }
 }
 
-/// Answers one call, and says how many of its bytes came at once.
-fn answer_one<R: Net<Listener = TcpListener, Stream = TcpStream> + Wait + Times + Drop + Copy>(
+impl<R: Net<Listener = TcpListener, Stream = TcpStream>> Net for Watched<R> {
+    type Stream = TcpStream;
+
+    type Listener = TcpListener;
+
+    fn bind(&self, addr: SocketAddr) -> io::Result<TcpListener> {
+        self.rt.bind(addr)
+    }
+
+    fn connect(&self, addr: SocketAddr) -> io::Result<TcpStream> {
+        self.rt.connect(addr)
+    }
+
+    fn connect_timeout(&self, addr: SocketAddr, timeout: Duration) -> io::Result<TcpStream> {
+        self.rt.connect_timeout(addr, timeout)
+    }
+}
+
+/// A host that listens on a free port, and its address.
+fn listening<R: Net<Listener = TcpListener, Stream = TcpStream> + Wait + Times + Eprint + Drop>(
     rt: R,
+    alloc: Global,
+) -> Result<(SocketHost<R>, Bytes), Fail> {
+    let mut host = SocketHost::new(rt);
+    let any = Bytes::from_slice(alloc, b"127.0.0.1:0")?;
+    let _ = host.listen(&any);
+    let Some(listener) = &host.listener else {
+        return Err(Fail::new("no port is free"));
+    };
+    let address = listener.local_addr()?;
+    let address = format!(in alloc; "{address}")?;
+    let address = Bytes::from_slice(alloc, address.as_bytes())?;
+    Ok((host, address))
+}
+
+/// What a member of a test does with a connection: reads once, writes these bytes, and closes it or lets it rest.
+#[derive(Clone, Copy)]
+struct Act {
+    says: &'static [u8],
+    rests: bool,
+}
+
+/// What a member says on connections that rest, when it has had all of them.
+const LAST: &[u8] = b"last";
+
+/// A member that has one connection for each of these acts, in turn, and says how many there were.
+fn play<R: Net<Listener = TcpListener, Stream = TcpStream> + Wait + Times + Eprint + Drop>(
     alloc: Global,
     host: SocketHost<R>,
+    acts: &'static [Act],
 ) -> usize {
     let mut host = host;
-    let Ok(stream) = host.accept() else {
-        return 0;
-    };
-    let Ok(permits) = Arc::new(alloc, Permits::new(1)) else {
-        return 0;
-    };
-    let Ok((mut source, mut sink)) = ends_of(alloc, rt, stream, permits) else {
-        return 0;
-    };
-    let mut room = [0u8; 64];
-    let came = source.read(&mut room).unwrap_or(0);
-    let _ = sink.write(b"answer");
-    linger(source, sink);
-    came
-}
-
-fn is_answer(answer: &Result<Bytes, LinkFault>) -> bool {
-    match answer {
-        Ok(bytes) => bytes.as_slice() == b"answer".as_slice(),
-        Err(_) => false,
+    let mut resting = Vec::new(alloc);
+    let mut count = 0usize;
+    for act in acts {
+        let Ok(mut stream) = host.accept() else {
+            return count;
+        };
+        let mut room = [0u8; 256];
+        let _ = stream.read(&mut room);
+        let _ = stream.write(act.says);
+        count = count.saturating_add(1);
+        if act.rests && resting.push(stream).is_err() {
+            return count;
+        }
     }
-}
-
-fn has_failed(answer: &Result<Bytes, LinkFault>) -> bool {
-    match answer {
-        Ok(_) => false,
-        Err(fault) => *fault == LinkFault::Failed,
+    for mut stream in resting {
+        let _ = stream.write(LAST);
     }
+    count
 }
 
-#[test]
-fn a_link_calls_a_member_that_is_there(rt: HostRuntime) -> Result<(), Fail> {
-    let alloc: Global = rt.alloc();
-    let host = listening(rt, alloc, b"127.0.0.1:42372")?;
-    let handle = thread::spawn(&rt, move || -> usize { answer_one(rt, alloc, host) })?;
-    let mut link = link_to(rt, alloc, b"127.0.0.1:42372")?;
-    let answer = link.call(alloc, 1, b"call");
-    assert_eq!(rt; handle.join(&rt), 4);
-    assert!(rt; is_answer(&answer));
-    let other = link.call(alloc, 2, b"call");
-    assert!(rt; has_failed(&other));
-    Ok(())
-}
-
-#[test]
-fn a_link_begins_a_stream(rt: HostRuntime) -> Result<(), Fail> {
-    let alloc: Global = rt.alloc();
-    let host = listening(rt, alloc, b"127.0.0.1:42373")?;
-    let handle = thread::spawn(&rt, move || -> usize { answer_one(rt, alloc, host) })?;
-    let mut link = link_to(rt, alloc, b"127.0.0.1:42373")?;
-    let Ok(mut stream) = link.begin(alloc, 1, b"begin") else {
-        panic!(rt; "no stream was begun");
-    };
-    let mut room = [0u8; 16];
-    assert!(rt; stream.check().is_ok());
-    assert_eq!(rt; stream.read(&mut room), Ok(6));
-    assert_eq!(rt; stream.read(&mut room), Ok(0));
-    assert_eq!(rt; handle.join(&rt), 5);
-    Ok(())
+/// The members of a cluster at these addresses.
+fn members_at<R: Net>(
+    rt: &R,
+    alloc: Global,
+    addresses: &[&Bytes],
+) -> Result<Arc<Members, Global>, NoMemory> {
+    let mut hosts = List::new(alloc);
+    for address in addresses {
+        hosts.push(address.copy(alloc)?)?;
+    }
+    Ok(Arc::new(alloc, Members::new(rt, alloc, &hosts)?)?)
 }

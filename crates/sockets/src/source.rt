@@ -1,0 +1,123 @@
+ghost use Rattle.std.specs.Prelude.{◌≡◌, None};
+ghost use Rattle.std.specs.Io.{ReadsAtMost};
+
+use crate::connection::Shared;
+use crate::head_end::HeadEnd;
+use crate::times::{TRIES, Until};
+use outside::{Failed, Source};
+use std::alloc::Global;
+use std::io;
+use std::io::{ErrorKind, Read};
+use std::rt::Clock as Times;
+use std::sync::atomic::Ordering::SeqCst;
+use std::sync::{Arc, Wait};
+use std::time::Duration;
+
+/// A request that has more bytes needs a permit.
+const LARGE: u64 = 65_536;
+
+/// Where a connection's bytes come from. A read waits ten minutes for the first byte since the last reply, then half a minute
+/// in all for what follows up to the first empty line, and as much in all for what follows that; where more than 64 KB follow,
+/// it also waits for a permit. So the front of a request that came before the reply to an earlier one has ten minutes again.
+#[derive(Drop)]
+pub struct SocketSource<R: Drop> {
+    pub(crate) rt: R,
+    pub(crate) shared: Arc<Shared, Global>,
+    pub(crate) head: HeadEnd,
+    /// The limit of time that the socket has for a read; zero where none was set.
+    pub(crate) limit: Duration,
+    pub(crate) faults: u64,
+}
+
+impl<R: Wait + Times + Drop> SocketSource<R> {
+    // How long the next read may wait.
+    fn left(&self) -> io::Result<Duration> {
+        match self.shared.until.load(SeqCst) {
+            0 => Ok(Duration::from_millis(self.shared.limits.first_byte.max(1))),
+            end => Until { end }.left(&self.rt),
+        }
+    }
+
+    // Notes that these bytes came, and takes a permit where one is needed.
+    fn note(&mut self, bytes: &[u8]) -> io::Result<()>
+        ensures { self.new.faults ≡ self.old.faults }
+    {
+        if self.shared.until.load(SeqCst) == 0 {
+            self.head = HeadEnd::Within;
+            let until = Until::after(&self.rt, self.shared.limits.head)?;
+            self.shared.until.store(until.end, SeqCst);
+        }
+        if self.head != HeadEnd::Passed {
+            self.head = self.head.after(bytes);
+            if self.head == HeadEnd::Passed {
+                let until = Until::after(&self.rt, self.shared.limits.body)?;
+                self.shared.until.store(until.end, SeqCst);
+            }
+        }
+        let came = self
+            .shared
+            .came
+            .load(SeqCst)
+            .saturating_add(bytes.len() as u64);
+        self.shared.came.store(came, SeqCst);
+        if came > LARGE && self.shared.holds.load(SeqCst) == 0 {
+            let end = self.shared.until.load(SeqCst);
+            self.shared.permits.take(&self.rt, Until { end })?;
+            self.shared.holds.store(1, SeqCst);
+        }
+        Ok(())
+    }
+
+    // Reads once. The socket is told a limit only where it has another.
+    fn receive(&mut self, room: &mut [u8]) -> io::Result<usize>
+        ensures count { ReadsAtMost result room.new }
+        ensures faults { self.new.faults ≡ self.old.faults }
+    {
+        let left = self.left()?;
+        if left != self.limit {
+            self.shared.stream.set_read_timeout(Some(left))?;
+            self.limit = left;
+        }
+        let mut stream = &self.shared.stream;
+        let count = stream.read(room)?;
+        self.note(&room[..count])?;
+        Ok(count)
+    }
+}
+
+impl<R: Wait + Times + Drop> Source for SocketSource<R> {
+    ghost left = { λ s. None };
+
+    ghost faults = { λ s. s.faults };
+
+    fn read(&mut self, room: &mut [u8]) -> Result<usize, Failed> {
+        for _ in 0..TRIES {
+            match self.receive(room) {
+                Ok(count) => return Ok(count),
+                Err(error) if error.kind() == ErrorKind::Interrupted => {}
+                Err(_) => break,
+            }
+        }
+        self.faults = self.faults.saturating_add(1);
+        Err(Failed)
+    }
+
+    /// The other end is gone where the connection was closed or failed. One that closed its writing half counts as gone.
+    fn check(&mut self) -> Result<(), Failed> {
+        let stream = &self.shared.stream;
+        let mut room = [0u8; 1];
+        let looked = match stream.set_nonblocking(true) {
+            Ok(()) => stream.peek(&mut room),
+            Err(error) => Err(error),
+        };
+        let there = match looked {
+            Ok(count) => count > 0,
+            Err(error) => { matches!(error.kind(), ErrorKind::WouldBlock | ErrorKind::Interrupted) }
+        };
+        if there && stream.set_nonblocking(false).is_ok() {
+            return Ok(());
+        }
+        self.faults = self.faults.saturating_add(1);
+        Err(Failed)
+    }
+}
