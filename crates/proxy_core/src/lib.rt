@@ -6,7 +6,9 @@ mod calls;
 mod events;
 mod proxy;
 mod sending;
+mod woken;
 mod work;
 
 pub use core_model::{CoreEvent, Job, Outcome, Settings, StepFault};
 pub use proxy::Core;
+pub use woken::{WORKERS, lot_of_ticket};

@@ -12,24 +12,27 @@ ghost use Rattle.core_laws.specs.Outcomes.{may_have};
 ghost use Rattle.proxy_core.specs.Faults.{GivesJob, AnswersFit};
 
 use crate::events::step;
+use crate::woken::{Woken, cause_of, woken_by};
 use crate::work::has_due;
 use core_face::ProxyCore;
 use core_machine::Machine as Kept;
 use core_model::{CoreEvent, Job, Outcome, Settings, StepFault};
 use etcd_types::{Bytes, Kv, NoMemory};
-use outside::Machine;
+use outside::{Machine, Roused};
 use std::alloc::Global;
 use std::marker::Model;
 
 /// The machine of one proxy between a cluster and its clients.
 pub struct Core {
     kept: Kept,
+    /// Whom the last step at a hub woke.
+    woken: Woken,
 }
 
 // By hand, so that whoever lets a proxy go has one call to prove, and not the end of each of its parts.
 impl Drop for Core {
     fn drop(self) {
-        let Core { kept } = self;
+        let Core { kept, woken: _ } = self;
         drop(kept);
     }
 }
@@ -99,7 +102,19 @@ impl Machine for Core {
     ghost steps = { λ before event now answer after. Steps before event now after answer };
 
     fn step(&mut self, event: CoreEvent, now: u64) -> Result<Outcome, StepFault> {
-        step(&mut self.kept, event, now)
+        let cause = cause_of(&self.kept, &event);
+        let answer = step(&mut self.kept, event, now);
+        self.woken = woken_by(&self.kept, cause, &answer);
+        answer
+    }
+
+    /// Who has a reply or may have a message, and a worker where a job is due.
+    fn rouses(&self) -> Roused {
+        self.woken.roused()
+    }
+
+    fn roused(&self, word: u32) -> u64 {
+        self.woken.word(word)
     }
 }
 
@@ -109,7 +124,10 @@ impl ProxyCore for Core {
     /// A proxy at its start, with these settings, which name at least one member. `NoMemory` where memory was wanting.
     fn new(alloc: Global, settings: Settings) -> Result<Core, NoMemory> {
         let kept = Kept::new(alloc, settings)?;
-        Ok(Core { kept })
+        Ok(Core {
+            kept,
+            woken: Woken::nobody(),
+        })
     }
 
     /// One step, at this reading of the proxy's clock in milliseconds: the clock work, and then what the event does.

@@ -1,0 +1,4 @@
+pub mod Hands
+pub mod Starting
+pub mod Tending
+pub mod Served

@@ -1,0 +1,4 @@
+pub mod Parts
+pub mod Serving
+pub mod Told
+pub mod Service

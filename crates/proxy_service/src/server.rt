@@ -1,0 +1,65 @@
+ghost use Rattle.std.specs.Prelude.{◌≡◌, ◌≤◌, IfOk, length};
+ghost use Rattle.turn_hub.specs.Known.{opening_of};
+ghost use Rattle.core_model.specs.State.{first_core};
+ghost use Rattle.proxy_parts.specs.Homes.{home_of};
+ghost use Rattle.proxy_service.specs.Service.{Serves, seen};
+
+use crate::clients::serve_clients;
+use crate::ends::ServeEnd;
+use crate::service::Service;
+use crate::staff::start_staff;
+use core_face::ProxyCore;
+use core_model::Settings;
+use etcd_types::{Bytes, List, NoMemory};
+use outside::{Failed, Host, Spawner};
+use proxy_core::Core;
+use proxy_parts::Place;
+use std::alloc::Global;
+use std::sync::{Arc, Wait};
+use turn_hub::Hub;
+
+/// The first place at a hub of its own, whose core is fresh.
+fn first_place(alloc: Global, settings: Settings, hosts: List<Bytes>) -> Result<Place, NoMemory>
+    requires members { 1 ≤ settings.members }
+    requires hosts { settings.members ≡ length hosts }
+    ensures fresh { IfOk result (λ place. opening_of (home_of place).0.hub ≡ first_core settings) }
+    ensures hosts { IfOk result (λ place. (home_of place).1 ≡ hosts) }
+{
+    let core = <Core as ProxyCore>::new(alloc, settings)?;
+    let (hub, pass) = Hub::new(alloc, core)?;
+    let hub = Arc::new(alloc, hub)?;
+    let hosts = Arc::new(alloc, hosts)?;
+    Ok(Place { hub, hosts, pass })
+}
+
+/// Serves clients until no further one can come: it listens, starts its workers and its ticker, and then a part for each client that it
+/// accepts. A client whose part isn't started is dropped. It waits for as long as clients may come.
+pub fn serve<R: Wait, H: Host, P: Spawner<Pass = Place, Conn = H::Conn>>(
+    rt: &R,
+    alloc: Global,
+    service: Service,
+    host: &mut H,
+    spawner: &mut P,
+) -> ServeEnd
+    requires members { 1 ≤ service.core.members }
+    requires hosts { service.core.members ≡ length service.hosts }
+    ensures { Serves service (seen (H.made host.old) (H.faults host.old) (P.handed spawner.old) (P.faults spawner.old))
+        (seen (H.made host.new) (H.faults host.new) (P.handed spawner.new) (P.faults spawner.new)) result }
+{
+    let Service {
+        core,
+        hosts,
+        listen,
+        workers,
+    } = service;
+    let Ok(mut place) = first_place(alloc, core, hosts) else {
+        return ServeEnd::NoMemory;
+    };
+    if let Err(Failed) = host.listen(&listen) {
+        return ServeEnd::ListenerFault;
+    }
+    if let Err(end) = start_staff(&mut place, workers, spawner) {
+        return end;
+    }
+    serve_clients(rt, &mut place, host, spawner)
+}
