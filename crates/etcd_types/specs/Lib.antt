@@ -1,4 +1,5 @@
 pub mod formers
+pub mod Held
 pub mod Keys
 pub mod Ranges
 pub mod Records

@@ -7,30 +7,40 @@ ghost use Rattle.std.proofs.Common.{rules};
 ghost use Rattle.etcd_types.specs.Keys.{is_empty};
 
 use crate::no_memory::NoMemory;
+use crate::short_bytes::{MOST, ShortBytes};
 use std::alloc::Global;
 use std::cmp::Ordering;
 use std::marker::Model;
 
-/// A key, a value or another string of bytes, of any length. Contracts see it as the list of its bytes.
+/// Where bytes lie.
+#[derive(Debug, Drop)]
+enum Held {
+    Short(ShortBytes),
+    Long(Vec<u8>),
+}
+
+/// A key, a value or another string of bytes, of any length. Few bytes, as most keys are, lie in the value itself, so that they
+/// take no memory of their own. Contracts see it as the list of its bytes.
 #[derive(Debug)]
 pub struct Bytes {
-    bytes: Vec<u8>,
+    held: Held,
 }
 
 // By hand, so that whoever lets bytes go has one call to prove, and not the end of each of its parts.
 impl Drop for Bytes {
     fn drop(self) {
-        let Bytes { bytes } = self;
-        drop(bytes);
+        let Bytes { held } = self;
+        drop(held);
     }
 }
 
 impl Model for Bytes {
     ghost use Rattle.std.specs.Prelude.{List, ℕ};
+    ghost use Rattle.etcd_types.specs.Held.{held_bytes};
 
     ghost Value = { List ℕ };
 
-    ghost view = { λ b. b.bytes.items };
+    ghost view = { λ b. held_bytes b.held };
 }
 
 impl Bytes {
@@ -38,38 +48,45 @@ impl Bytes {
     pub fn new(alloc: Global) -> Bytes
         ensures { result ≡ [] }
     {
-        Bytes {
-            bytes: Vec::new(alloc),
-        }
+        Bytes::from_vec(Vec::new(alloc))
     }
 
     /// A copy of these bytes, or `NoMemory` where memory was wanting.
     pub fn from_slice(alloc: Global, slice: &[u8]) -> Result<Bytes, NoMemory>
         ensures { IfOk result (λ b. b ≡ slice.now) }
     {
-        let bytes = Vec::from_slice(alloc, slice)?;
-        Ok(Bytes { bytes })
+        let held = if slice.len() <= MOST {
+            Held::Short(ShortBytes::from_slice(slice))
+        } else {
+            Held::Long(Vec::from_slice(alloc, slice)?)
+        };
+        Ok(Bytes { held })
     }
 
     /// The bytes of a vector, which are not copied.
     pub fn from_vec(bytes: Vec<u8>) -> Bytes
         ensures { result ≡ bytes.items }
     {
-        Bytes { bytes }
+        Bytes {
+            held: Held::Long(bytes),
+        }
     }
 
     /// All its bytes, in order.
     pub fn as_slice(&self) -> &[u8]
         ensures { result.now ≡ self.now }
     {
-        self.bytes.as_slice()
+        match &self.held {
+            Held::Short(short) => short.as_slice(),
+            Held::Long(long) => long.as_slice(),
+        }
     }
 
     /// Whether it has no bytes.
     pub fn is_empty(&self) -> bool
         ensures { result ≡ is_empty self.now }
     {
-        self.bytes.is_empty()
+        self.as_slice().is_empty()
     }
 
     /// A copy, or `NoMemory` where memory was wanting.
@@ -90,8 +107,25 @@ impl Ord for Bytes {
 
     ghost matches_eq = { Prim.search (comparing, rules) };
 
+    // A byte at a time: most keys are short and differ early, so that groups of bytes cost more than they spare.
     fn cmp(&self, other: &Bytes) -> Ordering {
-        self.as_slice().cmp(other.as_slice())
+        let mut left = self.as_slice();
+        let mut right = other.as_slice();
+        while let [first, rest @ ..] = left {
+            let [second, others @ ..] = right else {
+                return Ordering::Greater;
+            };
+            if first != second {
+                return first.cmp(second);
+            }
+            left = rest;
+            right = others;
+        }
+        if right.is_empty() {
+            Ordering::Equal
+        } else {
+            Ordering::Less
+        }
     }
 }
 

@@ -14,6 +14,7 @@ mod no_memory;
 mod operation;
 mod record;
 mod request;
+mod short_bytes;
 mod watch;
 
 pub use answer::{Answer, Body, Refusal, Reply};
