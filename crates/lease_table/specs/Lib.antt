@@ -1,3 +1,4 @@
+pub mod Blanks
 pub mod Dues
 pub mod Starts
 pub mod Turns

@@ -3,9 +3,7 @@
 ghost use Rattle.std.specs.Prelude.{◌≡◌, ◌<◌, ◌≤◌, ◌+◌, ◌^◌, length};
 ghost use Rattle.lease_table.specs.Dues.{one_if, due_count, first_due_from, first_of_changed, first_of_added, first_of_removed};
 
-use crate::turns::is_rescind_due;
-use etcd_types::Bytes;
-use proxy_model::Entry;
+use crate::rows::Row;
 
 /// The number after one row was changed: `was` and `is` say whether its rescind is to be sent.
 pub(crate) fn count_changed(due: usize, was: bool, is: bool) -> usize
@@ -22,7 +20,7 @@ pub(crate) fn count_changed(due: usize, was: bool, is: bool) -> usize
 
 /// The first one after the row at this place was changed.
 pub(crate) fn first_of_changed(
-    rows: &[(Bytes, Entry)],
+    rows: &[Row],
     due: usize,
     first: usize,
     place: usize,
@@ -56,12 +54,7 @@ pub(crate) fn first_of_added(first: usize, place: usize, is: bool) -> usize
 }
 
 /// The first one after the row at this place was taken out.
-pub(crate) fn first_of_removed(
-    rows: &[(Bytes, Entry)],
-    due: usize,
-    first: usize,
-    place: usize,
-) -> usize
+pub(crate) fn first_of_removed(rows: &[Row], due: usize, first: usize, place: usize) -> usize
     requires counted { due ≡ due_count rows.now }
     requires in_range { place ≤ length rows.now }
     ensures { result ≡ first_of_removed rows.now first place }
@@ -76,7 +69,7 @@ pub(crate) fn first_of_removed(
 }
 
 /// The first one from this place on. Where no rescind is to be sent it looks at no row.
-fn next_due(rows: &[(Bytes, Entry)], due: usize, from: usize) -> usize
+fn next_due(rows: &[Row], due: usize, from: usize) -> usize
     requires counted { due ≡ due_count rows.now }
     requires in_range { from ≤ length rows.now }
     ensures { result ≡ first_due_from rows.now from }
@@ -88,12 +81,12 @@ fn next_due(rows: &[(Bytes, Entry)], due: usize, from: usize) -> usize
     }
 }
 
-fn seek_due(rows: &[(Bytes, Entry)], from: usize) -> usize
+fn seek_due(rows: &[Row], from: usize) -> usize
     requires { from ≤ length rows.now }
     ensures { result ≡ first_due_from rows.now from }
 {
     for place in from..rows.len() {
-        if is_rescind_due(&rows[place].1) {
+        if rows[place].is_due() {
             return place;
         }
     }

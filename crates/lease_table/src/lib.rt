@@ -23,10 +23,13 @@ ghost use Rattle.lease_table.specs.Starts.{IsStart, is_in};
 ghost use Rattle.lease_table.specs.Turns.{turned};
 
 mod dues;
+mod rows;
 mod turns;
 
 use crate::dues::{count_changed, first_of_added, first_of_changed, first_of_removed};
-use crate::turns::{Turn, is_rescind_due, take_turn};
+pub use crate::rows::Row;
+use crate::rows::{blank_all, make_room};
+use crate::turns::{Turn, is_rescind_due};
 use etcd_types::{Bytes, KeyRange, Kv, NoMemory};
 pub use proxy_model::{Entry, Phase};
 use std::alloc::Global;
@@ -36,24 +39,27 @@ use std::marker::Model;
 /// The entries, by key.
 #[derive(Debug, Drop)]
 pub struct LeaseTable {
-    rows: Vec<(Bytes, Entry)>,
+    rows: Vec<Row>,
+    /// Rows for entries that come, as many as there is room for.
+    blanks: Vec<Row>,
     /// How many rescinds are to be sent.
     due: usize,
     /// The place of the first entry whose rescind is, or behind all.
     first: usize,
+    alloc: Global,
 }
 
 impl Model for LeaseTable {
-    ghost use Rattle.std.specs.Prelude.{◌-◌, vec_len};
+    ghost use Rattle.std.specs.Prelude.{vec_len};
     ghost use Rattle.std.specs.Vec.{vec_capacity};
     ghost use Rattle.proxy_model.specs.LeaseTable.{Table};
-    ghost use Rattle.lease_table.specs.Dues.{IsKept};
+    ghost use Rattle.lease_table.specs.Blanks.{IsRoomy};
 
     ghost Value = { Table };
 
-    ghost view = { λ t. record { entries = t.rows.items; spare = vec_capacity t.rows - vec_len t.rows } };
+    ghost view = { λ t. record { entries = t.rows.items; spare = vec_len t.blanks } };
 
-    ghost invariant = { λ t. IsKept t.rows.items t.due t.first };
+    ghost invariant = { λ t. IsRoomy t.rows.items t.due t.first (vec_len t.rows) (vec_capacity t.rows) (vec_len t.blanks) (vec_capacity t.blanks) };
 }
 
 impl LeaseTable {
@@ -63,8 +69,10 @@ impl LeaseTable {
     {
         LeaseTable {
             rows: Vec::new(alloc),
+            blanks: Vec::new(alloc),
             due: 0,
             first: 0,
+            alloc,
         }
     }
 
@@ -75,7 +83,7 @@ impl LeaseTable {
         ensures ok { OnOk result (count ≤ self.new.spare) }
         ensures err { OnErr result (self.new ≡ self.old) }
     {
-        self.rows.reserve(count as usize)?;
+        make_room(self.alloc, &mut self.rows, &mut self.blanks, count as usize)?;
         Ok(())
     }
 
@@ -83,11 +91,11 @@ impl LeaseTable {
     pub fn spare(&self) -> u64
         ensures { result ≡ self.now.spare }
     {
-        (self.rows.capacity() - self.rows.len()) as u64
+        self.blanks.len() as u64
     }
 
     /// All entries, in the order of their keys.
-    pub fn entries(&self) -> &[(Bytes, Entry)]
+    pub fn entries(&self) -> &[Row]
         ensures all { result.now ≡ self.now.entries }
         ensures in_order { IsTrue (is_in_order self.now.entries) }
     {
@@ -99,7 +107,7 @@ impl LeaseTable {
         ensures { option_copied result ≡ at self.now.entries key.now }
     {
         match self.place(key) {
-            Ok(at) => Some(&self.rows[at].1),
+            Ok(at) => Some(self.rows[at].entry()),
             Err(_) => None,
         }
     }
@@ -124,7 +132,9 @@ impl LeaseTable {
                 let is = is_rescind_due(&entry);
                 self.due = count_changed(self.due, false, is);
                 self.first = first_of_added(self.first, gap, is);
-                self.rows.insert(gap, (key, entry)).unwrap();
+                let mut row = self.blanks.take_last();
+                row.fill(key, entry);
+                self.rows.insert(gap, row).unwrap();
             }
         }
     }
@@ -175,9 +185,10 @@ impl LeaseTable {
         ensures room { room self.new ≡ room self.old }
     {
         if let Ok(place) = self.place(key) {
-            let row = self.rows.remove(place);
-            let was = is_rescind_due(&row.1);
-            drop(row);
+            let mut row = self.rows.remove(place);
+            let was = row.is_due();
+            row.clear(self.alloc);
+            self.blanks.push_reserved(row);
             self.due = count_changed(self.due, was, false);
             self.first = first_of_removed(&self.rows, self.due, self.first, place);
         }
@@ -188,7 +199,7 @@ impl LeaseTable {
         ensures entries { self.new.entries ≡ [] }
         ensures room { room self.new ≡ room self.old }
     {
-        self.rows.clear();
+        blank_all(self.alloc, &mut self.rows, &mut self.blanks);
         self.due = 0;
         self.first = 0;
     }
@@ -240,7 +251,7 @@ impl LeaseTable {
         ensures { option_copied result ≡ first_rescind self.now.entries }
     {
         match self.rows.get(self.first) {
-            Some(row) => Some(row),
+            Some(row) => Some(row.as_pair()),
             None => None,
         }
     }
@@ -253,9 +264,9 @@ impl LeaseTable {
         ensures absent { IfErr result (IsGap self.now.entries key.now) }
     {
         self.rows.binary_search_by(
-            |row: &(Bytes, Entry)| -> Ordering
+            |row: &Row| -> Ordering
                 ensures { result ≡ slice_cmp nat_cmp row.now.0 key.entry.now }
-            { row.0.cmp(key) },
+            { row.key().cmp(key) },
         )
     }
 
@@ -276,7 +287,7 @@ impl LeaseTable {
         ensures { result ≡ is_in range.now self.now.entries place }
     {
         match self.rows.get(place) {
-            Some(row) => range.contains(&row.0),
+            Some(row) => range.contains(row.key()),
             None => false,
         }
     }
@@ -296,10 +307,10 @@ impl LeaseTable {
         requires { place < length self.old.entries }
         ensures { self.new ≡ record self.old { entries = changed_in self.old.entries place (turned turn) } }
     {
-        let entry = &mut self.rows[place].1;
-        let was = is_rescind_due(entry);
-        take_turn(entry, turn);
-        let is = is_rescind_due(entry);
+        let row = &mut self.rows[place];
+        let was = row.is_due();
+        row.take_turn(turn);
+        let is = row.is_due();
         self.due = count_changed(self.due, was, is);
         self.first = first_of_changed(&self.rows, self.due, self.first, place, is);
     }

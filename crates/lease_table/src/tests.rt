@@ -73,7 +73,10 @@ fn entries_are_found_by_key_and_stand_in_order(rt: HostRuntime) -> Result<(), Fa
     let keys = [b"a".as_slice(), b"b", b"c", b"ca"];
     let mut at = 0usize;
     for row in table.entries() {
-        assert!(rt; at < keys.len() && row.0.as_slice() == keys[at], "row {at}");
+        assert!(rt;
+            at < keys.len() && row.key().as_slice() == keys[at],
+            "row {at}"
+        );
         at = at.saturating_add(1);
     }
     assert_eq!(rt; at, 4);

@@ -15,9 +15,9 @@ returns-in-Some c =
     let a = c.in-Some.ensures.lookup in
     let l : n < length es = subst (λ (xs : Keyed Entry). n < length xs) c.deref.ensures.value a.3.0 in
     let is : row ≡ get_or es n row = subst (λ (xs : Keyed Entry). row ≡ get_or xs n row) c.deref.ensures.value a.1 in
-    ap Some is
-    ∙ ap (λ (i : ℕ). Some (get_or es i row)) c.self.invariant.found
-    ∙ found_due es row (subst (λ (i : ℕ). i < length es) c.self.invariant.found l)
+    ap Some (c.as_pair.ensures ∙ is)
+    ∙ ap (λ (i : ℕ). Some (get_or es i row)) c.self.invariant.kept.found
+    ∙ found_due es row (subst (λ (i : ℕ). i < length es) c.self.invariant.kept.found l)
     ∙ ap (λ (t : Table). first_rescind t.entries) c.self.view_is
 
 pub returns-in-None : goal.returns-in-None
@@ -26,4 +26,4 @@ returns-in-None c =
     let n = c.self.inside.first in
     let a = c.in-None.ensures.lookup in
     let l : length es ≤ n = subst (λ (xs : Keyed Entry). length xs ≤ n) c.deref.ensures.value a.3 in
-    no_due es (subst (λ (i : ℕ). length es ≤ i) c.self.invariant.found l) ∙ ap (λ (t : Table). first_rescind t.entries) c.self.view_is
+    no_due es (subst (λ (i : ℕ). length es ≤ i) c.self.invariant.kept.found l) ∙ ap (λ (t : Table). first_rescind t.entries) c.self.view_is

@@ -1,5 +1,6 @@
 -- The row at the place, where there is one.
 use Rattle.std.proofs.Common.{◌≡◌, ◌<◌, ◌≤◌, ℕ, List, length, get_or, ap, subst, ◌∙◌}
+use Rattle.etcd_types.specs.Ranges.{contains}
 use Rattle.proxy_model.specs.declared.lease.Entry.{Entry}
 use Rattle.proxy_model.specs.Keyed.{Keyed}
 use Rattle.proxy_model.specs.LeaseTable.{Table}
@@ -15,7 +16,7 @@ returns-in-Some c =
     let a = c.in-Some.ensures.lookup in
     let l : n < length es = subst (λ (xs : Keyed Entry). n < length xs) c.deref.ensures.value a.3.0 in
     let is : row ≡ get_or es n row = subst (λ (xs : Keyed Entry). row ≡ get_or xs n row) c.deref.ensures.value a.1 in
-    c.contains.ensures ∙ in-some c.args.range.now es n row l is ∙ ap (λ (t : Table). is_in c.args.range.now t.entries n) c.self.view_is
+    c.contains.ensures ∙ ap (contains c.args.range.now) c.key.ensures ∙ in-some c.args.range.now es n row l is ∙ ap (λ (t : Table). is_in c.args.range.now t.entries n) c.self.view_is
 
 pub returns-in-None : goal.returns-in-None
 returns-in-None c =

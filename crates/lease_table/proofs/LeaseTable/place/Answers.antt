@@ -11,6 +11,6 @@ pub returns : goal.returns
 returns c =
     let facts = c.binary_search_by.ensures in
     let by_key = facts.position (λ row. slice_cmp nat_cmp row.0 c.args.key.now) (always_returns_same _ _ _ (λ a r g called. (search rules, search rules))) in
-    let in_order = to_T _ c.self.invariant.in_order in
+    let in_order = to_T _ c.self.invariant.kept.in_order in
     let found = searched _ c.args.key.now (rw c.deref.ensures.value in_order) _ facts.bound by_key in
     rw (← c.self.view_is, ← c.deref.ensures.value) found
