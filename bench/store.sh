@@ -3,7 +3,8 @@
 # push once it made 1,000, 100,000 and 1,000,000 revisions, over one set of 1,000 keys and over 100,000; a range of 100 keys; the end
 # of a lease with 1,000 keys; the memory that a version takes, and that as many versions take no more once a compaction gave the first
 # ones' back. At the end it says which of the marks below are met, and its status tells whether all are.
-# Where the system allows it, the program runs before all else on its processor, so that other work isn't measured with it.
+# Where the system allows it, the program runs before all else on its processor, so that other work isn't measured with it; each time is the
+# least of five runs, since what else goes on at the machine only adds to it.
 # Where an etcd is installed (Debian's etcd-server) it is asked beside it, for orientation alone: through its JSON gateway, on one
 # connection, without fsync.
 # The program is proved and built first, where it isn't yet.
@@ -19,8 +20,14 @@ uptime
 for keys in 1000 100000; do
     for revisions in 1000 100000 1000000; do
         [ "$revisions" -ge "$keys" ] || continue
-        echo "$keys keys, $revisions revisions"
-        $first ./out/store_bench "$keys" "$revisions" | tee "$work/one"
+        echo "$keys keys, $revisions revisions, the least of five runs and the most"
+        for run in 1 2 3 4 5; do $first ./out/store_bench "$keys" "$revisions"; done > "$work/runs"
+        awk -F ': ' '{ split($2, words, " "); now = words[1] + 0
+            if (!($1 in least)) { names[++count] = $1; least[$1] = most[$1] = now }
+            if (now < least[$1]) least[$1] = now
+            if (now > most[$1]) most[$1] = now }
+            NF == 2 { told[$1] = 1 }
+            END { for (i = 1; i <= count; i++) if (names[i] in told) print names[i] ": " least[names[i]] " to " most[names[i]] " ns each" }' "$work/runs" | tee "$work/one"
         awk -F ': ' -v at="$keys $revisions" '{ split($2, words, " "); print at "\t" $1 "\t" words[1] }' "$work/one" >> "$work/times"
     done
 done
@@ -100,7 +107,7 @@ awk -F '\t' '
     END {
         one_set = "1000 1000,1000 100000,1000 1000000"
         all = one_set ",100000 100000,100000 1000000"
-        count = split("put;get;transaction of ten operations;push to a watch, beside its put", names, ";")
+        count = split("put;get;transaction of ten operations;push to a watch behind a put, with two readings of the clock", names, ";")
         for (i = 1; i <= count; i++) {
             mark(names[i] ", greatest through least over 1,000 keys", spread(names[i], one_set), 2, "")
             mark(names[i] ", greatest through least over all", spread(names[i], all), 4, "")

@@ -20,7 +20,7 @@ use Rattle.replay_model.specs.Progress.{Progress, next_number, is_past, after_st
 use Rattle.replay_model.specs.Script.{line_feed}
 use Rattle.replay_model.specs.Transcript.{transcript_text}
 use Rattle.replay_model.specs.declared.ending.Ending.TheVariants as ending
-use Rattle.replay_input.specs.Script.{StandsIfThere, CountsIfThere, Stands, IsReady, IsWorld, GivesLater, Gains, Refuses, Gives, Adds}
+use Rattle.replay_input.specs.Script.{StandsIfThere, CountsIfThere, Stands, IsReady, IsWorld, GivesLater, Begins, Gains, Refuses, Gives, Adds}
 use Rattle.replay_input.specs.declared.refused.NotTaken.{NotTaken}
 use Rattle.replay_input.specs.declared.refused.NotTaken.TheVariants.{Refused, NoMemory}
 use Rattle.replay_input.specs.declared.script.Script.{Script}
@@ -56,6 +56,12 @@ pub world_gives : (o : Option Parts) (x new : Parts) (r : Result (List Item) Not
 world_gives o x new r l read e f g None h = absurd (subst (λ (p : Option Parts). StandsIfThere p None) e h)
 world_gives o x new r l read e f g (Some m) h =
     gives_line new r m l read f (g m (subst (λ (p : Option Parts). StandsIfThere p (Some m)) e h))
+
+-- what the first line gave that made the world
+pub world_begins : (o : Option Parts) (x : Parts) (items : List Item) (l : Line) (read : Result Line ℕ) → o ≡ None → read ≡ Ok l → Begins (Ok (x, items)) (begun l)
+    → (m : Option Model) → StandsIfThere o m → Gains (Some x) items m read
+world_begins o x items l read e f b None h = record { line = l; after = b.after; read_so = f; taken_so = b.taken_so; stands = b.stands }
+world_begins o x items l read e f b (Some m) h = absurd (subst (λ (p : Option Parts). StandsIfThere p (Some m)) e h)
 
 -- ---- lines are counted
 

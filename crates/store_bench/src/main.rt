@@ -48,19 +48,15 @@ fn measure_requests(rt: &HostRuntime, bench: &mut Bench) -> io::Result<()> {
 
 fn measure_watch(rt: &HostRuntime, bench: &mut Bench) -> io::Result<()> {
     bench.open_watch()?;
-    let start = Instant::now(rt)?;
+    let mut pushes = 0u128;
     for number in 0..PUSHES {
         bench.put(number, 0)?;
-    }
-    let puts = start.elapsed(rt)?.as_nanos();
-    let start = Instant::now(rt)?;
-    for number in 0..PUSHES {
-        bench.put(number, 0)?;
+        let start = Instant::now(rt)?;
         bench.push()?;
+        pushes = pushes.saturating_add(start.elapsed(rt)?.as_nanos());
     }
-    let both = start.elapsed(rt)?.as_nanos();
-    let each = both.saturating_sub(puts) / u128::from(PUSHES);
-    println!(rt; "push to a watch, beside its put: {each} ns each")
+    let each = pushes / u128::from(PUSHES);
+    println!(rt; "push to a watch behind a put, with two readings of the clock: {each} ns each")
 }
 
 fn measure_lease(rt: &HostRuntime, bench: &mut Bench) -> io::Result<()> {

@@ -1,4 +1,5 @@
 pub mod KeptPlaces
+pub mod PartLemmas
 pub mod Compacting
 pub mod EntryLemmas
 pub mod ListedRecords

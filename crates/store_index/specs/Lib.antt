@@ -1,4 +1,5 @@
 pub mod Held
+pub mod Parts
 pub mod Maps
 pub mod Listings
 pub mod Bounds

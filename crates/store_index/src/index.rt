@@ -112,13 +112,13 @@ impl Index {
     }
 
     /// The keys that a revision changed, in the order of its changes. The first revision that changes keys is 2.
-    pub fn changed_at(&self, revision: u64) -> &[Bytes]
+    pub fn changed_at(&self, revision: u64) -> Result<List<Bytes>, NoMemory>
         requires first { 2 ≤ revision }
         requires from { self.now.compacted ≤ revision }
         requires last { revision ≤ self.now.newest }
-        ensures { (h : History) → HoldsKept self.now h → result.now ≡ changed_keys (get_or h (revision - 2) []) }
+        ensures { IfOk result (λ keys. (h : History) → HoldsKept self.now h → keys ≡ changed_keys (get_or h (revision - 2) [])) }
     {
-        self.places.at((revision - self.compacted.max(2)) as usize)
+        Ok(self.places.at((revision - self.compacted.max(2)) as usize)?)
     }
 
     /// Adds the changes as one revision, where there are any. Where memory was wanting all is as before.
@@ -132,9 +132,11 @@ impl Index {
             return Ok(());
         }
         let keys = Keys::of_changes(self.alloc, changes.as_slice())?;
-        self.places.push(keys)?;
-        let keys = self.places.at(self.places.len() - 1);
-        match self.versions.add_changes(self.newest + 1, changes, keys) {
+        self.places.push(keys.as_slice())?;
+        match self
+            .versions
+            .add_changes(self.newest + 1, changes, keys.as_slice())
+        {
             Ok(()) => {
                 self.newest += 1;
                 Ok(())

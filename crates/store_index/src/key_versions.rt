@@ -44,14 +44,15 @@ impl KeyVersions {
         self.items.is_empty()
     }
 
-    /// Adds the newest version. The room grows by a quarter, since the versions are most of what a store holds.
+    /// Adds the newest version. The room grows by a quarter and two, since the versions are most of what a store holds
+    /// and room of fewer sizes is used again sooner.
     pub(crate) fn push(&mut self, version: Version) -> Result<(), NoMemory>
         ensures ok { OnOk result (self.new ≡ self.old ++ version ∷ []) }
         ensures err { OnErr result (self.new ≡ self.old) }
     {
         let count = self.items.len();
         if count == self.items.capacity() {
-            self.items.reserve_exact(count / 4 + 1)?;
+            self.items.reserve_exact(count / 4 + 2)?;
         }
         self.items.push(version)?;
         Ok(())

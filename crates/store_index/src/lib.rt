@@ -2,12 +2,14 @@
 #![tactic(auto)]
 
 mod changes;
+mod ends;
 mod index;
 mod key_versions;
 mod laws;
 mod lease_keys;
 mod leased;
 mod listing;
+mod packed_keys;
 mod places;
 mod reading;
 mod versions;

@@ -50,7 +50,7 @@ fn find_left<'a>(
 fn copies(alloc: Global, records: &[&Kv]) -> Result<List<Kv>, NoMemory>
     ensures { IfOk result (λ kvs. kvs ≡ map (λ r. r.now) records.now) }
 {
-    let mut kvs = List::new(alloc);
+    let mut kvs = List::with_room(alloc, records.len())?;
     for record in records {
         kvs.push(record.copy(alloc)?)?;
     }

@@ -1,10 +1,11 @@
-ghost use Rattle.std.specs.Prelude.{◌≡◌, ◌-◌, ◌<◌, [], ◌∷◌, ◌++◌, length, take, drop, get_or, IfOk, OnOk, OnErr};
+ghost use Rattle.std.specs.Prelude.{◌≡◌, ◌-◌, ◌≤◌, ◌<◌, [], ◌∷◌, ◌++◌, length, take, drop, get_or, IfOk, OnOk, OnErr};
 ghost use Rattle.kept_model.specs.Places.{changed_keys};
 
 use crate::changes::changed_key;
-use etcd_types::{Bytes, NoMemory};
+use crate::ends::Ends;
+use crate::packed_keys::PackedKeys;
+use etcd_types::{Bytes, List, NoMemory};
 use std::alloc::Global;
-use std::collections::VecDeque;
 use std::marker::Model;
 use store_model::KeyChange;
 
@@ -41,18 +42,24 @@ impl Keys {
     }
 }
 
-/// Which keys each revision changed, in the order of its changes. Contracts see it as the list of these lists of keys.
+/// Which keys each revision changed, in the order of its changes. They are packed, since a store keeps them of each revision.
+/// Contracts see it as the list of these lists of keys.
 #[derive(Debug, Drop)]
 pub(crate) struct Places {
-    revisions: VecDeque<Keys>,
+    alloc: Global,
+    keys: PackedKeys,
+    ends: Ends,
 }
 
 impl Model for Places {
-    ghost use Rattle.std.specs.Prelude.{List, ℕ};
+    ghost use Rattle.std.specs.Prelude.{List, ℕ, ◌+◌, length};
+    ghost use Rattle.store_index.specs.Parts.{parts, RunTo};
 
     ghost Value = { List (List (List ℕ)) };
 
-    ghost view = { λ p. p.revisions.items };
+    ghost view = { λ p. parts p.ends.0 p.ends.1 p.keys };
+
+    ghost invariant = { λ p. RunTo p.ends.0 p.ends.1 (p.ends.0 + length p.keys) };
 }
 
 impl Places {
@@ -61,7 +68,9 @@ impl Places {
         ensures { result ≡ [] }
     {
         Places {
-            revisions: VecDeque::new(alloc),
+            alloc,
+            keys: PackedKeys::new(alloc),
+            ends: Ends::new(alloc),
         }
     }
 
@@ -69,40 +78,52 @@ impl Places {
     pub fn len(&self) -> usize
         ensures { result ≡ length self.now }
     {
-        self.revisions.len()
+        self.ends.len()
     }
 
-    /// The keys at this place.
-    pub fn at(&self, place: usize) -> &[Bytes]
+    /// Copies of the keys at this place.
+    pub fn at(&self, place: usize) -> Result<List<Bytes>, NoMemory>
         requires { place < length self.now }
-        ensures { result.now ≡ get_or self.now place [] }
+        ensures { IfOk result (λ keys. keys ≡ get_or self.now place []) }
     {
-        self.revisions[place].as_slice()
+        let mut keys = List::new(self.alloc);
+        for key in self.ends.length(place)..self.ends.through(place) {
+            keys.push(self.keys.copy(self.alloc, key)?)?;
+        }
+        Ok(keys)
     }
 
     /// Adds the keys that a further revision changed. Where memory was wanting all is as before.
-    pub fn push(&mut self, keys: Keys) -> Result<(), NoMemory>
-        ensures ok { OnOk result (self.new ≡ self.old ++ keys ∷ []) }
+    pub fn push(&mut self, keys: &[Bytes]) -> Result<(), NoMemory>
+        ensures ok { OnOk result (self.new ≡ self.old ++ keys.now ∷ []) }
         ensures err { OnErr result (self.new ≡ self.old) }
     {
-        self.revisions.push_back(keys)?;
-        Ok(())
+        let before = self.keys.len();
+        self.keys.push_all(keys)?;
+        match self.ends.push(keys.len()) {
+            Ok(()) => Ok(()),
+            Err(error) => {
+                self.keys.truncate(before);
+                Err(error)
+            }
+        }
     }
 
     /// Takes the last revision away, where there is one.
     pub fn take_back(&mut self)
         ensures { self.new ≡ take (length self.old - 1) self.old }
     {
-        self.revisions.pop_back();
+        let count = self.ends.len().saturating_sub(1);
+        self.keys.truncate(self.ends.length(count));
+        self.ends.truncate(count);
     }
 
     /// Drops so many of the first revisions, and gives their memory back.
     pub fn drop_first(&mut self, count: usize)
         ensures { self.new ≡ drop count self.old }
     {
-        for _ in 0..count {
-            self.revisions.pop_front();
-        }
-        self.revisions.shrink_to_fit();
+        let count = count.min(self.ends.len());
+        self.keys.drop_first(self.ends.length(count));
+        self.ends.drop_first(count);
     }
 }

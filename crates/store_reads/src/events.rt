@@ -52,7 +52,8 @@ fn add_events(
     ensures next { OnOk result ((h : History) → HoldsKept index.now h
         → batch.new.next ≡ next_after batch.old.next (left_to_tell index.now.compacted ask.now h revision 0)) }
 {
-    let keys = index.changed_at(revision);
+    let changed = index.changed_at(revision)?;
+    let keys = changed.as_slice();
     let mut passed = Counts::new(alloc);
     for place in 0..keys.len() {
         tell_change(alloc, batch, index, ask, revision, keys, place, &mut passed)?;

@@ -1,6 +1,6 @@
 -- What the world requires of a line, and that it gives what the script gives.
 use Rattle.std.proofs.Common.{arith}
-use Rattle.replay_input.proofs.Scripts.{counts_there, world_fits, world_gives}
+use Rattle.replay_input.proofs.Scripts.{counts_there, world_fits, world_begins, world_gives}
 use Rattle.replay_input.proofs.script.Script.gain.Goals as goal
 
 pub later-requires : goal.later-requires
@@ -17,3 +17,7 @@ begin-requires g c = world_fits c.args.number c.in-Ok.line c.in-Ok.ensures.found
 pub returns-in-Some-clause-gained : goal.returns-in-Some-clause-gained
 returns-in-Some-clause-gained g c =
     world_gives c.args.self.now.world c.in-Some.world c.later.new.world c.later.result c.in-Ok.line _ c.in-Some.is c.in-Ok.ensures.exact c.later.ensures
+
+pub returns-in_ok-world-in-None-clause-gained : goal.returns-in_ok-world-in-None-clause-gained
+returns-in_ok-world-in-None-clause-gained g c =
+    world_begins c.args.self.now.world c.in_ok-world-in-None.world c.in_ok-world-in-None.items c.in-Ok.line _ c.in-None.is c.in-Ok.ensures.exact c.in_ok-world-in-None.ensures

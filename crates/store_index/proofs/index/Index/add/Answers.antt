@@ -9,7 +9,7 @@ returns-in-Ok-clause-ok c =
     let some : 0 < length c.args.changes = let e = c.is_empty.ensures in let s = c.as_slice.ensures in let f = c.if-is_empty.false in grind (arith, nat_tests) in
     λ h holds.
     keeps_as _ _ _ _ _ _ _ _ _ refl refl (sym c.in-Ok.ensures.ok)
-    (sym (c.in_ok-push.ensures.ok ∙ ap (λ (ks : List (List ℕ)). c.args.self.now.places ++ ks ∷ []) (c.in_ok-keys.ensures ∙ ap changed_keys c.as_slice-2.ensures)))
+    (sym (c.in_ok-push.ensures.ok ∙ ap (λ (ks : List (List ℕ)). c.args.self.now.places ++ ks ∷ []) (c.as_slice-3.ensures ∙ c.in_ok-keys.ensures ∙ ap changed_keys c.as_slice-2.ensures)))
     (grown_by _ _ _ _ h c.args.changes some holds)
 
 -- what was added is kept of a history too, and where memory was wanting all is as before
@@ -28,7 +28,7 @@ invariant_of-self-in-Ok c =
     record {
       have_versions = c.in-Ok.ensures.there;
       of_a_history = some_as _ _ _ _ _ _ _ _ refl refl (sym c.in-Ok.ensures.ok)
-          (sym (c.in_ok-push.ensures.ok ∙ ap (λ (ks : List (List ℕ)). c.args.self.now.places ++ ks ∷ []) (c.in_ok-keys.ensures ∙ ap changed_keys c.as_slice-2.ensures)))
+          (sym (c.in_ok-push.ensures.ok ∙ ap (λ (ks : List (List ℕ)). c.args.self.now.places ++ ks ∷ []) (c.as_slice-3.ensures ∙ c.in_ok-keys.ensures ∙ ap changed_keys c.as_slice-2.ensures)))
           (some_grown _ _ _ _ c.args.changes some c.args.self.now.of_a_history);
       past = let p = c.args.self.now.past in omega (arith, p);
       room = let r = c.requires in omega (arith, r);
