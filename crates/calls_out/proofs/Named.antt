@@ -1,8 +1,8 @@
 -- The list of the calls, seen from the rows.
-use Rattle.std.proofs.Common.{◌≡◌, ℕ, zero, suc, Bool, true, false, not, cond, ◌==◌, ◌&&◌, ◌||◌, nat_lt, IsTrue, List, [], ◌∷◌, ◌++◌, map, get_or, None, Some, refl, sym, ◌∙◌, ap, subst, arith}
+use Rattle.std.proofs.Common.{◌≡◌, ℕ, zero, suc, Bool, true, false, not, cond, ◌==◌, ◌&&◌, nat_lt, IsTrue, List, [], ◌∷◌, ◌++◌, map, get_or, None, Some, refl, sym, ◌∙◌, ap, subst, arith}
 use Rattle.std.specs.Ordering.{nat_cmp}
 use Rattle.std.specs.FinMap.Entries.{by_order}
-use Rattle.std.specs.List.{remove, list_all, list_any}
+use Rattle.std.specs.List.{remove, list_all}
 use Rattle.std.specs.declared.cmp.Ordering.TheVariants.{Greater}
 use Rattle.std.proofs.lemmas.Bool.Decides.{nat_tests}
 use Rattle.numbered_rows.specs.Numbered.{Numbered, same_number, at, with_at, is_in_order}
@@ -10,7 +10,6 @@ use Rattle.numbered_rows.specs.Places.{IsPlace, IsGap}
 use Rattle.numbered_rows.proofs.NumberedLaws.{to_T, in_order-with_at}
 use Rattle.numbered_rows.proofs.Places.{at-place, at-gap, without-place, without-gap}
 use Rattle.core_model.specs.declared.out_call.OutCall.{OutCall}
-use Rattle.core_model.specs.declared.out_call.OutJob.{OutJob}
 use Rattle.core_model.specs.Lookups.{out_at, without_out}
 use Rattle.calls_out.specs.Calls.{all_below, is_named, AreCalls}
 
@@ -50,11 +49,6 @@ without_is call (r ∷ rows) h =
     out : (b : Bool) → cond (not b) (r.1 ∷ calls (with_at rows call None)) (calls (with_at rows call None)) ≡ calls (cond (not b) (r ∷ with_at rows call None) (with_at rows call None))
     out true = refl
     out false = refl
-
--- A test of each call is one of each row.
-pub any_call : (p : OutJob → Bool) (rows : Numbered OutCall) → list_any (λ r. p r.1.job) rows ≡ list_any (λ o. p o.job) (calls rows)
-any_call p [] = refl
-any_call p (r ∷ rows) = ap (λ b. p r.1.job || b) (any_call p rows)
 
 -- What a search finds.
 

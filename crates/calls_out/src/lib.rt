@@ -2,6 +2,7 @@
 #![tactic(auto)]
 
 mod calls;
+mod counts;
 
 pub use calls::Calls;
 pub use core_model::{CallKind, OutCall, OutJob};

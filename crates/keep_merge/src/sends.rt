@@ -3,7 +3,7 @@ ghost use Rattle.core_model.specs.Groups.{group_sent, is_due_stage};
 ghost use Rattle.keep_merge.specs.Tickets.{group_sent-ticket};
 
 use crate::joins::keeps;
-use known_asks::{Asked, Asks, Rule, Stage};
+use known_asks::{Asked, Asks, Rule, Stage, change_due_group};
 use wait_model::Sending;
 
 /// The due group of the lease is out under this call.
@@ -31,9 +31,9 @@ fn is_due(stage: &Stage) -> bool
     matches!(stage, Stage::Grouped(Some(Sending::Due { .. })))
 }
 
-/// The due group of the lease is out under this call. It takes no memory.
+/// The due group of the lease is out under this call. It looks at those in the group alone, and takes no memory.
 pub fn send_group(asks: &mut Asks, call: u64, lease: u64)
     ensures { asks.new ≡ map (group_sent call lease) asks.old }
 {
-    asks.change_each(&Sent { call, lease });
+    change_due_group(asks, lease, &Sent { call, lease });
 }

@@ -18,13 +18,13 @@ use Rattle.core_model.specs.ClockWork.{is_replied}
 use Rattle.core_model.specs.Lookups.{ask_at}
 use Rattle.core_model.specs.Takes.{lesser, least_ready}
 use Rattle.known_asks.specs.Indexed.{Indexed}
-use Rattle.known_asks.specs.Marked.{Marked}
+use Rattle.known_asks.specs.Marked.{Placed}
 use Rattle.known_asks.specs.Marks.{stage_rank, stage_number, mark_of}
-use Rattle.known_asks.specs.Firsts.{all_before, IsNext, IsNextOf, is_due, due_place, none_due, IsFirstDue, IsFirstDueOf}
+use Rattle.known_asks.specs.Firsts.{all_before, IsNextBy, IsNext, IsNextOf, is_due, due_place, none_due, IsFirstDue, IsFirstDueOf}
 use Rattle.known_asks.proofs.Tickets.{asks, its_ask, all_agree}
 use Rattle.known_asks.proofs.MarkOrder.{sooner, by_mark, by_kind, due_rank, rank_due, replied_rank, rank_replied}
 
-each_is : (p : Asked → Bool) (rows : Numbered Asked) → EachRow (λ n a. p a ≡ true) rows → list_all p (asks rows) ≡ true
+pub each_is : (p : Asked → Bool) (rows : Numbered Asked) → EachRow (λ n a. p a ≡ true) rows → list_all p (asks rows) ≡ true
 each_is p [] h = refl
 each_is p (r ∷ rows) h = and_both (p r.1) (list_all p (asks rows)) h.0 (each_is p rows h.1)
 
@@ -33,11 +33,11 @@ all_imply p q [] f h = refl
 all_imply p q (a ∷ xs) f h =
     and_both (q a) (list_all q xs) (f a (and_first (p a) (list_all p xs) h)) (all_imply p q xs f (and_second (p a) (list_all p xs) h))
 
-pub next_is : (rows : Numbered Asked) (index : Numbered ℕ) (marks : Keyed ℕ) (k : List ℕ) (e : List ℕ × ℕ) (rest : Keyed ℕ) (r : Asked) → IsTrue (keyed.is_in_order marks) → Indexed rows index → Marked rows marks → rows_from k marks ≡ e ∷ rest → Some r ≡ at rows e.1 → IsNext k r (asks rows)
-next_is rows index marks k e rest r s h m f row = record {
+pub next_is : (t : Asked → List ℕ) (rows : Numbered Asked) (index : Numbered ℕ) (marks : Keyed ℕ) (k : List ℕ) (e : List ℕ × ℕ) (rest : Keyed ℕ) (r : Asked) → IsTrue (keyed.is_in_order marks) → Indexed rows index → Placed (λ n. t) rows marks → rows_from k marks ≡ e ∷ rest → Some r ≡ at rows e.1 → IsNextBy t k r (asks rows)
+next_is t rows index marks k e rest r s h m f row = record {
   there = its_ask r.ticket e.1 rows (all_agree rows index r.ticket h (Some e.1) (h.found e.1 r here)) ∙ here;
   behind = subst (λ (j : List ℕ). before j k ≡ false) mark first.1;
-  least = each_is (λ a. before (mark_of a) k || not (before (mark_of a) (mark_of r))) rows (each_row (λ n a. before (mark_of a) k || not (before (mark_of a) (mark_of r)) ≡ true) rows (to_T _ h.rows_rise) least);
+  least = each_is (λ a. before (t a) k || not (before (t a) (t r))) rows (each_row (λ n a. before (t a) k || not (before (t a) (t r)) ≡ true) rows (to_T _ h.rows_rise) least);
 }
   where
     here : at rows e.1 ≡ Some r
@@ -46,19 +46,19 @@ next_is rows index marks k e rest r s h m f row = record {
     first : (keyed.at marks e.0 ≡ Some e.1) × (before e.0 k ≡ false)
     first = first_from marks k e rest (to_T _ s) f
 
-    mark : e.0 ≡ mark_of r
+    mark : e.0 ≡ t r
     mark =
-        let k : option_map mark_of (at rows e.1) ≡ Some e.0 = m.kept e.0 e.1 (first_from marks k e rest (to_T _ s) f).0 in
-        let l : option_map mark_of (at rows e.1) ≡ Some (mark_of r) = ap (λ o. option_map mark_of o) (sym row) in
+        let k : option_map t (at rows e.1) ≡ Some e.0 = m.kept e.0 e.1 (first_from marks k e rest (to_T _ s) f).0 in
+        let l : option_map t (at rows e.1) ≡ Some (t r) = ap (λ o. option_map t o) (sym row) in
         cc
 
-    least : (n : ℕ) (a : Asked) → at rows n ≡ Some a → before (mark_of a) k || not (before (mark_of a) (mark_of r)) ≡ true
+    least : (n : ℕ) (a : Asked) → at rows n ≡ Some a → before (t a) k || not (before (t a) (t r)) ≡ true
     least n a g =
-        subst (λ (j : List ℕ). before (mark_of a) k || not (before (mark_of a) j) ≡ true) mark (each_from marks k (mark_of a) n e rest (to_T _ s) f (m.found n a g))
+        subst (λ (j : List ℕ). before (t a) k || not (before (t a) j) ≡ true) mark (each_from marks k (t a) n e rest (to_T _ s) f (m.found n a g))
 
-pub none_is : (rows : Numbered Asked) (index : Numbered ℕ) (marks : Keyed ℕ) (k : List ℕ) → Indexed rows index → Marked rows marks → rows_from k marks ≡ [] → all_before k (asks rows) ≡ true
-none_is rows index marks k h m f =
-    each_is (λ a. before (mark_of a) k) rows (each_row (λ n a. before (mark_of a) k ≡ true) rows (to_T _ h.rows_rise) (λ n a g. none_from marks k (mark_of a) n f (m.found n a g)))
+pub none_is : (t : Asked → List ℕ) (rows : Numbered Asked) (index : Numbered ℕ) (marks : Keyed ℕ) (k : List ℕ) → Indexed rows index → Placed (λ n. t) rows marks → rows_from k marks ≡ [] → list_all (λ a. before (t a) k) (asks rows) ≡ true
+none_is t rows index marks k h m f =
+    each_is (λ a. before (t a) k) rows (each_row (λ n a. before (t a) k ≡ true) rows (to_T _ h.rows_rise) (λ n a g. none_from marks k (t a) n f (m.found n a g)))
 
 -- The first row of those from the mark on, and its request.
 
@@ -70,23 +70,23 @@ pub no_row : (k : List ℕ) (marks rows : Keyed ℕ) → rows ≡ rows_from k ma
 no_row k marks [] h l = sym h
 no_row k marks (x ∷ rows) h l = absurd (omega arith)
 
-some_of : (o : Option Asked) (k : List ℕ) → option_map mark_of o ≡ Some k → is_some o ≡ true
-some_of None k e = absurd (cc)
-some_of (Some a) k e = refl
+some_of : (g : Asked → List ℕ) (o : Option Asked) (k : List ℕ) → option_map g o ≡ Some k → is_some o ≡ true
+some_of g None k e = absurd (cc)
+some_of g (Some a) k e = refl
 
-pub row_stands : (rows : Numbered Asked) (marks : Keyed ℕ) (k : List ℕ) (e : List ℕ × ℕ) (rest : Keyed ℕ) → IsTrue (keyed.is_in_order marks) → Marked rows marks → rows_from k marks ≡ e ∷ rest → is_some (at rows e.1) ≡ true
-row_stands rows marks k e rest s m f =
-    some_of (at rows e.1) e.0 (m.kept e.0 e.1 (first_from marks k e rest (to_T _ s) f).0)
+pub row_stands : (g : ℕ → Asked → List ℕ) (rows : Numbered Asked) (marks : Keyed ℕ) (k : List ℕ) (e : List ℕ × ℕ) (rest : Keyed ℕ) → IsTrue (keyed.is_in_order marks) → Placed g rows marks → rows_from k marks ≡ e ∷ rest → is_some (at rows e.1) ≡ true
+row_stands g rows marks k e rest s m f =
+    some_of (g e.1) (at rows e.1) e.0 (m.kept e.0 e.1 (first_from marks k e rest (to_T _ s) f).0)
 
 -- The least ticket whose reply stands.
 
-abbrev unready : Asked → Bool
+abbrev pub unready : Asked → Bool
 unready a = not (is_replied a.stage)
 
-abbrev above : ℕ → Asked → Bool
+abbrev pub above : ℕ → Asked → Bool
 above t a = unready a || nat_le t a.ticket
 
-none_ready : (o : Option ℕ) (xs : List Asked) → list_all unready xs ≡ true → least_ready o xs ≡ o
+pub none_ready : (o : Option ℕ) (xs : List Asked) → list_all unready xs ≡ true → least_ready o xs ≡ o
 none_ready o [] h = refl
 none_ready o (a ∷ xs) h =
     one (is_replied a.stage) (and_first (unready a) (list_all unready xs) h) (λ p. none_ready p xs (and_second (unready a) (list_all unready xs) h))
@@ -130,7 +130,7 @@ lesser_it t (Some m) l = one (nat_le m t) refl
 equal : (m t : ℕ) → (m == t) ≡ true → m ≡ t
 equal m t e = grind (arith, nat_tests)
 
-finds : (t : ℕ) (r : Asked) (o : Option ℕ) (xs : List Asked) → low t o ≡ true → ask_at t xs ≡ Some r → is_replied r.stage ≡ true → list_all (above t) xs ≡ true → least_ready o xs ≡ Some t
+pub finds : (t : ℕ) (r : Asked) (o : Option ℕ) (xs : List Asked) → low t o ≡ true → ask_at t xs ≡ Some r → is_replied r.stage ≡ true → list_all (above t) xs ≡ true → least_ready o xs ≡ Some t
 finds t r o [] l e p h = absurd (cc)
 finds t r o (a ∷ xs) l e p h =
     one (λ q m f. finds t r q xs m f p (and_second (above t a) (list_all (above t) xs) h)) (a.ticket == t) refl e

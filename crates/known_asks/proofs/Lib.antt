@@ -1,9 +1,15 @@
+pub mod Alls
 pub mod CallMarks
 pub mod Changes
 pub mod Firsts
+pub mod GroupMarks
 pub mod KeyWaits
+pub mod Late
 pub mod MarkOrder
 pub mod Moves
+pub mod OneByOne
+pub mod ReadyFrom
+pub mod RowFirsts
+pub mod SideBySide
 pub mod Since
 pub mod Tickets
-pub mod WaitingFirst

@@ -22,11 +22,15 @@ use Rattle.proxy_model.specs.Keyed as keyed
 use Rattle.proxy_model.proofs.KeyedLaws as keyed_laws
 use Rattle.read_model.specs.declared.asked.Asked.{Asked}
 use Rattle.known_asks.specs.Indexed.{Fits}
+use Rattle.known_asks.specs.KeyMarks.{by_key, by_wait, ticket_mark}
 use Rattle.known_asks.specs.Marks.{mark_of}
-use Rattle.known_asks.specs.Marked.{Marked}
+use Rattle.known_asks.specs.RowMarks.{row_mark, by_group, by_time, marks_of, put_at, taken_at, moved}
+use Rattle.known_asks.specs.Marked.{Placed, Marked, HasRow, IsFree}
+use Rattle.known_asks.specs.declared.tables.Tables.{Tables}
+use Rattle.known_asks.specs.declared.row_marks.RowMarks.{RowMarks}
 use Rattle.known_asks.proofs.Tickets.{at_end}
 
-is_false : (b : Bool) → (b ≡ true → ⊥) → b ≡ false
+pub is_false : (b : Bool) → (b ≡ true → ⊥) → b ≡ false
 is_false true h = absurd (h refl)
 is_false false h = refl
 
@@ -42,8 +46,8 @@ third (a ∷ []) = 0
 third (a ∷ b ∷ []) = 0
 third (a ∷ b ∷ c ∷ cs) = c
 
-ticket_of : (a b : Asked) → same (mark_of a) (mark_of b) ≡ true → a.ticket ≡ b.ticket
-ticket_of a b e = ap third (same-equal (mark_of a) (mark_of b) e)
+ticket_of : (f : Asked → ℕ × ℕ) (a b : Asked) → same (ticket_mark f a) (ticket_mark f b) ≡ true → a.ticket ≡ b.ticket
+ticket_of f a b e = ap third (same-equal (ticket_mark f a) (ticket_mark f b) e)
 
 -- One mark goes, and one comes.
 
@@ -78,60 +82,117 @@ still : {A : Type 0} (b : Bool) (o : Option A) (a : A) → cond b None o ≡ Som
 still true o a e = absurd (cc)
 still false o a e = (refl, e)
 
--- no other row has the ticket of the one that comes
-abbrev pub IsApart : Numbered Asked → ℕ → Option Asked → Type 0
-IsApart rows m new = (n : ℕ) (a x : Asked) → at rows n ≡ Some a → new ≡ Some x → a.ticket ≡ x.ticket → n ≡ m
+-- no other row has the mark that this one has or would have under the number
+abbrev pub IsApart : (ℕ → Asked → List ℕ) → Numbered Asked → ℕ → Option Asked → Type 0
+IsApart g rows m o = (n : ℕ) (a x : Asked) → at rows n ≡ Some a → o ≡ Some x → same (g m x) (g n a) ≡ true → m ≡ n
 
-pub marked-moved : (rows : Numbered Asked) (marks : Keyed ℕ) (m : ℕ) (old new : Option Asked) → Marked rows marks → at rows m ≡ old → IsApart rows m new → Marked (with_at rows m new) (come (option_map mark_of new) m (gone (option_map mark_of old) marks))
-marked-moved rows marks m old new h was alone = record {
-  found = λ n a e. there (mark_of a) ∙ found n a (same_number m n) refl (sym (here n) ∙ e);
-  kept = λ k n e. ap (λ o. option_map mark_of o) (here n) ∙ kept k n (is_it new_mark k) refl (sym (there k) ∙ e);
-  alone = λ n p a b e f t. single n p a b (same_number m n) (same_number m p) refl refl (sym (here n) ∙ e) (sym (here p) ∙ f) t;
+pub placed-moved : (g : ℕ → Asked → List ℕ) (rows : Numbered Asked) (marks : Keyed ℕ) (m : ℕ) (old new : Option Asked) → Placed g rows marks → at rows m ≡ old → IsApart g rows m old → IsApart g rows m new → Placed g (with_at rows m new) (come (option_map (g m) new) m (gone (option_map (g m) old) marks))
+placed-moved g rows marks m old new h was own lone = record {
+  found = λ n a e. there (g n a) ∙ found n a (same_number m n) refl (sym (here n) ∙ e);
+  kept = λ k n e. ap (λ o. option_map (g n) o) (here n) ∙ kept k n (is_it new_mark k) refl (sym (there k) ∙ e);
 }
   where
     old_mark : Option (List ℕ)
-    old_mark = option_map mark_of old
+    old_mark = option_map (g m) old
 
     new_mark : Option (List ℕ)
-    new_mark = option_map mark_of new
+    new_mark = option_map (g m) new
 
     here : (n : ℕ) → at (with_at rows m new) n ≡ cond (same_number m n) new (at rows n)
     here n = at-with_at rows m n new
 
-    there : (k : List ℕ) → keyed.at (come (option_map mark_of new) m (gone (option_map mark_of old) marks)) k ≡ cond (is_it (option_map mark_of new) k) (Some m) (cond (is_it (option_map mark_of old) k) None (keyed.at marks k))
+    there : (k : List ℕ) → keyed.at (come (option_map (g m) new) m (gone (option_map (g m) old) marks)) k ≡ cond (is_it (option_map (g m) new) k) (Some m) (cond (is_it (option_map (g m) old) k) None (keyed.at marks k))
     there k =
-        at-come (option_map mark_of new) m (gone (option_map mark_of old) marks) k ∙
-        ap (λ o. cond (is_it (option_map mark_of new) k) (Some m) o) (at-gone (option_map mark_of old) marks k)
+        at-come (option_map (g m) new) m (gone (option_map (g m) old) marks) k ∙
+        ap (λ o. cond (is_it (option_map (g m) new) k) (Some m) o) (at-gone (option_map (g m) old) marks k)
 
-    not_new : (n : ℕ) (a : Asked) → same_number m n ≡ false → at rows n ≡ Some a → (o : Option Asked) → new ≡ o → is_it (option_map mark_of o) (mark_of a) ≡ false
-    not_new n a s e None f = refl
-    not_new n a s e (Some x) f =
-        is_false (same (mark_of x) (mark_of a)) (λ t. apart m n s (sym (alone n a x e f (sym (ticket_of x a t)))))
+    not_its : (n : ℕ) (a : Asked) → same_number m n ≡ false → at rows n ≡ Some a → (p : Option Asked) → IsApart g rows m p → (o : Option Asked) → p ≡ o → is_it (option_map (g m) o) (g n a) ≡ false
+    not_its n a s e p l None f = refl
+    not_its n a s e p l (Some x) f = is_false (same (g m x) (g n a)) (λ t. apart m n s (l n a x e f t))
 
-    not_old : (n : ℕ) (a : Asked) → same_number m n ≡ false → at rows n ≡ Some a → (o : Option Asked) → old ≡ o → is_it (option_map mark_of o) (mark_of a) ≡ false
-    not_old n a s e None f = refl
-    not_old n a s e (Some x) f =
-        is_false (same (mark_of x) (mark_of a)) (λ t. apart m n s (h.alone m n x a (was ∙ f) e (ticket_of x a t)))
-
-    found : (n : ℕ) (a : Asked) (b : Bool) → same_number m n ≡ b → cond b new (at rows n) ≡ Some a → cond (is_it (option_map mark_of new) (mark_of a)) (Some m) (cond (is_it (option_map mark_of old) (mark_of a)) None (keyed.at marks (mark_of a))) ≡ Some n
+    found : (n : ℕ) (a : Asked) (b : Bool) → same_number m n ≡ b → cond b new (at rows n) ≡ Some a → cond (is_it (option_map (g m) new) (g n a)) (Some m) (cond (is_it (option_map (g m) old) (g n a)) None (keyed.at marks (g n a))) ≡ Some n
     found n a true s e =
-        ap (λ b. cond b (Some m) (cond (is_it (option_map mark_of old) (mark_of a)) None (keyed.at marks (mark_of a)))) (its (option_map mark_of new) (mark_of a) (ap (λ o. option_map mark_of o) e)) ∙ ap (λ (x : ℕ). Some x) (one_number m n s)
+        let one : m ≡ n = one_number m n s in
+        let mark : option_map (g m) new ≡ Some (g n a) = ap (λ o. option_map (g m) o) e ∙ ap (λ (x : ℕ). Some (g x a)) one in
+        ap (λ b. cond b (Some m) (cond (is_it (option_map (g m) old) (g n a)) None (keyed.at marks (g n a)))) (its (option_map (g m) new) (g n a) mark) ∙ ap (λ (x : ℕ). Some x) one
     found n a false s e =
-        ap (λ b. cond b (Some m) (cond (is_it (option_map mark_of old) (mark_of a)) None (keyed.at marks (mark_of a)))) (not_new n a s e new refl) ∙
-        ap (λ b. cond b None (keyed.at marks (mark_of a))) (not_old n a s e old refl) ∙ h.found n a e
+        ap (λ b. cond b (Some m) (cond (is_it (option_map (g m) old) (g n a)) None (keyed.at marks (g n a)))) (not_its n a s e new lone new refl) ∙
+        ap (λ b. cond b None (keyed.at marks (g n a))) (not_its n a s e old own old refl) ∙ h.found n a e
 
-    kept : (k : List ℕ) (n : ℕ) (b : Bool) → is_it (option_map mark_of new) k ≡ b → cond b (Some m) (cond (is_it (option_map mark_of old) k) None (keyed.at marks k)) ≡ Some n → option_map mark_of (cond (same_number m n) new (at rows n)) ≡ Some k
+    kept : (k : List ℕ) (n : ℕ) (b : Bool) → is_it (option_map (g m) new) k ≡ b → cond b (Some m) (cond (is_it (option_map (g m) old) k) None (keyed.at marks k)) ≡ Some n → option_map (g n) (cond (same_number m n) new (at rows n)) ≡ Some k
     kept k n true s e =
         let one : m ≡ n = cc in
         let yes : same_number m n ≡ true = subst (λ (x : ℕ). same_number m x ≡ true) one (alike m) in
-        ap (λ b. option_map mark_of (cond b new (at rows n))) yes ∙ of_it (option_map mark_of new) k s
+        ap (λ b. option_map (g n) (cond b new (at rows n))) yes ∙ ap (λ (x : ℕ). option_map (g x) new) (sym one) ∙ of_it (option_map (g m) new) k s
     kept k n false s e =
-        let t = still (is_it (option_map mark_of old) k) (keyed.at marks k) n e in
-        let g : option_map mark_of (at rows n) ≡ Some k = h.kept k n t.1 in
+        let t = still (is_it (option_map (g m) old) k) (keyed.at marks k) n e in
+        let f : option_map (g n) (at rows n) ≡ Some k = h.kept k n t.1 in
         let other : same_number m n ≡ false = is_false (same_number m n) (λ u.
-        let same_row : at rows n ≡ old = ap (λ (x : ℕ). at rows x) (sym (one_number m n u)) ∙ was in
-        true_false (is_it (option_map mark_of old) k) (its (option_map mark_of old) k (ap (λ o. option_map mark_of o) (sym same_row) ∙ g)) t.0) in
-        ap (λ b. option_map mark_of (cond b new (at rows n))) other ∙ g
+        let one : m ≡ n = one_number m n u in
+        let its_mark : option_map (g m) old ≡ Some k = ap (λ o. option_map (g m) o) (sym was) ∙ ap (λ (x : ℕ). option_map (g x) (at rows x)) one ∙ f in
+        true_false (is_it (option_map (g m) old) k) (its (option_map (g m) old) k its_mark) t.0) in
+        ap (λ b. option_map (g n) (cond b new (at rows n))) other ∙ f
+
+-- By the row's own number no other has its mark.
+row_apart : (f : Asked → ℕ × ℕ) (rows : Numbered Asked) (m : ℕ) (o : Option Asked) → IsApart (row_mark f) rows m o
+row_apart f rows m o n a x e d t = ap third (same-equal (row_mark f m x) (row_mark f n a) t)
+
+-- no other row has the ticket of this one
+abbrev pub IsAlone : Numbered Asked → ℕ → Option Asked → Type 0
+IsAlone rows m o = (n : ℕ) (a x : Asked) → at rows n ≡ Some a → o ≡ Some x → a.ticket ≡ x.ticket → n ≡ m
+
+ticket_apart : (f : Asked → ℕ × ℕ) (rows : Numbered Asked) (m : ℕ) (o : Option Asked) → IsAlone rows m o → IsApart (λ n. ticket_mark f) rows m o
+ticket_apart f rows m o l n a x e d t = sym (l n a x e d (sym (ticket_of f x a t)))
+
+abbrev its_marks : ℕ → Option Asked → Option RowMarks
+its_marks m o = option_map (marks_of m) o
+
+abbrev pub gone_all : Option RowMarks → Tables → Tables
+gone_all None t = t
+gone_all (Some k) t = taken_at k t
+
+abbrev pub come_all : Option RowMarks → ℕ → Tables → Tables
+come_all None n t = t
+come_all (Some k) n t = put_at k n t
+
+pub marked-moved : (rows : Numbered Asked) (tables : Tables) (m : ℕ) (old new : Option Asked) → Marked rows tables → at rows m ≡ old → IsAlone rows m new → Marked (with_at rows m new) (come_all (its_marks m new) m (gone_all (its_marks m old) tables))
+marked-moved rows tables m old new h was alone = record {
+  waits = subst (λ (k : Keyed ℕ). Placed (λ n. mark_of) (with_at rows m new) k) (waits_are old new) (placed-moved (λ n. mark_of) rows tables.waits m old new h.waits was (ticket_apart by_wait rows m old own) (ticket_apart by_wait rows m new alone));
+  keys = subst (λ (k : Keyed ℕ). Placed (λ n. ticket_mark by_key) (with_at rows m new) k) (keys_are old new) (placed-moved (λ n. ticket_mark by_key) rows tables.keys m old new h.keys was (ticket_apart by_key rows m old own) (ticket_apart by_key rows m new alone));
+  groups = subst (λ (k : Keyed ℕ). Placed (row_mark by_group) (with_at rows m new) k) (groups_are old new) (placed-moved (row_mark by_group) rows tables.groups m old new h.groups was (row_apart by_group rows m old) (row_apart by_group rows m new));
+  times = subst (λ (k : Keyed ℕ). Placed (row_mark by_time) (with_at rows m new) k) (times_are old new) (placed-moved (row_mark by_time) rows tables.times m old new h.times was (row_apart by_time rows m old) (row_apart by_time rows m new));
+  alone = λ n p a b e f t. single n p a b (same_number m n) (same_number m p) refl refl (sym (here n) ∙ e) (sym (here p) ∙ f) t;
+}
+  where
+    own : IsAlone rows m old
+    own n a x e f t = h.alone n m a x e (was ∙ f) t
+
+    waits_are : (o p : Option Asked) → come (option_map mark_of p) m (gone (option_map mark_of o) tables.waits) ≡ (come_all (its_marks m p) m (gone_all (its_marks m o) tables)).waits
+    waits_are None None = refl
+    waits_are None (Some x) = refl
+    waits_are (Some x) None = refl
+    waits_are (Some x) (Some y) = refl
+
+    keys_are : (o p : Option Asked) → come (option_map (ticket_mark by_key) p) m (gone (option_map (ticket_mark by_key) o) tables.keys) ≡ (come_all (its_marks m p) m (gone_all (its_marks m o) tables)).keys
+    keys_are None None = refl
+    keys_are None (Some x) = refl
+    keys_are (Some x) None = refl
+    keys_are (Some x) (Some y) = refl
+
+    groups_are : (o p : Option Asked) → come (option_map (row_mark by_group m) p) m (gone (option_map (row_mark by_group m) o) tables.groups) ≡ (come_all (its_marks m p) m (gone_all (its_marks m o) tables)).groups
+    groups_are None None = refl
+    groups_are None (Some x) = refl
+    groups_are (Some x) None = refl
+    groups_are (Some x) (Some y) = refl
+
+    times_are : (o p : Option Asked) → come (option_map (row_mark by_time m) p) m (gone (option_map (row_mark by_time m) o) tables.times) ≡ (come_all (its_marks m p) m (gone_all (its_marks m o) tables)).times
+    times_are None None = refl
+    times_are None (Some x) = refl
+    times_are (Some x) None = refl
+    times_are (Some x) (Some y) = refl
+
+    here : (n : ℕ) → at (with_at rows m new) n ≡ cond (same_number m n) new (at rows n)
+    here n = at-with_at rows m n new
 
     single : (n p : ℕ) (a b : Asked) (c d : Bool) → same_number m n ≡ c → same_number m p ≡ d → cond c new (at rows n) ≡ Some a → cond d new (at rows p) ≡ Some b → a.ticket ≡ b.ticket → n ≡ p
     single n p a b true true s t e f g = sym (one_number m n s) ∙ one_number m p t
@@ -180,43 +241,75 @@ stands rows i r s l e = sym (found-place rows r.0 i r (is_place rows i r s l e) 
 
 -- The calls on the rows themselves.
 
-pub marked-added : (rows : Numbered Asked) (index : Numbered ℕ) (next : ℕ) (marks : Keyed ℕ) (a : Asked) → Fits rows index next → at index a.ticket ≡ None → Marked rows marks → Marked (rows ++ (next, a) ∷ []) (keyed.with_at marks (mark_of a) (Some next))
-marked-added rows index next marks a h o m =
-    subst (λ (rs : Numbered Asked). Marked rs (keyed.with_at marks (mark_of a) (Some next))) (sym (at_end rows next a (each_row (λ n b. n < next) rows (to_T _ h.indexed.rows_rise) h.below)))
-    (marked-moved rows marks next None (Some a) m (free (at rows next) refl) fresh)
+none_there : (rows : Numbered Asked) (index : Numbered ℕ) (next : ℕ) → Fits rows index next → at rows next ≡ None
+none_there rows index next h = one (at rows next) refl
   where
-    free : (x : Option Asked) → at rows next ≡ x → at rows next ≡ None
-    free None e = e
-    free (Some b) e = absurd (let l : next < next = h.below next b e in omega arith)
+    one : (x : Option Asked) → at rows next ≡ x → at rows next ≡ None
+    one None e = e
+    one (Some b) e = absurd (let l : next < next = h.below next b e in omega arith)
 
-    fresh : (n : ℕ) (b x : Asked) → at rows n ≡ Some b → Some a ≡ Some x → b.ticket ≡ x.ticket → n ≡ next
-    fresh n b x e f t =
-        let same_ask : a ≡ x = cc in
-        let u : b.ticket ≡ a.ticket = t ∙ ap (λ (y : Asked). y.ticket) (sym same_ask) in
-        let g : at index b.ticket ≡ Some n = h.indexed.found n b e in
-        let i : at index a.ticket ≡ Some n = subst (λ (y : ℕ). at index y ≡ Some n) u g in
-        absurd (cc)
+fresh : (rows : Numbered Asked) (index : Numbered ℕ) (next : ℕ) (a : Asked) → Fits rows index next → at index a.ticket ≡ None → IsAlone rows next (Some a)
+fresh rows index next a h o n b x e f t =
+    let same_ask : a ≡ x = cc in
+    let u : b.ticket ≡ a.ticket = t ∙ ap (λ (y : Asked). y.ticket) (sym same_ask) in
+    let g : at index b.ticket ≡ Some n = h.indexed.found n b e in
+    let i : at index a.ticket ≡ Some n = subst (λ (y : ℕ). at index y ≡ Some n) u g in
+    absurd (cc)
 
-pub marked-taken : (rows : Numbered Asked) (marks : Keyed ℕ) (i : ℕ) (r : ℕ × Asked) → Marked rows marks → IsTrue (is_in_order rows) → i < length rows → r ≡ get_or rows i r → Marked (remove rows i) (keyed.with_at marks (mark_of r.1) None)
-marked-taken rows marks i r m s l e =
-    subst (λ (rs : Numbered Asked). Marked rs (keyed.with_at marks (mark_of r.1) None)) (without-place rows r.0 i (to_T _ s) (is_place rows i r s l e))
-    (marked-moved rows marks r.0 (Some r.1) None m (stands rows i r s l e) (λ n a x f g t. absurd (cc)))
+-- a mark that no row has is free
+free_mark : (g : ℕ → Asked → List ℕ) (rows : Numbered Asked) (marks : Keyed ℕ) (m : ℕ) (a : Asked) → Placed g rows marks → at rows m ≡ None → IsApart g rows m (Some a) → keyed.at marks (g m a) ≡ None
+free_mark g rows marks m a h e l = one (keyed.at marks (g m a)) refl
+  where
+    its_row : (n : ℕ) → (o : Option Asked) → at rows n ≡ o → option_map (g n) o ≡ Some (g m a) → ⊥
+    its_row n None r k = cc
+    its_row n (Some b) r k =
+        let mark : g n b ≡ g m a = cc in
+        let one : m ≡ n = l n b a r refl (subst (λ (j : List ℕ). same (g m a) j ≡ true) (sym mark) (same-itself (g m a))) in
+        let gone : at rows n ≡ None = subst (λ (x : ℕ). at rows x ≡ None) one e in
+        cc
 
-pub marked-set : (rows : Numbered Asked) (marks : Keyed ℕ) (i : ℕ) (r : ℕ × Asked) (f : Asked → Asked) → ((a : Asked) → (f a).ticket ≡ a.ticket) → Marked rows marks → IsTrue (is_in_order rows) → i < length rows → r ≡ get_or rows i r → Marked (set rows i (r.0, f r.1)) (keyed.with_at (keyed.with_at marks (mark_of r.1) None) (mark_of (f r.1)) (Some r.0))
-marked-set rows marks i r f keeps m s l e =
+    one : (o : Option ℕ) → keyed.at marks (g m a) ≡ o → keyed.at marks (g m a) ≡ None
+    one None f = f
+    one (Some n) f = absurd (its_row n (at rows n) refl (h.kept (g m a) n f))
+
+pub marks_free : (rows : Numbered Asked) (index : Numbered ℕ) (next : ℕ) (tables : Tables) (a : Asked) → Fits rows index next → at index a.ticket ≡ None → Marked rows tables → IsFree (marks_of next a) tables
+marks_free rows index next tables a h o m = record {
+  waits = free_mark (λ n. mark_of) rows tables.waits next a m.waits none (ticket_apart by_wait rows next (Some a) (fresh rows index next a h o));
+  keys = free_mark (λ n. ticket_mark by_key) rows tables.keys next a m.keys none (ticket_apart by_key rows next (Some a) (fresh rows index next a h o));
+  groups = free_mark (row_mark by_group) rows tables.groups next a m.groups none (row_apart by_group rows next (Some a));
+  times = free_mark (row_mark by_time) rows tables.times next a m.times none (row_apart by_time rows next (Some a));
+}
+  where
+    none : at rows next ≡ None
+    none = none_there rows index next h
+
+pub marked-added : (rows : Numbered Asked) (index : Numbered ℕ) (next : ℕ) (tables : Tables) (a : Asked) → Fits rows index next → at index a.ticket ≡ None → Marked rows tables → Marked (rows ++ (next, a) ∷ []) (put_at (marks_of next a) next tables)
+marked-added rows index next tables a h o m =
+    subst (λ (rs : Numbered Asked). Marked rs (put_at (marks_of next a) next tables)) (sym (at_end rows next a (each_row (λ n b. n < next) rows (to_T _ h.indexed.rows_rise) h.below)))
+    (marked-moved rows tables next None (Some a) m (none_there rows index next h) (fresh rows index next a h o))
+
+pub marked-taken : (rows : Numbered Asked) (tables : Tables) (i : ℕ) (r : ℕ × Asked) → Marked rows tables → IsTrue (is_in_order rows) → i < length rows → r ≡ get_or rows i r → Marked (remove rows i) (taken_at (marks_of r.0 r.1) tables)
+marked-taken rows tables i r m s l e =
+    subst (λ (rs : Numbered Asked). Marked rs (taken_at (marks_of r.0 r.1) tables)) (without-place rows r.0 i (to_T _ s) (is_place rows i r s l e))
+    (marked-moved rows tables r.0 (Some r.1) None m (stands rows i r s l e) (λ n a x f g t. absurd (cc)))
+
+pub marked-set : (rows : Numbered Asked) (tables : Tables) (i : ℕ) (r : ℕ × Asked) (f : Asked → Asked) → ((a : Asked) → (f a).ticket ≡ a.ticket) → Marked rows tables → IsTrue (is_in_order rows) → i < length rows → r ≡ get_or rows i r → Marked (set rows i (r.0, f r.1)) (moved r.1 (f r.1) r.0 tables)
+marked-set rows tables i r f keeps m s l e =
     let place = is_place rows i r s l e in
     let here = stands rows i r s l e in
     let edit : set rows i (r.0, f r.1) ≡ with_at rows r.0 (Some (f r.1)) = changed-place rows r.0 i f r place e ∙ ap (λ o. with_at rows r.0 (option_map f o)) here in
-    subst (λ (rs : Numbered Asked). Marked rs (keyed.with_at (keyed.with_at marks (mark_of r.1) None) (mark_of (f r.1)) (Some r.0))) (sym edit)
-    (marked-moved rows marks r.0 (Some r.1) (Some (f r.1)) m here own)
+    subst (λ (rs : Numbered Asked). Marked rs (moved r.1 (f r.1) r.0 tables)) (sym edit)
+    (marked-moved rows tables r.0 (Some r.1) (Some (f r.1)) m here own)
   where
     own : (n : ℕ) (a x : Asked) → at rows n ≡ Some a → Some (f r.1) ≡ Some x → a.ticket ≡ x.ticket → n ≡ r.0
     own n a x g h t =
         let same_ask : f r.1 ≡ x = cc in
         m.alone n r.0 a r.1 g (stands rows i r s l e) (t ∙ ap (λ (y : Asked). y.ticket) (sym same_ask) ∙ keeps r.1)
 
-pub mark_stands : (rows : Numbered Asked) (marks : Keyed ℕ) (i : ℕ) (r : ℕ × Asked) → Marked rows marks → IsTrue (is_in_order rows) → i < length rows → r ≡ get_or rows i r → keyed.at marks (mark_of r.1) ≡ Some r.0
-mark_stands rows marks i r m s l e = m.found r.0 r.1 (stands rows i r s l e)
+pub marks_stand : (rows : Numbered Asked) (tables : Tables) (i : ℕ) (r : ℕ × Asked) → Marked rows tables → IsTrue (is_in_order rows) → i < length rows → r ≡ get_or rows i r → HasRow (marks_of r.0 r.1) r.0 tables
+marks_stand rows tables i r m s l e =
+    let here = stands rows i r s l e in
+    record { waits = m.waits.found r.0 r.1 here; keys = m.keys.found r.0 r.1 here; groups = m.groups.found r.0 r.1 here; times = m.times.found r.0 r.1 here }
 
 pub in_order-set : (rows : Numbered Asked) (i : ℕ) (r : ℕ × Asked) (f : Asked → Asked) → IsTrue (is_in_order rows) → i < length rows → r ≡ get_or rows i r → IsTrue (is_in_order (set rows i (r.0, f r.1)))
 in_order-set rows i r f s l e =
@@ -227,3 +320,13 @@ pub within : (f : ℕ × Asked → ℕ × Asked) (xs ys : Numbered Asked) (i : �
 within f xs ys i l e =
     let long : length (map f (take i xs) ++ drop i xs) ≡ length xs = length-append (map f (take i xs)) (drop i xs) ∙ omega (arith, length-map (take i xs) f, length-take i xs, length-drop i xs, l) in
     rw e (rw long l)
+
+-- what is put where nothing stood and taken out again leaves all as it was
+pub undone : (es : Keyed ℕ) (k : List ℕ) (n : ℕ) → IsTrue (keyed.is_in_order es) → keyed.at es k ≡ None → keyed.with_at (keyed.with_at es k (Some n)) k None ≡ es
+undone es k n s e =
+    keyed_laws.same_keyed (keyed.with_at (keyed.with_at es k (Some n)) k None) es (keyed_laws.in_order-with_at (keyed.with_at es k (Some n)) k None (keyed_laws.in_order-with_at es k (Some n) s)) s (λ j.
+    keyed_laws.at-with_at (keyed.with_at es k (Some n)) k j None ∙ ap (λ o. cond (same k j) None o) (keyed_laws.at-with_at es k j (Some n)) ∙ one j (same k j) refl)
+  where
+    one : (j : List ℕ) (b : Bool) → same k j ≡ b → cond b None (cond b (Some n) (keyed.at es j)) ≡ keyed.at es j
+    one j true t = sym (subst (λ (i : List ℕ). keyed.at es i ≡ None) (same-equal k j t) e)
+    one j false t = refl

@@ -1,6 +1,5 @@
 -- What a bound of the times of asking is worth after a change.
-use Rattle.std.proofs.Common.{◌≡◌, ℕ, zero, suc, ◌≤◌, ◌<◌, ◌-◌, ◌+◌, Bool, true, false, not, ◌&&◌, ◌||◌, nat_le, List, [], ◌∷◌, ◌++◌, set, get_or, take, length, refl, sym, subst, add-one, arith}
-use Rattle.std.specs.List.{remove}
+use Rattle.std.proofs.Common.{◌≡◌, ℕ, zero, suc, ◌≤◌, ◌<◌, ◌-◌, ◌+◌, Bool, true, false, not, ◌&&◌, ◌||◌, nat_le, List, [], ◌∷◌, get_or, take, length, refl, sym, subst, add-one, arith}
 use Rattle.std.proofs.lemmas.Bool.Decides.{nat_tests}
 use Rattle.numbered_rows.specs.Numbered.{Numbered}
 use Rattle.read_model.specs.declared.asked.Asked.{Asked}
@@ -32,24 +31,6 @@ pub all_lower : (m n : ℕ) (xs : List Asked) → m ≤ n → all_since n xs ≡
 all_lower m n [] l e = refl
 all_lower m n (a ∷ xs) l e =
     both (is_since m a) (all_since m xs) (lower m n a l (first (is_since n a) (all_since n xs) e)) (all_lower m n xs l (second (is_since n a) (all_since n xs) e))
-
-pub since-append : (n : ℕ) (rows : Numbered Asked) (k : ℕ) (a : Asked) → all_since n (asks rows) ≡ true → is_since n a ≡ true → all_since n (asks (rows ++ (k, a) ∷ [])) ≡ true
-since-append n [] k a e f = both (is_since n a) true f refl
-since-append n (r ∷ rows) k a e f =
-    both (is_since n r.1) (all_since n (asks (rows ++ (k, a) ∷ []))) (first (is_since n r.1) (all_since n (asks rows)) e) (since-append n rows k a (second (is_since n r.1) (all_since n (asks rows)) e) f)
-
-pub since-remove : (n : ℕ) (rows : Numbered Asked) (j : ℕ) → all_since n (asks rows) ≡ true → all_since n (asks (remove rows j)) ≡ true
-since-remove n [] zero e = refl
-since-remove n [] (suc j) e = refl
-since-remove n (r ∷ rows) zero e = second (is_since n r.1) (all_since n (asks rows)) e
-since-remove n (r ∷ rows) (suc j) e =
-    both (is_since n r.1) (all_since n (asks (remove rows j))) (first (is_since n r.1) (all_since n (asks rows)) e) (since-remove n rows j (second (is_since n r.1) (all_since n (asks rows)) e))
-
-pub since-set : (n : ℕ) (rows : Numbered Asked) (j k : ℕ) (a : Asked) → all_since n (asks rows) ≡ true → is_since n a ≡ true → all_since n (asks (set rows j (k, a))) ≡ true
-since-set n [] j k a e f = refl
-since-set n (r ∷ rows) zero k a e f = both (is_since n a) (all_since n (asks rows)) f (second (is_since n r.1) (all_since n (asks rows)) e)
-since-set n (r ∷ rows) (suc j) k a e f =
-    both (is_since n r.1) (all_since n (asks (set rows j (k, a)))) (first (is_since n r.1) (all_since n (asks rows)) e) (since-set n rows j k a (second (is_since n r.1) (all_since n (asks rows)) e) f)
 
 -- where the bound is within the time, none times out
 pub none_is_late : (now oldest : ℕ) (xs : List Asked) → now - oldest < 5000 → all_since oldest xs ≡ true → none_times_out now xs ≡ true

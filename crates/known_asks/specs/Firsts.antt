@@ -17,11 +17,19 @@ use Rattle.known_asks.specs.Marks.{stage_number, mark_of}
 abbrev pub all_before : List ℕ → List Asked → Bool
 all_before k asks = list_all (λ a. before (mark_of a) k) asks
 
-pub record IsNext (k : List ℕ) (r : Asked) (asks : List Asked) : Type 0 where
+-- by the marks that a function makes
+pub record IsNextBy (g : Asked → List ℕ) (k : List ℕ) (r : Asked) (asks : List Asked) : Type 0 where
   pub there : ask_at r.ticket asks ≡ Some r
-  pub behind : before (mark_of r) k ≡ false
+  pub behind : before (g r) k ≡ false
   -- of those that don't come before the mark none comes before it
-  pub least : list_all (λ a. before (mark_of a) k || not (before (mark_of a) (mark_of r))) asks ≡ true
+  pub least : list_all (λ a. before (g a) k || not (before (g a) (g r))) asks ≡ true
+
+abbrev pub IsNextByOf : (Asked → List ℕ) → List ℕ → Option Asked → List Asked → Type 0
+IsNextByOf g k None asks = list_all (λ a. before (g a) k) asks ≡ true
+IsNextByOf g k (Some r) asks = IsNextBy g k r asks
+
+abbrev pub IsNext : List ℕ → Asked → List Asked → Type 0
+IsNext k r asks = IsNextBy mark_of k r asks
 
 abbrev pub IsNextOf : List ℕ → Option Asked → List Asked → Type 0
 IsNextOf k None asks = all_before k asks ≡ true

@@ -1,8 +1,13 @@
+pub mod Alike
 pub mod Asks
 pub mod Callers
 pub mod Changes
 pub mod Firsts
 pub mod Indexed
+pub mod KeyMarks
 pub mod Marked
 pub mod Marks
+pub mod OneByOne
+pub mod RowMarks
+pub mod Times
 pub mod Waiting

@@ -1,7 +1,6 @@
 -- The mark that a request is found by: what it waits for, since which step or by which call, and its ticket. A request that is due
 -- comes behind those that aren't, the one that is due longest first.
 use Rattle.std.specs.Prelude.{ℕ, List, [], ◌∷◌, Some, None}
-use Rattle.proxy_model.specs.Keyed.{Keyed, with_at}
 use Rattle.wait_model.specs.declared.sending.Sending.{Sending}
 use Rattle.wait_model.specs.declared.sending.Sending.TheVariants as sending
 use Rattle.read_model.specs.declared.asked.Asked.{Asked}
@@ -39,7 +38,3 @@ stage_number _ = 0
 
 abbrev pub mark_of : Asked → List ℕ
 mark_of a = stage_rank a.stage ∷ stage_number a.stage ∷ a.ticket ∷ []
-
--- the number of a request, by its mark, where the request is another one now
-abbrev pub moved : Asked → Asked → ℕ → Keyed ℕ → Keyed ℕ
-moved old new number marks = with_at (with_at marks (mark_of old) None) (mark_of new) (Some number)

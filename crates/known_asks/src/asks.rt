@@ -1,27 +1,31 @@
-ghost use Rattle.std.specs.Prelude.{◌≡◌, ◌++◌, ◌∷◌, [], map, true, false, None, IfOk, OnOk, OnErr};
+ghost use Rattle.std.specs.Prelude.{◌≡◌, ◌++◌, ◌∷◌, [], map, filter, nat_le, true, false, None, OnOk, OnErr};
 ghost use Rattle.std.specs.Option.{option_copied};
 ghost use Rattle.core_model.specs.ClockWork.{timed_out_ask};
 ghost use Rattle.core_model.specs.Fits.{once};
 ghost use Rattle.core_model.specs.Lookups.{ask_at, without_ask};
 ghost use Rattle.core_model.specs.Takes.{least_ready};
 ghost use Rattle.read_model.specs.PlainRead.{in_stage};
-ghost use Rattle.known_asks.specs.Asks.{one_changed, none_times_out};
-ghost use Rattle.read_model.specs.declared.asked.Asked.{Asked as Value};
+ghost use Rattle.known_asks.specs.Asks.{one_changed, all_since, none_times_out};
 ghost use Rattle.known_asks.specs.Callers.{AreCallers, IsFirstCaller};
-ghost use Rattle.known_asks.specs.Changes.{restaged, staged_by};
-ghost use Rattle.known_asks.specs.Waiting.{none_waits, waits_at_key};
-ghost use Rattle.known_asks.specs.Firsts.{IsNext, IsNextOf, IsFirstDueOf};
+ghost use Rattle.known_asks.specs.Alike.{IsNextAlikeOf, is_alike, is_kin, all_narrow};
+ghost use Rattle.known_asks.specs.Firsts.{IsNext, IsNextOf, IsNextByOf, IsFirstDueOf};
+ghost use Rattle.known_asks.specs.KeyMarks.{by_key, ticket_mark};
+ghost use Rattle.known_asks.specs.OneByOne.{first_of};
+ghost use Rattle.known_asks.specs.RowMarks.{has_key, by_group};
+ghost use Rattle.known_asks.specs.Times.{IsOldestOf, IsLateOf};
 
 use crate::callers::{Callers, callers_before, calls_as};
-use crate::marks::{CALL_OUT, DUE, REPLIED, mark_of};
+use crate::key_marks::only_at_key;
+use crate::kin::Kin;
+use crate::marks::{CALL_OUT, DUE, REPLIED, only_alike};
 use crate::places::{bound, change_one, change_rows, oldest_of, places, row_of, set_row};
-use crate::restage::Restage;
+use crate::row_marks::only_keyed;
 use crate::rule::Rule;
 use crate::stages::ready_ticket;
-use crate::times::{REQUEST_TIME, TimeOut};
-use crate::waiting::{changes_at, waits_at_key};
+use crate::tables::Tables;
+use crate::times::{REQUEST_TIME, TimeOut, late_ticket, only_unanswered};
 use etcd_types::NoMemory;
-use mark_rows::{Mark, MarkRows};
+use mark_rows::Mark;
 use numbered_rows::place;
 use read_model::{Asked, Stage};
 use std::alloc::Global;
@@ -34,8 +38,8 @@ pub struct Asks {
     rows: Vec<(u64, Asked)>,
     /// The number of each ticket's row, by ticket.
     index: Vec<(u64, u64)>,
-    /// The number of each row, by what its request waits for.
-    marks: MarkRows,
+    /// The number of each row, by its marks.
+    tables: Tables,
     /// The number of the next row.
     next: u64,
     /// Those without a reply were all asked then or later, in milliseconds of the proxy's clock.
@@ -56,7 +60,7 @@ impl Model for Asks {
 
     ghost view = { λ a. map (λ r. r.1) a.rows.items };
 
-    ghost invariant = { λ a. IsKept a.rows.items a.index.items a.marks a.next a.oldest };
+    ghost invariant = { λ a. IsKept a.rows.items a.index.items a.tables a.next a.oldest };
 }
 
 impl Asks {
@@ -67,7 +71,7 @@ impl Asks {
         Asks {
             rows: Vec::new(alloc),
             index: Vec::new(alloc),
-            marks: MarkRows::new(alloc),
+            tables: Tables::new(alloc),
             next: 0,
             oldest: u64::MAX,
         }
@@ -103,7 +107,7 @@ impl Asks {
         }
         self.rows.reserve(1)?;
         self.index.reserve(1)?;
-        self.marks.put(mark_of(&ask), self.next)?;
+        self.tables.put(&ask, self.next)?;
         let ticket = ask.ticket;
         match place(&self.index, ticket) {
             Ok(_) => unreachable!(),
@@ -126,7 +130,7 @@ impl Asks {
             Some((at, row)) => {
                 self.index.remove(at);
                 let taken = self.rows.remove(row);
-                self.marks.remove(&mark_of(&taken.1));
+                self.tables.remove(&taken.1, taken.0);
                 Some(taken.1)
             }
             None => None,
@@ -138,7 +142,7 @@ impl Asks {
         ensures { self.new ≡ one_changed ticket (in_stage stage) self.old }
     {
         if let Some((_, row)) = places(&self.rows, &self.index, ticket) {
-            self.oldest = set_row(&mut self.rows[row], &mut self.marks, stage, self.oldest);
+            self.oldest = set_row(&mut self.rows[row], &mut self.tables, stage, self.oldest);
         }
     }
 
@@ -147,7 +151,7 @@ impl Asks {
         ensures { self.new ≡ one_changed ticket (R.changed rule.now) self.old }
     {
         if let Some((_, row)) = places(&self.rows, &self.index, ticket) {
-            self.oldest = change_one(&mut self.rows[row], &mut self.marks, rule, self.oldest);
+            self.oldest = change_one(&mut self.rows[row], &mut self.tables, rule, self.oldest);
         }
     }
 
@@ -155,22 +159,63 @@ impl Asks {
     pub fn change_each<R: Rule>(&mut self, rule: &R)
         ensures { self.new ≡ map (R.changed rule.now) self.old }
     {
-        change_rows(&mut self.rows, &mut self.marks, rule);
+        change_rows(&mut self.rows, &mut self.tables, rule);
         self.oldest = oldest_of(&self.rows);
     }
 
-    /// Whether one may time out at this reading. It takes constant time.
+    /// Whether one times out at this reading. It takes constant time until the bound has passed, and then logarithmic time.
     pub fn may_time_out(&self, now: u64) -> bool
         ensures { result ≡ false → none_times_out now self.now ≡ true }
     {
-        now.saturating_sub(self.oldest) >= REQUEST_TIME
+        now.saturating_sub(self.oldest) >= REQUEST_TIME && self.late_ticket(now).is_some()
     }
 
-    /// Each without a reply whose time has passed at this reading has one. It takes no memory.
+    /// Each without a reply whose time has passed at this reading has one. It looks at those alone, each found in logarithmic time,
+    /// and takes no memory.
     pub fn time_out(&mut self, now: u64)
         ensures { self.new ≡ map (timed_out_ask now) self.old }
     {
-        self.change_each(&TimeOut { now });
+        while let Some(ticket) = self.late_ticket(now) {
+            self.change(ticket, &TimeOut { now });
+        }
+        self.renew_bound();
+    }
+
+    /// The ticket of one that times out at this reading.
+    fn late_ticket(&self, now: u64) -> Option<u64>
+        ensures { IsLateOf result now self.now }
+    {
+        match self.oldest_ask() {
+            Some(ask) => late_ticket(ask, now),
+            None => None,
+        }
+    }
+
+    /// The bound is when the one without a reply was asked that was asked first.
+    fn renew_bound(&mut self)
+        ensures { self.new ≡ self.old }
+    {
+        self.oldest = self.oldest_time();
+    }
+
+    /// The latest reading at or before which none without a reply was asked.
+    fn oldest_time(&self) -> u64
+        ensures { all_since result self.now ≡ true }
+    {
+        match self.oldest_ask() {
+            Some(ask) => ask.asked,
+            None => u64::MAX,
+        }
+    }
+
+    /// The one without a reply that was asked first.
+    fn oldest_ask(&self) -> Option<&Asked>
+        ensures { IsOldestOf (option_copied result) self.now }
+    {
+        match self.tables.times.from(&Mark::new(0, 0, 0)) {
+            [row, ..] => only_unanswered(row_of(&self.rows, row.1)),
+            [] => None,
+        }
     }
 
     /// The least ticket whose reply stands.
@@ -183,8 +228,10 @@ impl Asks {
         }
     }
 
-    /// The least ticket from this one on whose reply stands. No clause speaks of it: it tells whom to wake.
-    pub fn ready_from(&self, ticket: u64) -> Option<u64> {
+    /// The least ticket from this one on whose reply stands.
+    pub fn ready_from(&self, ticket: u64) -> Option<u64>
+        ensures { result ≡ least_ready None (filter (λ a. nat_le ticket a.ticket) self.now) }
+    {
         match self.first_from(&Mark::new(REPLIED, 0, ticket)) {
             Some(ask) => ready_ticket(ask),
             None => None,
@@ -233,38 +280,68 @@ impl Asks {
         }
     }
 
-    /// What the rule changes of the reads that wait at their key, by ticket, where it changes no other.
-    pub(crate) fn waiting_changes<R: Restage>(
-        &self,
-        alloc: Global,
-        rule: &R,
-    ) -> Result<Vec<(u64, Stage)>, NoMemory>
-        requires { (a : Value) → waits_at_key a.stage ≡ false → R.stage_of rule.now a ≡ None }
-        ensures { IfOk result (λ changes. restaged changes.items self.now ≡ map (staged_by (R.stage_of rule.now)) self.now) }
+    /// The first one of this kin from this ticket on.
+    pub(crate) fn next_alike(&self, kin: Kin, from: u64) -> Option<&Asked>
+        ensures next { IsNextAlikeOf (is_kin kin) from (option_copied result) self.now }
+        ensures narrow { all_narrow self.now ≡ true }
+        ensures once { once (map (λ a. a.ticket) self.now) ≡ true }
     {
-        Ok(changes_at(
-            alloc,
-            &self.rows,
-            self.marks.from(&Mark::new(0, 0, 0)),
-            rule,
-        )?)
+        let _rows = self.rows();
+        match kin {
+            Kin::Stage(rank, number) => self.next_by_stage(rank, number, from),
+            Kin::Key(number) => self.next_at_key(number, from),
+        }
     }
 
-    /// Whether a read waits at its key. It takes logarithmic time.
-    pub fn has_waiting(&self) -> bool
-        ensures { result ≡ false → none_waits self.now ≡ true }
+    /// The first one of this rank and number from this ticket on.
+    fn next_by_stage(&self, rank: u64, number: u64, from: u64) -> Option<&Asked>
+        ensures next { IsNextAlikeOf (is_alike rank number) from (option_copied result) self.now }
+        ensures narrow { all_narrow self.now ≡ true }
     {
-        match self.first_from(&Mark::new(0, 0, 0)) {
-            Some(ask) => waits_at_key(&ask.stage),
-            None => false,
+        match self.first_from(&Mark::new(rank, number, from)) {
+            Some(ask) => only_alike(ask, rank, number),
+            None => None,
+        }
+    }
+
+    /// The first read that waits at a key of this number from this ticket on.
+    fn next_at_key(&self, number: u64, from: u64) -> Option<&Asked>
+        ensures next { IsNextAlikeOf (has_key by_key 0 number) from (option_copied result) self.now }
+        ensures narrow { all_narrow self.now ≡ true }
+    {
+        match self.first_at_key(&Mark::new(0, number, from)) {
+            Some(ask) => only_at_key(ask, number),
+            None => None,
+        }
+    }
+
+    /// The first one, in the order of the marks of keys, that doesn't come before this mark.
+    fn first_at_key(&self, mark: &Mark) -> Option<&Asked>
+        ensures next { IsNextByOf (ticket_mark by_key) mark.now (option_copied result) self.now }
+        ensures narrow { all_narrow self.now ≡ true }
+    {
+        match self.tables.keys.from(mark) {
+            [row, ..] => Some(row_of(&self.rows, row.1)),
+            [] => None,
+        }
+    }
+
+    /// The first keepalive of this kind and lease, in the order of asking.
+    pub(crate) fn first_grouped(&self, kind: u64, lease: u64) -> Option<&Asked>
+        ensures { option_copied result ≡ first_of (has_key by_group kind lease) self.now }
+    {
+        match self.tables.groups.from(&Mark::new(kind, lease, 0)) {
+            [row, ..] => only_keyed(row_of(&self.rows, row.1), kind, lease),
+            [] => None,
         }
     }
 
     /// The first one, in the order of marks, that doesn't come before this mark.
     fn first_from(&self, mark: &Mark) -> Option<&Asked>
-        ensures { IsNextOf mark.now (option_copied result) self.now }
+        ensures next { IsNextOf mark.now (option_copied result) self.now }
+        ensures narrow { all_narrow self.now ≡ true }
     {
-        match self.marks.from(mark) {
+        match self.tables.waits.from(mark) {
             [row, ..] => Some(row_of(&self.rows, row.1)),
             [] => None,
         }

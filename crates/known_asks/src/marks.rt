@@ -1,4 +1,6 @@
-ghost use Rattle.std.specs.Prelude.{◌≡◌, Some};
+ghost use Rattle.std.specs.Prelude.{◌≡◌, true, if◌then◌else◌, Some, None};
+ghost use Rattle.std.specs.Option.{option_copied};
+ghost use Rattle.known_asks.specs.Alike.{is_alike, is_narrow};
 ghost use Rattle.known_asks.specs.Marks.{stage_rank, call_rank, group_rank, stage_number, sending_number, mark_of};
 
 use mark_rows::Mark;
@@ -7,9 +9,28 @@ use wait_model::Sending;
 
 /// The mark that the request is found by.
 pub(crate) fn mark_of(ask: &Asked) -> Mark
-    ensures { result ≡ mark_of ask.now }
+    ensures mark { result ≡ mark_of ask.now }
+    ensures narrow { is_narrow ask.now ≡ true }
 {
     Mark::new(stage_rank(&ask.stage), stage_number(&ask.stage), ask.ticket)
+}
+
+/// Whether the request has this rank and this number.
+fn is_alike(ask: &Asked, rank: u64, number: u64) -> bool
+    ensures { result ≡ is_alike rank number ask.now }
+{
+    stage_rank(&ask.stage) == rank && stage_number(&ask.stage) == number
+}
+
+/// The request, where it has this rank and this number.
+pub(crate) fn only_alike(ask: &Asked, rank: u64, number: u64) -> Option<&Asked>
+    ensures { option_copied result ≡ (if is_alike rank number ask.now then Some ask.now else None) }
+{
+    if is_alike(ask, rank, number) {
+        Some(ask)
+    } else {
+        None
+    }
 }
 
 /// Reads that wait at a key come first, then writes, keepalives that wait for the next call or for one that is out, those that have
@@ -18,7 +39,7 @@ fn stage_rank(stage: &Stage) -> u64
     ensures { result ≡ stage_rank stage.now }
 {
     match stage {
-        Stage::Acquiring | Stage::Joined | Stage::Behind => 0,
+        Stage::Acquiring | Stage::Joined | Stage::Behind => WAITING,
         Stage::Writes => 1,
         Stage::Grouped(None) => 2,
         Stage::Grouped(Some(sending)) => group_rank(*sending),
@@ -31,7 +52,7 @@ fn group_rank(sending: Sending) -> u64
     ensures { result ≡ group_rank sending }
 {
     match sending {
-        Sending::Out { .. } => 3,
+        Sending::Out { .. } => GROUP_OUT,
         Sending::Due { .. } => DUE,
     }
 }
@@ -44,6 +65,12 @@ fn call_rank(sending: Sending) -> u64
         Sending::Due { .. } => DUE,
     }
 }
+
+/// Of reads that wait at a key.
+pub(crate) const WAITING: u64 = 0;
+
+/// Of keepalives whose group's call is out.
+pub(crate) const GROUP_OUT: u64 = 3;
 
 /// Of requests with a reply.
 pub(crate) const REPLIED: u64 = 4;

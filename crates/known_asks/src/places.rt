@@ -1,16 +1,16 @@
 ghost use Rattle.std.specs.Prelude.{◌≡◌, ◌≤◌, map, None, Some, true, IfSome, IfNone, IsTrue, is_some};
 ghost use Rattle.numbered_rows.specs.Numbered.{at, is_in_order};
-ghost use Rattle.proxy_model.specs.Keyed as keyed;
 ghost use Rattle.read_model.specs.PlainRead.{in_stage};
+ghost use Rattle.known_asks.specs.Alike.{is_narrow};
 ghost use Rattle.known_asks.specs.Asks.{is_since, all_since};
 ghost use Rattle.known_asks.specs.Indexed.{Indexed, IsAt};
-ghost use Rattle.known_asks.specs.Marked.{Marked};
-ghost use Rattle.known_asks.specs.Marks.{mark_of, moved};
+ghost use Rattle.known_asks.specs.Marked.{Marked, HasRow};
+ghost use Rattle.known_asks.specs.RowMarks.{marks_of, moved};
 
-use crate::marks::mark_of;
+use crate::row_marks::marks_of;
 use crate::rule::Rule;
 use crate::stages::is_replied;
-use mark_rows::MarkRows;
+use crate::tables::Tables;
 use numbered_rows::place;
 use read_model::{Asked, Stage};
 
@@ -45,62 +45,60 @@ pub(crate) fn row_of(rows: &[(u64, Asked)], number: u64) -> &Asked
     }
 }
 
-/// Each is changed by the rule, and found by its mark as before.
-pub(crate) fn change_rows<R: Rule>(rows: &mut Vec<(u64, Asked)>, marks: &mut MarkRows, rule: &R)
+/// Each is changed by the rule, and found by its marks as before.
+pub(crate) fn change_rows<R: Rule>(rows: &mut Vec<(u64, Asked)>, tables: &mut Tables, rule: &R)
     requires in_order { IsTrue (is_in_order rows.old.items) }
-    requires marked { Marked rows.old.items marks.old }
+    requires marked { Marked rows.old.items tables.old }
     ensures rows { rows.new.items ≡ map (λ r. (r.0, R.changed rule.now r.1)) rows.old.items }
-    ensures marked { Marked rows.new.items marks.new }
+    ensures marked { Marked rows.new.items tables.new }
 {
     for row in rows.iter_mut() {
-        change_row(row, marks, rule);
+        change_row(row, tables, rule);
     }
 }
 
 /// The row's request is in this stage now; a bound that held of the others holds of all.
-pub(crate) fn set_row(
-    row: &mut (u64, Asked),
-    marks: &mut MarkRows,
-    stage: Stage,
-    oldest: u64,
-) -> u64
-    requires { keyed.at marks.old (mark_of row.old.1) ≡ Some row.old.0 }
+pub(crate) fn set_row(row: &mut (u64, Asked), tables: &mut Tables, stage: Stage, oldest: u64) -> u64
+    requires { HasRow (marks_of row.old.0 row.old.1) row.old.0 tables.old }
     ensures row { row.new ≡ (row.old.0, in_stage stage row.old.1) }
-    ensures marks { marks.new ≡ moved row.old.1 row.new.1 row.old.0 marks.old }
+    ensures tables { tables.new ≡ moved row.old.1 row.new.1 row.old.0 tables.old }
     ensures all { result ≤ oldest }
     ensures it { is_since result row.new.1 ≡ true }
+    ensures narrow { is_narrow row.new.1 ≡ true }
 {
-    let mark = mark_of(&row.1);
+    let marks = marks_of(&row.1, row.0);
     row.1.stage = stage;
-    marks.turn(&mark, mark_of(&row.1), row.0);
+    tables.turn(&marks, &row.1, row.0);
     bound(oldest, &row.1)
 }
 
 /// The row's request is changed by the rule; a bound that held of the others holds of all.
 pub(crate) fn change_one<R: Rule>(
     row: &mut (u64, Asked),
-    marks: &mut MarkRows,
+    tables: &mut Tables,
     rule: &R,
     oldest: u64,
 ) -> u64
-    requires { keyed.at marks.old (mark_of row.old.1) ≡ Some row.old.0 }
+    requires { HasRow (marks_of row.old.0 row.old.1) row.old.0 tables.old }
     ensures row { row.new ≡ (row.old.0, R.changed rule.now row.old.1) }
-    ensures marks { marks.new ≡ moved row.old.1 row.new.1 row.old.0 marks.old }
+    ensures tables { tables.new ≡ moved row.old.1 row.new.1 row.old.0 tables.old }
     ensures all { result ≤ oldest }
     ensures it { is_since result row.new.1 ≡ true }
+    ensures narrow { is_narrow row.new.1 ≡ true }
 {
-    change_row(row, marks, rule);
+    change_row(row, tables, rule);
     bound(oldest, &row.1)
 }
 
-fn change_row<R: Rule>(row: &mut (u64, Asked), marks: &mut MarkRows, rule: &R)
-    requires { keyed.at marks.old (mark_of row.old.1) ≡ Some row.old.0 }
+fn change_row<R: Rule>(row: &mut (u64, Asked), tables: &mut Tables, rule: &R)
+    requires { HasRow (marks_of row.old.0 row.old.1) row.old.0 tables.old }
     ensures row { row.new ≡ (row.old.0, R.changed rule.now row.old.1) }
-    ensures marks { marks.new ≡ moved row.old.1 row.new.1 row.old.0 marks.old }
+    ensures tables { tables.new ≡ moved row.old.1 row.new.1 row.old.0 tables.old }
+    ensures narrow { is_narrow row.new.1 ≡ true }
 {
-    let mark = mark_of(&row.1);
+    let marks = marks_of(&row.1, row.0);
     rule.change(&mut row.1);
-    marks.turn(&mark, mark_of(&row.1), row.0);
+    tables.turn(&marks, &row.1, row.0);
 }
 
 /// A reading at or before which none without a reply was asked.

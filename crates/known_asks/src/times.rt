@@ -1,5 +1,6 @@
-ghost use Rattle.std.specs.Prelude.{◌≡◌};
-ghost use Rattle.core_model.specs.ClockWork.{times_out, timed_out_ask};
+ghost use Rattle.std.specs.Prelude.{◌≡◌, if◌then◌else◌, Some, None};
+ghost use Rattle.std.specs.Option.{option_copied};
+ghost use Rattle.core_model.specs.ClockWork.{is_replied, times_out, timed_out_ask};
 ghost use Rattle.known_asks.specs.Asks.{timed_out-ticket};
 
 use crate::rule::Rule;
@@ -32,4 +33,22 @@ pub fn times_out(ask: &Asked, now: u64) -> bool
     ensures { result ≡ times_out now ask.now }
 {
     !is_replied(&ask.stage) && now.saturating_sub(ask.asked) >= REQUEST_TIME
+}
+
+/// The request's ticket, where it times out at this reading.
+pub(crate) fn late_ticket(ask: &Asked, now: u64) -> Option<u64>
+    ensures { result ≡ (if times_out now ask.now then Some ask.now.ticket else None) }
+{
+    times_out(ask, now).then_some(ask.ticket)
+}
+
+/// The request, where it has no reply.
+pub(crate) fn only_unanswered(ask: &Asked) -> Option<&Asked>
+    ensures { option_copied result ≡ (if is_replied ask.now.stage then None else Some ask.now) }
+{
+    if is_replied(&ask.stage) {
+        None
+    } else {
+        Some(ask)
+    }
 }

@@ -51,6 +51,7 @@ impl MarkRows {
     pub fn put(&mut self, mark: Mark, number: u64) -> Result<(), NoMemory>
         ensures ok { OnOk result (self.new ≡ with_at self.old mark (Some number)) }
         ensures err { OnErr result (self.new ≡ self.old) }
+        ensures in_order { IsTrue (is_in_order self.old) }
     {
         match place(&self.rows, &mark) {
             Ok(at) => self.rows[at].1 = number,
@@ -68,17 +69,18 @@ impl MarkRows {
         }
     }
 
-    /// The number that stands at the mark stands at the other one. It takes no memory.
+    /// The number that stands at the mark stands at the other one. It takes no memory, and where both are one constant time.
     pub fn turn(&mut self, mark: &Mark, other: Mark, number: u64)
         requires { at self.old mark.now ≡ Some number }
         ensures { self.new ≡ with_at (with_at self.old mark.now None) other (Some number) }
     {
-        let Ok(at) = place(&self.rows, mark) else {
-            unreachable!()
-        };
+        let rows = &self.rows;
         if mark.compare(&other) == Ordering::Equal {
             return;
         }
+        let Ok(at) = place(rows, mark) else {
+            unreachable!()
+        };
         drop(self.rows.remove(at));
         match place(&self.rows, &other) {
             Ok(at) => self.rows[at].1 = number,

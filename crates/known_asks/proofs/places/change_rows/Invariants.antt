@@ -8,5 +8,5 @@ abbrev pub invariant-loop-row : goal.invariant-loop-row
 invariant-loop-row g l = record {
   done : l.row-items ≡ map (λ r. (r.0, g.R.Rule.changed l.rule r.1)) (take l.row-index l.initial.row-items) ++ drop l.row-index l.initial.row-items;
   in_order : IsTrue (is_in_order l.row-items);
-  marked : Marked l.row-items l.marks;
+  marked : Marked l.row-items l.tables;
 }

@@ -1,7 +1,6 @@
--- Where none waits, none is changed.
-use Rattle.known_asks.proofs.KeyWaits.{all_stay}
+-- Reads that wait at a key have one rank and one number.
+use Rattle.known_asks.proofs.KeyWaits.{other_waits}
 use Rattle.known_asks.proofs.waiting.change_waiting.Goals as goal
 
-pub returns-else-has_waiting : goal.returns-else-has_waiting
-returns-else-has_waiting g c =
-    all_stay (g.R.Rule.changed c.args.rule.now) c.args.asks.now c.requires (c.has_waiting.ensures c.if-has_waiting.false)
+pub change_alike-requires : goal.change_alike-requires
+change_alike-requires g c = λ a e. c.requires a (other_waits a e)

@@ -8,9 +8,9 @@ use Rattle.calls_out.proofs.calls.Calls.find.Goals as goal
 pub returns-in-Ok : goal.returns-in-Ok
 returns-in-Ok c =
     let place = rw c.deref.ensures.value at c.in-Ok.ensures.found in
-    sym (found_call _ c.args.call _ _ c.self.invariant place c.index.ensures) ∙ ap (λ (s : List OutCall). out_at c.args.call s) c.self.view_is
+    sym (found_call _ c.args.call _ _ c.self.invariant.calls place c.index.ensures) ∙ ap (λ (s : List OutCall). out_at c.args.call s) c.self.view_is
 
 pub returns-in-Err : goal.returns-in-Err
 returns-in-Err c =
     let gap = rw c.deref.ensures.value at c.in-Err.ensures.absent in
-    sym (no_call _ c.args.call _ c.self.invariant gap) ∙ ap (λ (s : List OutCall). out_at c.args.call s) c.self.view_is
+    sym (no_call _ c.args.call _ c.self.invariant.calls gap) ∙ ap (λ (s : List OutCall). out_at c.args.call s) c.self.view_is

@@ -1,19 +1,22 @@
 -- The ticket's row is changed in its place, and where there is none all stays.
 use Rattle.std.proofs.Common.{◌≡◌, ap, subst, ◌∙◌, List}
 use Rattle.read_model.specs.declared.asked.Asked.{Asked}
-use Rattle.known_asks.specs.Asks.{one_changed}
+use Rattle.known_asks.specs.Alike.{is_narrow}
+use Rattle.known_asks.specs.Asks.{one_changed, is_since}
 use Rattle.known_asks.proofs.Tickets.{asks, fits-one_changed, its_change, no_change}
-use Rattle.known_asks.proofs.Moves.{marked-set, mark_stands}
-use Rattle.known_asks.proofs.Since.{all_lower, since-set}
+use Rattle.known_asks.proofs.Moves.{marked-set, marks_stand}
+use Rattle.known_asks.proofs.Since.{all_lower}
+use Rattle.known_asks.proofs.Alls.{all-set}
 use Rattle.known_asks.proofs.asks.Asks.change.Goals as goal
 
 pub invariant_of-self : goal.invariant_of-self
 invariant_of-self g c =
     let at = rw (c.deref.ensures.value, c.deref-2.ensures.value) at c.in-Some.ensures.found in
     record {
-      marked = rw (c.change_one-self-inside.ensures.marks, c.change_one-self-inside.ensures.row) (marked-set c.self.inside.rows.items c.self.inside.marks c.in-Some.row c.index_mut.result.now (g.R.Rule.changed c.args.rule.now) (g.met.R.Rule.keeps c.args.rule.now) c.self.invariant.marked c.self.invariant.fits.indexed.rows_rise at.rows_bound c.index_mut.ensures.value);
+      marked = rw (c.change_one-self-inside.ensures.tables, c.change_one-self-inside.ensures.row) (marked-set c.self.inside.rows.items c.self.inside.tables c.in-Some.row c.index_mut.result.now (g.R.Rule.changed c.args.rule.now) (g.met.R.Rule.keeps c.args.rule.now) c.self.invariant.marked c.self.invariant.fits.indexed.rows_rise at.rows_bound c.index_mut.ensures.value);
       fits = rw c.change_one-self-inside.ensures.row (fits-one_changed _ _ _ c.args.ticket _ _ (g.R.Rule.changed c.args.rule.now) c.index_mut.result.now (g.met.R.Rule.keeps c.args.rule.now) c.self.invariant.fits at c.index_mut.ensures.value);
-      since = since-set c.change_one-self-inside.result c.self.inside.rows.items c.in-Some.row c.change_one-self-inside.new.row.0 c.change_one-self-inside.new.row.1 (all_lower c.change_one-self-inside.result c.self.inside.oldest (asks c.self.inside.rows.items) c.change_one-self-inside.ensures.all c.self.invariant.since) c.change_one-self-inside.ensures.it;
+      since = all-set (is_since c.change_one-self-inside.result) c.self.inside.rows.items c.in-Some.row c.change_one-self-inside.new.row.0 c.change_one-self-inside.new.row.1 (all_lower c.change_one-self-inside.result c.self.inside.oldest (asks c.self.inside.rows.items) c.change_one-self-inside.ensures.all c.self.invariant.since) c.change_one-self-inside.ensures.it;
+      narrow = all-set is_narrow c.self.inside.rows.items c.in-Some.row c.change_one-self-inside.new.row.0 c.change_one-self-inside.new.row.1 c.self.invariant.narrow c.change_one-self-inside.ensures.narrow;
     }
 
 pub returns-in-Some : goal.returns-in-Some
@@ -24,7 +27,7 @@ returns-in-Some g c =
 pub change_one-self-inside-requires : goal.change_one-self-inside-requires
 change_one-self-inside-requires g c =
     let at = rw (c.deref.ensures.value, c.deref-2.ensures.value) at c.in-Some.ensures.found in
-    mark_stands c.self.inside.rows.items c.self.inside.marks c.in-Some.row c.index_mut.result.now c.self.invariant.marked c.self.invariant.fits.indexed.rows_rise at.rows_bound c.index_mut.ensures.value
+    marks_stand c.self.inside.rows.items c.self.inside.tables c.in-Some.row c.index_mut.result.now c.self.invariant.marked c.self.invariant.fits.indexed.rows_rise at.rows_bound c.index_mut.ensures.value
 
 pub returns-in_default : goal.returns-in_default
 returns-in_default g c =

@@ -4,10 +4,19 @@ use Rattle.numbered_rows.specs.Places.{IsPlace, IsGap}
 use Rattle.numbered_rows.proofs.Places.{at-place}
 use Rattle.read_model.specs.declared.asked.Asked.{Asked}
 use Rattle.core_model.specs.Lookups.{ask_at}
+use Rattle.known_asks.specs.Alike.{is_narrow}
+use Rattle.known_asks.specs.Asks.{is_since}
 use Rattle.known_asks.proofs.Tickets.{asks, new_ticket, fits-added}
-use Rattle.known_asks.proofs.Moves.{marked-added}
-use Rattle.known_asks.proofs.Since.{all_lower, since-append}
+use Rattle.known_asks.proofs.Moves.{marked-added, marks_free}
+use Rattle.known_asks.proofs.Since.{all_lower}
+use Rattle.known_asks.proofs.Alls.{all-append}
 use Rattle.known_asks.proofs.asks.Asks.push.Goals as goal
+
+pub put-requires : goal.put-requires
+put-requires c =
+    let absent = subst (λ (s : List Asked). ask_at c.args.ask.ticket s ≡ None) (sym c.self.view_is) c.requires in
+    let none = new_ticket _ _ c.args.ask.ticket c.self.invariant.fits.indexed absent in
+    marks_free c.self.inside.rows.items c.self.inside.index.items c.self.inside.next c.self.inside.tables c.args.ask c.self.invariant.fits none c.self.invariant.marked
 
 pub unreachable-requires : goal.unreachable-requires
 unreachable-requires c =
@@ -25,7 +34,8 @@ invariant_of-self-in-Err c =
     let rows = rw (c.unwrap.ensures, c.in_ok-reserve.ensures.items) at c.push.ensures.items in
     let index = rw (c.unwrap-in-Err.ensures, c.in_ok-reserve-2.ensures.items) at c.insert.ensures.items in
     rw (rows, index) (record {
-      marked = rw (c.in_ok-put.ensures.ok, c.mark_of.ensures) (marked-added c.self.inside.rows.items c.self.inside.index.items c.self.inside.next c.self.inside.marks c.args.ask c.self.invariant.fits none c.self.invariant.marked);
+      marked = rw c.in_ok-put.ensures.ok (marked-added c.self.inside.rows.items c.self.inside.index.items c.self.inside.next c.self.inside.tables c.args.ask c.self.invariant.fits none c.self.invariant.marked);
       fits = fits-added _ _ c.self.inside.next _ c.args.ask c.self.invariant.fits none gap;
-      since = since-append c.bound-self-inside.result c.self.inside.rows.items c.self.inside.next c.args.ask (all_lower c.bound-self-inside.result c.self.inside.oldest (asks c.self.inside.rows.items) c.bound-self-inside.ensures.all c.self.invariant.since) c.bound-self-inside.ensures.it;
+      since = all-append (is_since c.bound-self-inside.result) c.self.inside.rows.items c.self.inside.next c.args.ask (all_lower c.bound-self-inside.result c.self.inside.oldest (asks c.self.inside.rows.items) c.bound-self-inside.ensures.all c.self.invariant.since) c.bound-self-inside.ensures.it;
+      narrow = all-append is_narrow c.self.inside.rows.items c.self.inside.next c.args.ask c.self.invariant.narrow c.in_ok-put.ensures.narrow;
     })

@@ -4,7 +4,7 @@ use Rattle.known_asks.proofs.Firsts.{ready_is, none_ready_is}
 use Rattle.known_asks.proofs.asks.Asks.ready.Goals as goal
 
 pub returns-in-Some : goal.returns-in-Some
-returns-in-Some c = c.ready_ticket.ensures ∙ ready_is c.in-Some.ask.now c.args.self.now (rw c.new.ensures at c.in-Some.ensures)
+returns-in-Some c = c.ready_ticket.ensures ∙ ready_is c.in-Some.ask.now c.args.self.now (rw c.new.ensures at c.in-Some.ensures.next)
 
 pub returns-in-None : goal.returns-in-None
-returns-in-None c = none_ready_is c.args.self.now (rw c.new.ensures at c.in-None.ensures)
+returns-in-None c = none_ready_is c.args.self.now (rw c.new.ensures at c.in-None.ensures.next)

@@ -2,18 +2,21 @@
 use Rattle.std.proofs.Common.{◌≡◌, sym, ap, subst, ◌∙◌, List}
 use Rattle.read_model.specs.declared.asked.Asked.{Asked}
 use Rattle.core_model.specs.Lookups.{ask_at, without_ask}
+use Rattle.known_asks.specs.Alike.{is_narrow}
+use Rattle.known_asks.specs.Asks.{is_since}
 use Rattle.known_asks.proofs.Tickets.{fits-taken, taken, none_taken, found_row, found_none}
 use Rattle.known_asks.proofs.Moves.{marked-taken}
-use Rattle.known_asks.proofs.Since.{since-remove}
+use Rattle.known_asks.proofs.Alls.{all-remove}
 use Rattle.known_asks.proofs.asks.Asks.remove.Goals as goal
 
 pub invariant_of-self : goal.invariant_of-self
 invariant_of-self c =
     let at = rw (c.deref.ensures.value, c.deref-2.ensures.value) at c.in-Some.ensures.found in
     rw (c.remove.ensures.items, c.remove-taken.ensures.items) (record {
-      marked = rw (c.remove-in-Some.ensures, c.mark_of.ensures) (marked-taken c.self.inside.rows.items c.self.inside.marks c.in-Some.row c.remove-taken.result c.self.invariant.marked c.self.invariant.fits.indexed.rows_rise at.rows_bound c.remove-taken.ensures.value);
+      marked = rw c.remove-in-Some.ensures (marked-taken c.self.inside.rows.items c.self.inside.tables c.in-Some.row c.remove-taken.result c.self.invariant.marked c.self.invariant.fits.indexed.rows_rise at.rows_bound c.remove-taken.ensures.value);
       fits = fits-taken _ _ _ c.args.ticket _ _ c.self.invariant.fits at;
-      since = since-remove c.self.inside.oldest c.self.inside.rows.items c.in-Some.row c.self.invariant.since;
+      since = all-remove (is_since c.self.inside.oldest) c.self.inside.rows.items c.in-Some.row c.self.invariant.since;
+      narrow = all-remove is_narrow c.self.inside.rows.items c.in-Some.row c.self.invariant.narrow;
     })
 
 pub returns-in-Some-clause-rest : goal.returns-in-Some-clause-rest

@@ -2,19 +2,22 @@
 use Rattle.std.proofs.Common.{◌≡◌, ap, subst, refl, ◌∙◌, List}
 use Rattle.read_model.specs.declared.asked.Asked.{Asked}
 use Rattle.read_model.specs.PlainRead.{in_stage}
-use Rattle.known_asks.specs.Asks.{one_changed}
+use Rattle.known_asks.specs.Alike.{is_narrow}
+use Rattle.known_asks.specs.Asks.{one_changed, is_since}
 use Rattle.known_asks.proofs.Tickets.{asks, fits-one_changed, its_change, no_change}
-use Rattle.known_asks.proofs.Moves.{marked-set, mark_stands}
-use Rattle.known_asks.proofs.Since.{all_lower, since-set}
+use Rattle.known_asks.proofs.Moves.{marked-set, marks_stand}
+use Rattle.known_asks.proofs.Since.{all_lower}
+use Rattle.known_asks.proofs.Alls.{all-set}
 use Rattle.known_asks.proofs.asks.Asks.set_stage.Goals as goal
 
 pub invariant_of-self : goal.invariant_of-self
 invariant_of-self c =
     let at = rw (c.deref.ensures.value, c.deref-2.ensures.value) at c.in-Some.ensures.found in
     record {
-      marked = rw (c.set_row-self-inside.ensures.marks, c.set_row-self-inside.ensures.row) (marked-set c.self.inside.rows.items c.self.inside.marks c.in-Some.row c.index_mut.result.now (in_stage c.args.stage) (λ a. refl) c.self.invariant.marked c.self.invariant.fits.indexed.rows_rise at.rows_bound c.index_mut.ensures.value);
+      marked = rw (c.set_row-self-inside.ensures.tables, c.set_row-self-inside.ensures.row) (marked-set c.self.inside.rows.items c.self.inside.tables c.in-Some.row c.index_mut.result.now (in_stage c.args.stage) (λ a. refl) c.self.invariant.marked c.self.invariant.fits.indexed.rows_rise at.rows_bound c.index_mut.ensures.value);
       fits = rw c.set_row-self-inside.ensures.row (fits-one_changed _ _ _ c.args.ticket _ _ (in_stage c.args.stage) c.index_mut.result.now (λ a. refl) c.self.invariant.fits at c.index_mut.ensures.value);
-      since = since-set c.set_row-self-inside.result c.self.inside.rows.items c.in-Some.row c.set_row-self-inside.new.row.0 c.set_row-self-inside.new.row.1 (all_lower c.set_row-self-inside.result c.self.inside.oldest (asks c.self.inside.rows.items) c.set_row-self-inside.ensures.all c.self.invariant.since) c.set_row-self-inside.ensures.it;
+      since = all-set (is_since c.set_row-self-inside.result) c.self.inside.rows.items c.in-Some.row c.set_row-self-inside.new.row.0 c.set_row-self-inside.new.row.1 (all_lower c.set_row-self-inside.result c.self.inside.oldest (asks c.self.inside.rows.items) c.set_row-self-inside.ensures.all c.self.invariant.since) c.set_row-self-inside.ensures.it;
+      narrow = all-set is_narrow c.self.inside.rows.items c.in-Some.row c.set_row-self-inside.new.row.0 c.set_row-self-inside.new.row.1 c.self.invariant.narrow c.set_row-self-inside.ensures.narrow;
     }
 
 pub returns-in-Some : goal.returns-in-Some
@@ -25,7 +28,7 @@ returns-in-Some c =
 pub set_row-self-inside-requires : goal.set_row-self-inside-requires
 set_row-self-inside-requires c =
     let at = rw (c.deref.ensures.value, c.deref-2.ensures.value) at c.in-Some.ensures.found in
-    mark_stands c.self.inside.rows.items c.self.inside.marks c.in-Some.row c.index_mut.result.now c.self.invariant.marked c.self.invariant.fits.indexed.rows_rise at.rows_bound c.index_mut.ensures.value
+    marks_stand c.self.inside.rows.items c.self.inside.tables c.in-Some.row c.index_mut.result.now c.self.invariant.marked c.self.invariant.fits.indexed.rows_rise at.rows_bound c.index_mut.ensures.value
 
 pub returns-in_default : goal.returns-in_default
 returns-in_default c =

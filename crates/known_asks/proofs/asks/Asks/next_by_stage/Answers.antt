@@ -1,0 +1,15 @@
+-- By the first one from the mark on.
+use Rattle.std.proofs.Common.{Option, subst, sym}
+use Rattle.read_model.specs.declared.asked.Asked.{Asked}
+use Rattle.known_asks.specs.Alike.{IsNextAlikeOf, is_alike}
+use Rattle.known_asks.specs.KeyMarks.{by_wait}
+use Rattle.known_asks.proofs.SideBySide.{next_found, none_is_left}
+use Rattle.known_asks.proofs.asks.Asks.next_by_stage.Goals as goal
+
+pub returns-in-Some-clause-next : goal.returns-in-Some-clause-next
+returns-in-Some-clause-next c =
+    subst (λ (o : Option Asked). IsNextAlikeOf (is_alike c.args.rank c.args.number) c.args.from o c.args.self.now) (sym c.only_alike.ensures) (next_found by_wait c.args.rank c.args.number c.args.from c.in-Some.ask.now c.args.self.now (rw c.new.ensures at c.in-Some.ensures.next))
+
+pub returns-in-None-clause-next : goal.returns-in-None-clause-next
+returns-in-None-clause-next c =
+    none_is_left by_wait c.args.rank c.args.number c.args.from c.args.self.now (rw c.new.ensures at c.in-None.ensures.next)
