@@ -3,7 +3,8 @@ ghost use Rattle.core_laws.specs.Kept.{HeardBytes};
 ghost use Rattle.core_model.specs.Ends.{on_answer, answer_of, is_keepalive};
 ghost use Rattle.core_model.specs.Fits.{CoreOk};
 ghost use Rattle.core_model.specs.Heard.{heard};
-ghost use Rattle.core_model.specs.Lookups.{out_at, moment};
+ghost use Rattle.core_model.specs.Lookups.{out_at, moment, reads_of};
+ghost use Rattle.read_steps.specs.Steps.{FitTogether};
 ghost use Rattle.core_machine.specs.Answers.{delivered, heard_in, ended_in, is_acquire, is_wait, is_other, CallIs, GroupIs, Hears, Loses, without_seat_if};
 ghost use Rattle.core_machine.specs.Callers.{OneCaller};
 ghost use Rattle.core_machine.specs.Does.{Does};
@@ -20,6 +21,7 @@ use read_steps::{Moment, NotShape};
 impl Machine {
     /// A member answered a call. What can't be an answer to it counts as a loss.
     #[tactic(auto, unfolding(core_model::specs::Ends::on_answer))]
+    #[inline(never)]
     pub fn on_answer(&mut self, call: u64, answer: Answer, now: u64) -> Result<Outcome, StepFault>
         requires { CoreOk self.old.core }
         ensures step { Does self.old.core (on_answer now call answer self.old.core) result self.new.core }
@@ -201,6 +203,7 @@ impl Machine {
     /// The call, which is out, counts as lost, though a header came with its answer. It takes no memory.
     fn lose_answered(&mut self, call: u64, delivered: Option<Header>, now: u64)
         requires caller { OneCaller self.old.core.asks }
+        requires fit { FitTogether (reads_of self.old.core) }
         requires out { is_some (out_at call self.old.core.out) ≡ true }
         ensures { Loses self.old now call delivered self.new }
     {

@@ -13,6 +13,7 @@ impl Machine {
     /// What the clock brings about, with which each step begins: the session ends at its deadline, requests that waited for
     /// five seconds have their reply, and waiting writes go on. It takes no memory.
     #[tactic(auto, unfolding(core_model::specs::ClockWork::clock_work))]
+    #[inline(never)]
     pub fn work_clock(&mut self, now: u64)
         requires { Mid 0 self.old.core }
         ensures { self.new ≡ on self.old (clock_work now self.old.core) }

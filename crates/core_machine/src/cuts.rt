@@ -15,6 +15,7 @@ use core_parts::{cut_opening, opening_at};
 impl Machine {
     /// A stream was cut: it is to be opened again from its next revision on. It takes no memory.
     #[tactic(auto, unfolding(core_model::specs::Step::on_cut))]
+    #[inline(never)]
     pub fn on_cut(&mut self, stream: u64) -> Result<Outcome, StepFault>
         requires { self.old.core.watches.given < 2 ^ 63 }
         ensures step { Does self.old.core (on_cut stream self.old.core) result self.new.core }

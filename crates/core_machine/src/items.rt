@@ -19,6 +19,7 @@ use watch_merge::{Broadcasts, StreamPhase, WatchFault};
 impl Machine {
     /// A message came on a stream.
     #[tactic(auto, unfolding(core_model::specs::Step::on_item))]
+    #[inline(never)]
     pub fn on_item(&mut self, stream: u64, item: WatchItem, now: u64) -> Result<Outcome, StepFault>
         requires { self.old.core.watches.given < 2 ^ 63 }
         ensures step { Does self.old.core (on_item now stream item self.old.core) result self.new.core }

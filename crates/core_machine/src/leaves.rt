@@ -13,6 +13,7 @@ use core_model::{Outcome, StepFault};
 impl Machine {
     /// A client went away, and with it its request or its watch. It takes no memory.
     #[tactic(auto, unfolding(core_model::specs::Takes::on_leave))]
+    #[inline(never)]
     pub fn on_leave(&mut self, ticket: u64, now: u64) -> Result<Outcome, StepFault>
         requires { FitTogether (reads_of self.old.core) }
         ensures step { Does self.old.core (on_leave now ticket self.old.core) result self.new.core }

@@ -1,8 +1,9 @@
 ghost use Rattle.std.specs.Prelude.{◌≡◌, ◌≢◌, ℕ, true, filter, Err, Some, IfSome, IfNone};
 ghost use Rattle.core_model.specs.declared.event.StepFault.TheVariants.{NoMemory as Wanting};
 ghost use Rattle.core_model.specs.Ends.{call_gone, lost_ask, lost_job, lost_call, on_lost, with_caller};
-ghost use Rattle.core_model.specs.Lookups.{out_at};
+ghost use Rattle.core_model.specs.Lookups.{out_at, reads_of};
 ghost use Rattle.core_model.specs.Sessions.{grant_failed, keep_failed};
+ghost use Rattle.read_steps.specs.Steps.{FitTogether};
 ghost use Rattle.core_machine.specs.Callers.{OneCaller};
 ghost use Rattle.core_machine.specs.Does.{Does};
 ghost use Rattle.core_machine.specs.Keeping.{on};
@@ -16,8 +17,10 @@ use read_steps::Verdict;
 impl Machine {
     /// A call was lost. It takes no memory.
     #[tactic(auto, unfolding(core_model::specs::Ends::on_lost))]
+    #[inline(never)]
     pub fn on_lost(&mut self, call: u64, now: u64) -> Result<Outcome, StepFault>
-        requires { OneCaller self.old.core.asks }
+        requires caller { OneCaller self.old.core.asks }
+        requires fit { FitTogether (reads_of self.old.core) }
         ensures step { Does self.old.core (on_lost now call self.old.core) result self.new.core }
         ensures memory { result ≢ Err Wanting }
         ensures ranges { self.new.ranges ≡ self.old.ranges }
@@ -46,7 +49,8 @@ impl Machine {
 
     /// This call, which is out no more, counts as lost: its member hands on to the next. It takes no memory.
     pub fn lose(&mut self, out: &OutCall, now: u64)
-        requires { OneCaller self.old.core.asks }
+        requires caller { OneCaller self.old.core.asks }
+        requires fit { FitTogether (reads_of self.old.core) }
         ensures { self.new ≡ on self.old (lost_call now out.now self.old.core) }
     {
         self.members.failed(out.member);
@@ -54,7 +58,8 @@ impl Machine {
     }
 
     fn lose_job(&mut self, out: &OutCall, now: u64)
-        requires { OneCaller self.old.core.asks }
+        requires caller { OneCaller self.old.core.asks }
+        requires fit { FitTogether (reads_of self.old.core) }
         ensures { self.new ≡ on self.old (lost_job now out.now out.now.job self.old.core) }
     {
         let moment = self.moment(now);

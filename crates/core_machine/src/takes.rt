@@ -15,6 +15,7 @@ impl Machine {
     /// A client takes its reply, where it stands, or the next message of its watch. Its ticket is unknown after a reply and
     /// after a cancellation.
     #[tactic(auto, unfolding(core_model::specs::Takes::on_take))]
+    #[inline(never)]
     pub fn on_take(&mut self, ticket: u64) -> Result<Outcome, StepFault>
         requires { self.old.core.watches.given < 2 ^ 63 }
         ensures step { Does self.old.core (on_take ticket self.old.core) result self.new.core }

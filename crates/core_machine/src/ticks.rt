@@ -14,6 +14,7 @@ impl Machine {
     /// Time went on: there are a session and a leasing stream, where leasing is on, and the session is kept alive in time.
     /// It takes no memory.
     #[tactic(auto, unfolding(core_model::specs::Step::on_tick))]
+    #[inline(never)]
     pub fn on_tick(&mut self, word: u64, now: u64)
         requires given { self.old.core.watches.given < 2 ^ 63 }
         requires first { IsFirst self.old.core.leasing (leasing_range self.old.core.own.waits.prefix) self.old.ranges.first }

@@ -12,9 +12,8 @@ use Rattle.read_model.specs.declared.asked.Stage.TheVariants as stage
 use Rattle.core_model.specs.DueJobs.{DueJob, ForAsk, ForGroup, Placed, placed, lease_of, due_stage, due_ask, earlier, earliest}
 use Rattle.core_model.specs.Lookups.{ask_at}
 use Rattle.known_asks.specs.Marks.{stage_number}
-use Rattle.known_asks.specs.Firsts.{is_due, due_place, none_due, IsFirstDue, IsFirstDueOf}
+use Rattle.known_asks.specs.Firsts.{is_due, due_place, none_due, IsFirstDueOf}
 use Rattle.due_order.specs.Parts.{with_first_ask}
-use Rattle.due_order.proofs.Earliest.{earliest_append}
 use Rattle.due_order.proofs.Streams.{chosen}
 
 abbrev job_in : Asked → Stage → DueJob

@@ -1,3 +1,4 @@
+pub mod Acquires
 pub mod Asks
 pub mod Earliest
 pub mod PlaceOrder

@@ -1,5 +1,5 @@
 -- The first due job by the parts of a proxy that have due jobs (the machine's definition, without the rest of its state).
-use Rattle.std.specs.Prelude.{List, ◌++◌, Option, None, Some, is_some}
+use Rattle.std.specs.Prelude.{ℕ, List, ◌++◌, Option, None, Some, is_some}
 use Rattle.std.specs.List.{flat_map}
 use Rattle.proxy_model.specs.declared.lease.Entry.{Entry}
 use Rattle.proxy_model.specs.Keyed.{Keyed}
@@ -24,6 +24,11 @@ first_job_of seat entries writes acquires asks leasing streams =
 abbrev pub with_first_stream : Option Placed → Option Stream → Option Placed
 with_first_stream first None = first
 with_first_stream first (Some s) = earliest first (due_stream s)
+
+-- the first one, or the acquire that comes first among acquires
+abbrev pub with_first_acquire : Option Placed → Option (List ℕ × Acquire) → Option Placed
+with_first_acquire first None = first
+with_first_acquire first (Some e) = earliest first (due_acquire e)
 
 -- the first one, or what is due of the request that comes first among requests
 abbrev pub with_first_ask : Option Placed → Option Asked → Option Placed

@@ -5,10 +5,9 @@ ghost use Rattle.due_order.specs.Seen.{job_seen, first_seen};
 ghost use Rattle.due_order.specs.Parts.{due_of, first_job_of};
 
 use crate::jobs::{DueJob, Placed};
-use crate::parts::{with_acquires, with_first_ask, with_opening, with_stream, with_writes};
-use core_model::Acquire;
+use crate::parts::{with_first_acquire, with_first_ask, with_opening, with_stream, with_writes};
+use acquire_rows::Acquires;
 use core_parts::{Opening, Seat};
-use keyed_rows::Rows;
 use known_asks::Asks;
 use lease_table::LeaseTable;
 use wait_model::{Place, Sending};
@@ -19,7 +18,7 @@ pub fn first_job<'a>(
     seat: &'a Option<Seat>,
     table: &LeaseTable,
     writes: Option<Place>,
-    acquires: &'a Rows<Acquire>,
+    acquires: &'a Acquires,
     asks: &'a Asks,
     leasing: &'a Option<Opening>,
     watches: &'a Broadcasts,
@@ -45,7 +44,7 @@ pub fn has_job(
     seat: &Option<Seat>,
     table: &LeaseTable,
     writes: Option<Place>,
-    acquires: &Rows<Acquire>,
+    acquires: &Acquires,
     asks: &Asks,
     leasing: &Option<Opening>,
     watches: &Broadcasts,
@@ -71,7 +70,7 @@ fn session_job(seat: &Option<Seat>) -> Option<DueJob<'_>>
 /// The first of all that is due beside the session's call and rescinds.
 fn earliest<'a>(
     writes: Option<Place>,
-    acquires: &'a Rows<Acquire>,
+    acquires: &'a Acquires,
     asks: &'a Asks,
     leasing: &'a Option<Opening>,
     watches: &'a Broadcasts,
@@ -79,7 +78,7 @@ fn earliest<'a>(
     ensures { first_seen result ≡ earliest None (due_of writes acquires.now asks.now leasing.now watches.now.streams) }
 {
     let first = with_writes(None, writes);
-    let first = with_acquires(first, acquires.as_slice());
+    let first = with_first_acquire(first, acquires.first_due());
     let first = with_first_ask(first, asks.first_due());
     let first = with_opening(first, leasing);
     with_stream(first, watches.first_due())

@@ -1,16 +1,16 @@
 ghost use Rattle.std.specs.Prelude.{◌≡◌};
-ghost use Rattle.std.specs.List.{flat_map};
-ghost use Rattle.std.specs.Option.{option_copied};
+ghost use Rattle.std.specs.Option.{option_copied, option_map};
 ghost use Rattle.wait_model.specs.declared.due.JobKind.TheVariants.{Call};
 ghost use Rattle.wait_model.specs.DueOrder.{place_at};
 ghost use Rattle.core_model.specs.DueJobs.{earliest, due_writes, due_acquire, due_ask, lease_of, due_at, due_opening, due_stream};
+ghost use Rattle.acquire_rows.specs.First.{row_seen};
 ghost use Rattle.due_order.specs.Seen.{first_seen};
-ghost use Rattle.due_order.specs.Parts.{with_first_ask, with_first_stream};
+ghost use Rattle.due_order.specs.Parts.{with_first_acquire, with_first_ask, with_first_stream};
 
 use crate::jobs::{DueJob, Placed, earlier};
-use core_model::Acquire;
+use acquire_rows::DueAcquire;
 use core_parts::Opening;
-use etcd_types::{Bytes, Request};
+use etcd_types::Request;
 use known_asks::{Asked, Stage};
 use wait_model::{JobKind, Place, Sending};
 use watch_model::{Stream, StreamPhase};
@@ -31,24 +31,23 @@ pub(crate) fn with_writes<'a>(first: Option<Placed<'a>>, place: Option<Place>) -
     }
 }
 
-/// The first one, or the first due acquire, where that is earlier.
-pub(crate) fn with_acquires<'a>(
+/// The first one, or the acquire that is due first, where that is earlier.
+pub(crate) fn with_first_acquire<'a>(
     first: Option<Placed<'a>>,
-    rows: &'a [(Bytes, Acquire)],
+    due: Option<DueAcquire<'a>>,
 ) -> Option<Placed<'a>>
-    ensures { first_seen result ≡ earliest (first_seen first.entry) (flat_map due_acquire rows.now) }
+    ensures { first_seen result ≡ with_first_acquire (first_seen first.entry) (option_map row_seen due.entry) }
 {
-    let mut first = first;
-    for row in rows {
-        first = with_acquire(first, row);
+    match due {
+        None => first,
+        Some(due) => with_acquire(first, due),
     }
-    first
 }
 
-fn with_acquire<'a>(first: Option<Placed<'a>>, row: &'a (Bytes, Acquire)) -> Option<Placed<'a>>
-    ensures { first_seen result ≡ earliest (first_seen first.entry) (due_acquire row.now) }
+fn with_acquire<'a>(first: Option<Placed<'a>>, due: DueAcquire<'a>) -> Option<Placed<'a>>
+    ensures { first_seen result ≡ earliest (first_seen first.entry) (due_acquire (row_seen due.entry)) }
 {
-    let (key, acquire) = row;
+    let DueAcquire { key, acquire } = due;
     match acquire.sending {
         Sending::Out { .. } => first,
         Sending::Due { since } => Some(earlier(

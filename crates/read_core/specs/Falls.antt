@@ -1,6 +1,8 @@
 -- Reads whose acquire or owner write is no more, by what stands in the lease table and among the acquires.
-use Rattle.std.specs.Prelude.{◌≡◌, ℕ, Bool, true, false, cond, if◌then◌else◌, [], Option, None, Some, refl}
+use Rattle.std.specs.Prelude.{◌≡◌, ℕ, Bool, true, false, not, cond, ◌||◌, if◌then◌else◌, List, [], Option, None, Some, refl}
+use Rattle.std.specs.List.{list_all}
 use Rattle.etcd_types.specs.declared.record.Header.{Header}
+use Rattle.etcd_types.specs.Keys.{same}
 use Rattle.proxy_model.specs.declared.lease.Entry.{Entry}
 use Rattle.proxy_model.specs.Keyed.{Keyed, at}
 use Rattle.wait_model.specs.State.{owned, first_waits}
@@ -30,6 +32,21 @@ fallen-in_place h g a = refl
 pub fallen-ticket : (step : ℕ) (es : Keyed Entry) (acquires : Keyed Acquire) (a : Asked) → (fallen step es acquires a).ticket ≡ a.ticket
 fallen-ticket step es acquires a =
     elim (stands_on es acquires a) as (λ b. (cond b a (in_stage (called step) a)).ticket ≡ a.ticket) [ true ↦ refl | false ↦ refl ]
+
+-- What ended stood at one key: what each other waits for stands, and those of the key alone can fall.
+
+abbrev pub stand_elsewhere : List ℕ → Keyed Entry → Keyed Acquire → List Asked → Bool
+stand_elsewhere k es acquires xs = list_all (λ a. same (ask_key a) k || stands_on es acquires a) xs
+
+abbrev pub stays_at : List ℕ → Keyed Entry → Keyed Acquire → Asked → Bool
+stays_at k es acquires a = not (same (ask_key a) k) || stands_on es acquires a
+
+abbrev pub fallen_at : List ℕ → ℕ → Keyed Entry → Keyed Acquire → Asked → Asked
+fallen_at k step es acquires a = if stays_at k es acquires a then a else in_stage (called step) a
+
+pub fallen_at-ticket : (k : List ℕ) (step : ℕ) (es : Keyed Entry) (acquires : Keyed Acquire) (a : Asked) → (fallen_at k step es acquires a).ticket ≡ a.ticket
+fallen_at-ticket k step es acquires a =
+    elim (stays_at k es acquires a) as (λ b. (cond b a (in_stage (called step) a)).ticket ≡ a.ticket) [ true ↦ refl | false ↦ refl ]
 
 -- the stage that it comes into where that doesn't stand and it is decided by the entry of its key
 abbrev pub again_stage : Header → ℕ → Keyed Entry → Keyed Acquire → Asked → Option Stage

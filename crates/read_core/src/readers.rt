@@ -9,7 +9,9 @@ use crate::decisions::called;
 use crate::records::shown;
 use crate::standing::key_of;
 use etcd_types::{Bytes, Header, Kv, NoMemory};
-use known_asks::{Asked, Asks, Restage, Rule, Stage, change_waiting, lose_once, waiting_changes};
+use known_asks::{
+    Asked, Asks, Restage, Rule, Stage, change_waiting_at, lose_once, waiting_changes_at,
+};
 use std::alloc::Global;
 
 /// What the reads of a key come to when its acquire is answered.
@@ -52,7 +54,7 @@ impl<'a> Readers<'a> {
 
 /// What the reads of the key come to when its acquire is answered, by ticket: the read that it was for is replied with the record that
 /// came with this header, or that there is none. The reads that joined are answered with the header `held` where there is one, as the key
-/// is held then; else each becomes a call, due since this step. Nothing is changed yet.
+/// is held then; else each becomes a call, due since this step. Nothing is changed yet. It looks at the reads of the key alone.
 pub fn reader_changes(
     alloc: Global,
     asks: &Asks,
@@ -71,7 +73,7 @@ pub fn reader_changes(
         held,
         step,
     };
-    Ok(waiting_changes(alloc, asks, &readers)?)
+    Ok(waiting_changes_at(alloc, asks, key, &readers)?)
 }
 
 /// The acquire of the key was lost, and with it a call of the read that it was for.
@@ -105,7 +107,7 @@ fn acquires_at(ask: &Asked, own: &Bytes, key: &Bytes) -> bool
 }
 
 /// The acquire of the key was lost: the read that it was for is due as a call since this step, until one was lost for each member. It
-/// takes no memory.
+/// looks at the reads of the key alone, and takes no memory.
 pub fn lose_reader(alloc: Global, asks: &mut Asks, key: &Bytes, members: u32, step: u64)
     ensures { asks.new ≡ map (told_lost members step key.now) asks.old }
 {
@@ -115,5 +117,5 @@ pub fn lose_reader(alloc: Global, asks: &mut Asks, key: &Bytes, members: u32, st
         members,
         step,
     };
-    change_waiting(asks, &rule);
+    change_waiting_at(asks, key, &rule);
 }

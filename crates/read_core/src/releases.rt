@@ -1,13 +1,14 @@
 ghost use Rattle.std.specs.Prelude.{◌≡◌, map, true, OnOk, OnErr};
 ghost use Rattle.read_model.specs.Release.{in_place};
-ghost use Rattle.read_core.specs.Falls.{ground_at, stands_on, fallen, again_stage, fallen-ticket};
+ghost use Rattle.read_core.specs.Falls.{ground_at, stands_on, stays_at, stand_elsewhere, fallen, fallen_at, again_stage, fallen-ticket, fallen_at-ticket};
 
 use crate::decisions::{called, decide};
 use crate::standing::{key_of, stands_at};
-use core_model::Acquire;
+use acquire_rows::Acquires;
 use etcd_types::{Bytes, Header, NoMemory};
-use keyed_rows::Rows;
-use known_asks::{Asked, Asks, Restage, Rule, Stage, change_waiting, restage_waiting};
+use known_asks::{
+    Asked, Asks, Restage, Rule, Stage, change_waiting, change_waiting_at, restage_waiting,
+};
 use lease_table::LeaseTable;
 use std::alloc::Global;
 
@@ -16,7 +17,7 @@ use std::alloc::Global;
 struct Fallen<'a> {
     alloc: Global,
     table: &'a LeaseTable,
-    acquires: &'a Rows<Acquire>,
+    acquires: &'a Acquires,
     step: u64,
 }
 
@@ -41,12 +42,44 @@ impl<'a> Fallen<'a> {
     }
 }
 
+/// The same of the reads of one key alone.
+#[derive(Drop)]
+struct FallenAt<'a> {
+    alloc: Global,
+    key: &'a Bytes,
+    table: &'a LeaseTable,
+    acquires: &'a Acquires,
+    step: u64,
+}
+
+impl<'a> Rule for FallenAt<'a> {
+    ghost changed = { λ s. fallen_at s.key.now s.step s.table.now.entries s.acquires.now };
+
+    fn change(&self, ask: &mut Asked) {
+        if !self.stays(ask) {
+            ask.stage = called(self.step);
+        }
+    }
+
+    ghost keeps = { λ s a. fallen_at-ticket s.key.now s.step s.table.now.entries s.acquires.now a };
+}
+
+impl<'a> FallenAt<'a> {
+    fn stays(&self, ask: &Asked) -> bool
+        ensures { result ≡ stays_at self.now.key.now self.now.table.now.entries self.now.acquires.now ask.now }
+    {
+        let empty = Bytes::new(self.alloc);
+        let own = key_of(&ask.request, &empty);
+        own != self.key || stands_at(ask, own, self.table, self.acquires)
+    }
+}
+
 /// A read whose acquire or owner write is no more is decided by the entry of its key, where there is one, or becomes a call.
 #[derive(Drop)]
 struct Again<'a> {
     header: Header,
     table: &'a LeaseTable,
-    acquires: &'a Rows<Acquire>,
+    acquires: &'a Acquires,
     step: u64,
 }
 
@@ -72,13 +105,7 @@ impl<'a> Restage for Again<'a> {
 }
 
 /// Each read whose acquire or owner write is no more becomes a call of its own. It takes no memory.
-pub fn release(
-    alloc: Global,
-    asks: &mut Asks,
-    table: &LeaseTable,
-    acquires: &Rows<Acquire>,
-    step: u64,
-)
+pub fn release(alloc: Global, asks: &mut Asks, table: &LeaseTable, acquires: &Acquires, step: u64)
     ensures { asks.new ≡ map (fallen step table.now.entries acquires.now) asks.old }
 {
     let rule = Fallen {
@@ -90,6 +117,29 @@ pub fn release(
     change_waiting(asks, &rule);
 }
 
+/// The same where what ended stood at this key, so that what each read of another key waits for stands. It looks at the reads of the key
+/// alone, and takes no memory.
+pub fn release_at(
+    alloc: Global,
+    asks: &mut Asks,
+    key: &Bytes,
+    table: &LeaseTable,
+    acquires: &Acquires,
+    step: u64,
+)
+    requires { stand_elsewhere key.now table.now.entries acquires.now asks.old ≡ true }
+    ensures { asks.new ≡ map (fallen step table.now.entries acquires.now) asks.old }
+{
+    let rule = FallenAt {
+        alloc,
+        key,
+        table,
+        acquires,
+        step,
+    };
+    change_waiting_at(asks, key, &rule);
+}
+
 /// Each read whose acquire or owner write is no more is answered from the entry of its key, waits for its owner write, or becomes a
 /// call of its own. Where memory is wanting all is as before.
 pub fn release_again(
@@ -97,7 +147,7 @@ pub fn release_again(
     asks: &mut Asks,
     header: Header,
     table: &LeaseTable,
-    acquires: &Rows<Acquire>,
+    acquires: &Acquires,
     step: u64,
 ) -> Result<(), NoMemory>
     ensures ok { OnOk result (asks.new ≡ map (in_place true header (ground_at step table.now.entries acquires.now)) asks.old) }

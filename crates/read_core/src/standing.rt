@@ -5,9 +5,9 @@ ghost use Rattle.read_model.specs.PlainRead.{key_of, ask_key};
 ghost use Rattle.read_model.specs.Release.{names};
 ghost use Rattle.read_core.specs.Falls.{stands_on};
 
+use acquire_rows::Acquires;
 use core_model::Acquire;
 use etcd_types::{Bytes, Request};
-use keyed_rows::Rows;
 use known_asks::{Asked, Stage};
 use lease_table::{Entry, LeaseTable, Phase};
 
@@ -23,12 +23,7 @@ pub fn key_of<'a>(request: &'a Request, empty: &'a Bytes) -> &'a Bytes
 }
 
 /// Whether what the request waits for stands at this key, which is its own.
-pub(crate) fn stands_at(
-    ask: &Asked,
-    key: &Bytes,
-    table: &LeaseTable,
-    acquires: &Rows<Acquire>,
-) -> bool
+pub(crate) fn stands_at(ask: &Asked, key: &Bytes, table: &LeaseTable, acquires: &Acquires) -> bool
     requires { key.now ≡ ask_key ask.now }
     ensures { result ≡ stands_on table.now.entries acquires.now ask.now }
 {

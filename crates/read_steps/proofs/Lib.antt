@@ -5,3 +5,4 @@ pub mod Ending
 pub mod Winning
 pub mod Rests
 pub mod TakenBack
+pub mod Elsewhere

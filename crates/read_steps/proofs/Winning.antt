@@ -1,5 +1,5 @@
 -- An acquire that is answered: what its key's reads come to, and that no other read is released.
-use Rattle.std.proofs.Common.{◌≡◌, ℕ, Bool, true, false, not, cond, ◌&&◌, List, [], ◌∷◌, map, Option, None, Some, is_some, refl, sym, ◌∙◌, ap, subst}
+use Rattle.std.proofs.Common.{◌≡◌, ℕ, Bool, true, false, cond, ◌&&◌, List, [], ◌∷◌, map, Option, None, Some, is_some, refl, sym, ◌∙◌, ap, subst}
 use Rattle.std.specs.List.{list_all}
 use Rattle.std.specs.Option.{option_to_list}
 use Rattle.etcd_types.specs.declared.answer.Answer.TheVariants as answer
@@ -16,6 +16,7 @@ use Rattle.proxy_model.specs.LeaseTable.{is_writing}
 use Rattle.proxy_model.specs.Snapshot.{plain_body}
 use Rattle.proxy_model.proofs.KeyedLaws.{at-with_at, same-turned}
 use Rattle.wait_model.specs.Asked.{acquire_ended}
+use Rattle.acquire_rows.proofs.Marking.{absent_stays}
 use Rattle.read_model.specs.declared.asked.Asked.{Asked}
 use Rattle.read_model.specs.declared.asked.Stage.{Stage}
 use Rattle.read_model.specs.declared.asked.Stage.TheVariants as stage
@@ -117,14 +118,6 @@ won_reads standing m k held h create kv r ok t =
     of_held false = plain_in_place m (acquired m k false h create kv r)
 
 -- It is owned already.
-
-pub absent_stays : {A : Type 0} (k : List ℕ) (es : Keyed A) → at es k ≡ None → with_at es k None ≡ es
-absent_stays k [] n = refl
-absent_stays k (e ∷ es) n = one (same k e.0) n (absent_stays k es)
-  where
-    one : (b : Bool) → cond b (Some e.1) (at es k) ≡ None → (at es k ≡ None → with_at es k None ≡ es) → cond (not b) (e ∷ with_at es k None) (with_at es k None) ≡ e ∷ es
-    one true n f = absurd (cc)
-    one false n f = ap (λ (fs : Keyed _). e ∷ fs) (f n)
 
 held_or_none : (k : List ℕ) (o : Option Entry) (es : Keyed Entry) → at es k ≡ None → held_entries k o es ≡ with_at es k o
 held_or_none k None es n = sym (absent_stays k es n)

@@ -12,15 +12,14 @@ ghost use Rattle.read_steps.specs.Steps.{FitTogether, GivesReads, Claims};
 
 use crate::moment::Moment;
 use crate::reads::Reads;
-use core_model::Acquire;
+use acquire_rows::Acquires;
 use etcd_types::code::NOT_FOUND;
 use etcd_types::{Answer, Bytes, Header, Kv, NoMemory, Reply};
-use keyed_rows::Rows;
 use known_asks::{Asks, Stage, set_stages};
 use lease_table::{Entry, LeaseTable, Phase};
 use lease_txn::{NotShape, read_acquire};
 use proxy_model::{Claim, Owner};
-use read_core::{reader_changes, release};
+use read_core::{reader_changes, release_at};
 use revoke_calls::{is_session, own_entry};
 use revoke_core::Waits;
 use std::alloc::Global;
@@ -58,8 +57,9 @@ impl Reads {
         }
     }
 
-    /// The acquire of the key was refused, and the session ends by it or doesn't.
+    /// The acquire of the key was refused, and the session ends by it or doesn't; where it doesn't, the reads of the key alone are looked at.
     fn refuse_acquire(&mut self, m: &Moment, key: &Bytes, ends: bool)
+        requires { FitTogether self.old }
         ensures { self.new ≡ (acquire_refused m.entry.now key.now ends self.old).reads }
     {
         self.waits.end_acquire(key);
@@ -67,9 +67,10 @@ impl Reads {
         if ends {
             self.end_session(m);
         } else {
-            release(
+            release_at(
                 self.alloc,
                 &mut self.asks,
+                key,
                 &self.table,
                 &self.acquires,
                 self.waits.step(),
@@ -218,7 +219,7 @@ fn end_acquire(
     changes: Vec<(u64, Stage)>,
     waits: &mut Waits,
     table: &mut LeaseTable,
-    acquires: &mut Rows<Acquire>,
+    acquires: &mut Acquires,
     asks: &mut Asks,
 ) -> Result<(), NoMemory>
     requires { at table.old.entries key.now ≡ None }

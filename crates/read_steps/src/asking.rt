@@ -15,15 +15,13 @@ ghost use Rattle.read_steps.specs.Steps.{at_once, after_read, kept_in, write_ask
 
 use crate::moment::Moment;
 use crate::reads::Reads;
-use core_model::Acquire;
+use acquire_rows::Acquires;
 use etcd_types::{Bytes, NoMemory};
-use keyed_rows::Rows;
 use known_asks::{Asked, Asks, Stage, Verdict};
 use lease_table::LeaseTable;
 use read_core::{Decision, decide, key_of, under};
 use revoke_core::Waits;
 use std::alloc::Global;
-use wait_model::Sending;
 
 impl Reads {
     /// A plain read, of a key outside the leasing range, with a new ticket. One of a held key is answered at once, and nothing is kept of
@@ -89,7 +87,7 @@ fn decide_read(
     ask: &Asked,
     table: &LeaseTable,
     waits: &Waits,
-    acquires: &Rows<Acquire>,
+    acquires: &Acquires,
 ) -> Result<Decision, NoMemory>
     requires { is_leased_read waits.now.prefix ask.now.request ≡ true }
     ensures stage { IfOk result (λ d. d.stage ≡ (decision m.entry.now (ground table.now.entries waits.now acquires.now) (ask_key ask.now)).stage) }
@@ -109,7 +107,7 @@ fn decide_free(
     m: &Moment,
     key: &Bytes,
     waits: &Waits,
-    acquires: &Rows<Acquire>,
+    acquires: &Acquires,
 ) -> Result<Decision, NoMemory>
     requires { contains (leasing_range waits.now.prefix) key.now ≡ false }
     ensures stage { IfOk result (λ d. d.stage ≡ (read_turn m.entry.now.header waits.now.step None (is_some (at acquires.now key.now)) (acquirable m.entry.now (owned [] waits.now) key.now)).stage) }
@@ -153,7 +151,7 @@ fn keep_read(
     stage: Stage,
     session: Option<u64>,
     waits: &mut Waits,
-    acquires: &mut Rows<Acquire>,
+    acquires: &mut Acquires,
     asks: &mut Asks,
 ) -> Result<(), NoMemory>
     requires unknown { ask_at ask.ticket asks.old ≡ None }
@@ -172,14 +170,13 @@ fn keep_read(
 }
 
 /// The read waits for an acquire of its key, which is due under this session. Where memory was wanting all is as before.
-#[tactic(auto, using(crate::proofs::TakenBack::taken_back))]
 fn keep_acquiring(
     alloc: Global,
     ask: Asked,
     stage: Stage,
     session: u64,
     waits: &mut Waits,
-    acquires: &mut Rows<Acquire>,
+    acquires: &mut Acquires,
     asks: &mut Asks,
 ) -> Result<(), NoMemory>
     requires unknown { ask_at ask.ticket asks.old ≡ None }
@@ -212,7 +209,7 @@ fn begin_acquire(
     ticket: u64,
     session: u64,
     waits: &mut Waits,
-    acquires: &mut Rows<Acquire>,
+    acquires: &mut Acquires,
 ) -> Result<(), NoMemory>
     requires { at acquires.old key.now ≡ None }
     ensures waits { OnOk result (waits.new ≡ begun_waits key.now (Some session) waits.old) }
@@ -221,14 +218,7 @@ fn begin_acquire(
     ensures err_acquires { OnErr result (acquires.new ≡ acquires.old) }
 {
     let _rows = acquires.as_slice();
-    let acquire = Acquire {
-        ticket,
-        session,
-        sending: Sending::Due {
-            since: waits.step(),
-        },
-    };
-    acquires.put(key.copy(alloc)?, acquire)?;
+    acquires.begin(alloc, key, ticket, session, waits.step())?;
     match waits.begin_acquire(key) {
         Ok(()) => Ok(()),
         Err(fault) => {

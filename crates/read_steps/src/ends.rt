@@ -8,6 +8,7 @@ ghost use Rattle.read_model.specs.PlainRead.{in_stage};
 ghost use Rattle.read_model.specs.WriteAnswers.{wait_lost, settled_ask};
 ghost use Rattle.read_model.specs.declared.asked.Stage.TheVariants as stage;
 ghost use Rattle.read_model.specs.declared.asked.Verdict.TheVariants as verdict;
+ghost use Rattle.read_steps.specs.Steps.{FitTogether};
 
 use crate::moment::Moment;
 use crate::reads::Reads;
@@ -15,7 +16,7 @@ use call_ends::{lose_caller, refuse_caller, tell_caller};
 use etcd_types::{Answer, Bytes, NoMemory};
 use keep_merge::{answer_group, lose_group};
 use known_asks::{Asks, Stage, Verdict};
-use read_core::{lose_reader, release};
+use read_core::{lose_reader, release, release_at};
 use revoke_core::Settled;
 
 impl Reads {
@@ -70,17 +71,20 @@ impl Reads {
         Ok(())
     }
 
-    /// The acquire of the key was lost: its reader's call is due, or ends, and each read that joined becomes a call. It takes no memory.
+    /// The acquire of the key was lost: its reader's call is due, or ends, and each read that joined becomes a call. It looks at the
+    /// reads of the key alone, and takes no memory.
     pub fn lose_acquire(&mut self, m: &Moment, key: &Bytes, members: u32)
+        requires { FitTogether self.old }
         ensures { self.new ≡ acquire_lost members m.entry.now key.now self.old }
     {
         self.waits.end_acquire(key);
         self.acquires.remove(key);
         let step = self.waits.step();
         lose_reader(self.alloc, &mut self.asks, key, members, step);
-        release(
+        release_at(
             self.alloc,
             &mut self.asks,
+            key,
             &self.table,
             &self.acquires,
             step,

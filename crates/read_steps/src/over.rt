@@ -1,10 +1,9 @@
 ghost use Rattle.std.specs.Prelude.{◌≡◌, ◌&&◌, ◌||◌, false, map};
-ghost use Rattle.std.specs.Option.{option_copied};
 ghost use Rattle.core_model.specs.ClockWork.{times_out};
 ghost use Rattle.core_model.specs.Lookups.{has_ticket};
 ghost use Rattle.proxy_model.specs.Keyed.{at};
 ghost use Rattle.read_model.specs.Acquires.{is_acquiring};
-ghost use Rattle.read_model.specs.SessionEnd.{is_due, is_due_acquire, session_over};
+ghost use Rattle.read_model.specs.SessionEnd.{is_due_acquire, session_over};
 ghost use Rattle.read_model.specs.TakingOff.{forgotten_all, is_writes};
 ghost use Rattle.wait_model.specs.Edits.{without};
 ghost use Rattle.wait_model.specs.State.{owned};
@@ -15,15 +14,14 @@ ghost use Rattle.read_steps.specs.Steps.{FitTogether, timed_out, left_by};
 
 use crate::moment::Moment;
 use crate::reads::Reads;
-use core_model::Acquire;
+use acquire_rows::Acquires;
 use etcd_types::Bytes;
-use keyed_rows::{RowTest, Rows};
+use keyed_rows::RowTest;
 use known_asks::{Asked, Asks, Stage, times_out};
 use lease_table::LeaseTable;
 use read_core::{key_of, release};
 use revoke_core::Waits;
 use std::alloc::Global;
-use wait_model::Sending;
 
 impl Reads {
     /// Each request that waited five seconds has a reply, all at once, and what stood on them falls. Where none did it takes constant
@@ -102,7 +100,7 @@ fn end_late(
     asks: &Asks,
     waits: &mut Waits,
     table: &mut LeaseTable,
-    acquires: &mut Rows<Acquire>,
+    acquires: &mut Acquires,
 )
     ensures waits { waits.new ≡ (ended (times_out now) (reads table.old.entries waits.old acquires.old asks.now)).own.waits }
     ensures entries { table.new.entries ≡ (ended (times_out now) (reads table.old.entries waits.old acquires.old asks.now)).own.entries }
@@ -147,7 +145,7 @@ fn drop_late(
     now: u64,
     rows: &[(u64, Asked)],
     waits: &mut Waits,
-    acquires: &mut Rows<Acquire>,
+    acquires: &mut Acquires,
 )
     ensures waits { waits.new ≡ record waits.old { spoiled = without (falls_in (times_out now) (map (λ r. r.1) rows.now) acquires.old) waits.old.spoiled } }
     ensures acquires { acquires.new ≡ without (falls_in (times_out now) (map (λ r. r.1) rows.now) acquires.old) acquires.old }
@@ -157,13 +155,7 @@ fn drop_late(
     }
 }
 
-fn drop_if_late(
-    alloc: Global,
-    now: u64,
-    ask: &Asked,
-    waits: &mut Waits,
-    acquires: &mut Rows<Acquire>,
-)
+fn drop_if_late(alloc: Global, now: u64, ask: &Asked, waits: &mut Waits, acquires: &mut Acquires)
     ensures waits { waits.new ≡ record waits.old { spoiled = without (falls_if (times_out now ask.now) ask.now acquires.old) waits.old.spoiled } }
     ensures acquires { acquires.new ≡ without (falls_if (times_out now ask.now) ask.now acquires.old) acquires.old }
 {
@@ -173,7 +165,7 @@ fn drop_if_late(
 }
 
 /// The request's due acquire falls, where there is one.
-fn drop_due(alloc: Global, ask: &Asked, waits: &mut Waits, acquires: &mut Rows<Acquire>)
+fn drop_due(alloc: Global, ask: &Asked, waits: &mut Waits, acquires: &mut Acquires)
     ensures waits { waits.new ≡ record waits.old { spoiled = without (falls_with ask.now acquires.old) waits.old.spoiled } }
     ensures acquires { acquires.new ≡ without (falls_with ask.now acquires.old) acquires.old }
 {
@@ -186,11 +178,11 @@ fn drop_due(alloc: Global, ask: &Asked, waits: &mut Waits, acquires: &mut Rows<A
 }
 
 /// Whether the request acquires this key, which is its own, and that acquire is due.
-fn acquires_due(ask: &Asked, key: &Bytes, acquires: &Rows<Acquire>) -> bool
+fn acquires_due(ask: &Asked, key: &Bytes, acquires: &Acquires) -> bool
     requires { key.now ≡ ask_key ask.now }
     ensures { result ≡ (is_acquiring ask.now.stage && is_due_acquire (at acquires.now (ask_key ask.now))) }
 {
-    is_acquiring(&ask.stage) && is_due_acquire(acquires.find(key))
+    is_acquiring(&ask.stage) && acquires.is_due(key)
 }
 
 /// What ends with the request of this ticket; whether there may be more than the request itself.
@@ -200,7 +192,7 @@ fn end_by_ticket(
     asks: &Asks,
     waits: &mut Waits,
     table: &mut LeaseTable,
-    acquires: &mut Rows<Acquire>,
+    acquires: &mut Acquires,
 ) -> bool
     ensures waits { waits.new ≡ (ended (has_ticket ticket) (reads table.old.entries waits.old acquires.old asks.now)).own.waits }
     ensures entries { table.new.entries ≡ (ended (has_ticket ticket) (reads table.old.entries waits.old acquires.old asks.now)).own.entries }
@@ -220,7 +212,7 @@ fn end_if_more(
     ask: &Asked,
     waits: &mut Waits,
     table: &mut LeaseTable,
-    acquires: &mut Rows<Acquire>,
+    acquires: &mut Acquires,
 ) -> bool
     ensures waits { waits.new ≡ (ended_with ask.now (ground table.old.entries waits.old acquires.old)).own.waits }
     ensures entries { table.new.entries ≡ (ended_with ask.now (ground table.old.entries waits.old acquires.old)).own.entries }
@@ -238,54 +230,27 @@ fn end_if_more(
 }
 
 /// All due acquires fall.
-fn end_due(waits: &mut Waits, acquires: &mut Rows<Acquire>)
+fn end_due(waits: &mut Waits, acquires: &mut Acquires)
     ensures waits { waits.new ≡ record waits.old { spoiled = without (λ k. is_due_acquire (at acquires.old k)) waits.old.spoiled } }
     ensures acquires { acquires.new ≡ without (λ k. is_due_acquire (at acquires.old k)) acquires.old }
 {
     let _rows = acquires.as_slice();
     waits.end_acquires(&DueAt { acquires });
-    acquires.remove_where(&IsDue {});
+    acquires.remove_due();
 }
 
 /// Whether the acquire of a key is due.
 #[derive(Drop)]
 struct DueAt<'a> {
-    acquires: &'a Rows<Acquire>,
+    acquires: &'a Acquires,
 }
 
 impl<'a> RowTest<bool> for DueAt<'a> {
     ghost passes = { λ s k spoiled. is_due_acquire (at s.acquires.now k) };
 
     fn passes(&self, key: &Bytes, _spoiled: &bool) -> bool {
-        is_due_acquire(self.acquires.find(key))
+        self.acquires.is_due(key)
     }
-}
-
-/// Whether an acquire is due.
-#[derive(Drop)]
-struct IsDue {}
-
-impl RowTest<Acquire> for IsDue {
-    ghost passes = { λ s k acquire. is_due acquire.sending };
-
-    fn passes(&self, _key: &Bytes, acquire: &Acquire) -> bool {
-        is_due(acquire.sending)
-    }
-}
-
-fn is_due_acquire(acquire: Option<&Acquire>) -> bool
-    ensures { result ≡ is_due_acquire (option_copied acquire.entry) }
-{
-    match acquire {
-        Some(acquire) => is_due(acquire.sending),
-        None => false,
-    }
-}
-
-fn is_due(sending: Sending) -> bool
-    ensures { result ≡ is_due sending }
-{
-    matches!(sending, Sending::Due { .. })
 }
 
 /// Whether something else ends with a request at this stage.

@@ -9,9 +9,8 @@ ghost use Rattle.wait_model.specs.Notices.{all_noticed};
 ghost use Rattle.wait_model.specs.State.{step_begun};
 ghost use Rattle.read_steps.specs.Steps.{first_reads};
 
-use core_model::Acquire;
+use acquire_rows::Acquires;
 use etcd_types::{Bytes, Event, List, NoMemory};
-use keyed_rows::Rows;
 use known_asks::{Asked, Asks};
 use lease_table::{Entry, LeaseTable};
 use revoke_core::Waits;
@@ -24,7 +23,7 @@ pub struct Reads {
     pub(crate) alloc: Global,
     pub(crate) table: LeaseTable,
     pub(crate) waits: Waits,
-    pub(crate) acquires: Rows<Acquire>,
+    pub(crate) acquires: Acquires,
     pub(crate) asks: Asks,
 }
 
@@ -51,7 +50,7 @@ impl Reads {
             alloc,
             table: LeaseTable::new(alloc),
             waits: Waits::new(alloc, prefix),
-            acquires: Rows::new(alloc),
+            acquires: Acquires::new(alloc),
             asks: Asks::new(alloc),
         }
     }
@@ -94,7 +93,7 @@ impl Reads {
     }
 
     /// The acquires that are due or out, by key.
-    pub fn acquires(&self) -> &Rows<Acquire>
+    pub fn acquires(&self) -> &Acquires
         ensures { result.now ≡ self.now.acquires }
     {
         &self.acquires

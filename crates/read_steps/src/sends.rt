@@ -2,16 +2,13 @@ ghost use Rattle.std.specs.Prelude.{◌≡◌, ℕ, map, IfOk, OnOk, OnErr};
 ghost use Rattle.std.specs.Option.{option_map};
 ghost use Rattle.core_model.specs.Groups.{group_sent};
 ghost use Rattle.core_model.specs.Sending.{called_as};
-ghost use Rattle.proxy_model.specs.Keyed.{changed_at};
-ghost use Rattle.read_model.specs.Acquires.{acquire_sent, sent_out};
+ghost use Rattle.read_model.specs.Acquires.{acquire_sent};
 ghost use Rattle.wait_model.specs.Sent.{job_sent};
 ghost use Rattle.revoke_core.specs.Sends.{after_sending};
 
 use crate::reads::Reads;
-use core_model::Acquire;
 use etcd_types::{Bytes, NoMemory};
 use keep_merge::send_group;
-use keyed_rows::Rows;
 use known_asks::Stage;
 use revoke_core::Due;
 use wait_model::Sending;
@@ -38,7 +35,7 @@ impl Reads {
     pub fn send_acquire(&mut self, call: u64, key: &Bytes)
         ensures { self.new ≡ acquire_sent call key.now self.old }
     {
-        send_out(call, key, &mut self.acquires);
+        self.acquires.send_out(call, key);
     }
 
     /// The request's own call is out under this number. It takes no memory.
@@ -55,17 +52,4 @@ impl Reads {
     {
         send_group(&mut self.asks, call, lease);
     }
-}
-
-fn send_out(call: u64, key: &Bytes, acquires: &mut Rows<Acquire>)
-    ensures { acquires.new ≡ changed_at acquires.old key.now (sent_out call) }
-{
-    let sent = match acquires.find(key) {
-        Some(acquire) => Acquire {
-            sending: Sending::Out { call },
-            ..*acquire
-        },
-        None => return,
-    };
-    acquires.replace(key, sent);
 }

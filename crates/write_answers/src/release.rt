@@ -7,9 +7,9 @@ ghost use Rattle.revoke_core.specs.Readings.{read_entries};
 ghost use Rattle.write_answers.specs.Seen.{what, seen_stage, is_written, waits, stands_by};
 
 use crate::seen::{Seen, Sight, seen_after};
+use acquire_rows::Acquires;
 use core_model::Acquire;
 use etcd_types::{Bytes, Header, NoMemory};
-use keyed_rows::Rows;
 use known_asks::{Asked, Restage, Stage};
 use lease_table::LeaseTable;
 use read_core::{key_of, shown};
@@ -28,7 +28,7 @@ pub(crate) struct After<'a> {
     /// The write whose own call is answered.
     pub(crate) write: Option<&'a Write>,
     pub(crate) table: &'a LeaseTable,
-    pub(crate) acquires: &'a Rows<Acquire>,
+    pub(crate) acquires: &'a Acquires,
 }
 
 impl<'a> Restage for After<'a> {

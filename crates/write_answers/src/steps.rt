@@ -9,9 +9,8 @@ ghost use Rattle.revoke_core.specs.Readings.{taken};
 ghost use Rattle.write_answers.specs.Answered.{parts, moment, stage_after, after_asks, Leaves};
 
 use crate::release::After;
-use core_model::Acquire;
+use acquire_rows::Acquires;
 use etcd_types::{Answer, Header, NoMemory};
-use keyed_rows::Rows;
 use known_asks::{Asks, Stage, Verdict, set_stages, waiting_changes};
 use lease_table::LeaseTable;
 use revoke_core::{NotShape, ReadAnswer, Settled, Waits};
@@ -47,7 +46,7 @@ pub fn answer_call(
     asks: &mut Asks,
     waits: &mut Waits,
     table: &mut LeaseTable,
-    acquires: &Rows<Acquire>,
+    acquires: &Acquires,
 ) -> Result<(), NotShape>
     requires step { told.when.step ≡ waits.old.step }
     ensures answered { (standing created : Bool) → ReadsOk standing (parts table.old.entries waits.old acquires.now asks.old) → Leaves result (parts table.new.entries waits.new acquires.now asks.new) (wait_answered (moment created told.when) told.call told.answer (parts table.old.entries waits.old acquires.now asks.old)) }
@@ -75,7 +74,7 @@ fn take(
     asks: &mut Asks,
     waits: &mut Waits,
     table: &mut LeaseTable,
-    acquires: &Rows<Acquire>,
+    acquires: &Acquires,
 ) -> Result<(), NoMemory>
     ensures asks { OnOk result (asks.new ≡ after_asks when call read (parts table.old.entries waits.old acquires.now asks.old)) }
     ensures waits { OnOk result (waits.new ≡ (taken call read when.session when.now (owned table.old.entries waits.old)).own.waits) }
@@ -100,7 +99,7 @@ fn changes_after(
     asks: &Asks,
     waits: &Waits,
     table: &LeaseTable,
-    acquires: &Rows<Acquire>,
+    acquires: &Acquires,
 ) -> Result<Vec<(u64, Stage)>, NoMemory>
     ensures { IfOk result (λ changes. restaged changes.items asks.now ≡ map (staged_by (stage_after when call read.now (owned table.now.entries waits.now) acquires.now)) asks.now) }
 {

@@ -7,5 +7,5 @@ use Rattle.read_steps.proofs.over.end_due.Goals as goal
 pub returns : goal.returns
 returns c = record {
   waits = c.end_acquires.ensures;
-  acquires = c.remove_where.ensures ∙ left_out is_due_acquire c.args.acquires.now c.as_slice-rows.ensures.in_order;
+  acquires = c.remove_due.ensures ∙ left_out is_due_acquire c.args.acquires.now c.as_slice-rows.ensures.in_order;
 }

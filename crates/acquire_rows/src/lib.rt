@@ -1,0 +1,9 @@
+//! The acquires of a proxy, by key, and the one of them that is sent first: found in logarithmic time, however many are due or out.
+#![tactic(auto)]
+
+mod acquires;
+mod dues;
+#[cfg(test)]
+mod tests;
+
+pub use acquires::{Acquires, DueAcquire};
