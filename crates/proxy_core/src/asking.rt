@@ -23,6 +23,7 @@ use std::alloc::Global;
 
 /// A client asks, with a ticket of its own and a drawn word.
 #[tactic(auto, unfolding(core_model::specs::Asking::on_ask))]
+#[inline(never)]
 pub(crate) fn on_ask(
     machine: &mut Machine,
     ticket: u64,
@@ -73,6 +74,7 @@ fn take_in(
 }
 
 /// A watch joins a stream.
+#[inline(never)]
 fn ask_watch(machine: &mut Machine, ticket: u64, ask: WatchAsk) -> Result<Outcome, StepFault>
     requires given { machine.old.core.watches.given < 2 ^ 63 }
     requires unknown { watch_at ticket machine.old.core.watches.watches ≡ None }
@@ -99,6 +101,7 @@ fn ask_served(machine: &mut Machine, ask: Asked, now: u64) -> Result<Outcome, St
 }
 
 /// With leasing on: a plain read goes by its key, a write waits for its turn, and a transaction may be answered from held records.
+#[inline(never)]
 fn ask_leased(machine: &mut Machine, ask: Asked, now: u64) -> Result<Outcome, StepFault>
     requires unknown { ask_at ask.ticket machine.old.core.asks ≡ None }
     requires leasing { machine.old.ranges.leasing ≡ leasing_range machine.old.core.own.waits.prefix }
@@ -118,6 +121,7 @@ fn ask_leased(machine: &mut Machine, ask: Asked, now: u64) -> Result<Outcome, St
 }
 
 /// A plain read is answered at once, or waits.
+#[inline(never)]
 fn ask_read(machine: &mut Machine, ask: Asked, now: u64) -> Result<Outcome, StepFault>
     requires unknown { ask_at ask.ticket machine.old.core.asks ≡ None }
     requires read { is_leased_read machine.old.core.own.waits.prefix ask.request ≡ true }
@@ -159,6 +163,7 @@ fn reply_to(alloc: Global, verdict: Verdict) -> Result<Answer, NoMemory>
     Ok(reply_of(verdict, text))
 }
 
+#[inline(never)]
 fn ask_write(machine: &mut Machine, ask: Asked) -> Result<Outcome, StepFault>
     requires unknown { ask_at ask.ticket machine.old.core.asks ≡ None }
     requires write { writes_keys ask.request ≡ true }
@@ -175,6 +180,7 @@ fn ask_write(machine: &mut Machine, ask: Asked) -> Result<Outcome, StepFault>
 }
 
 /// The answer to a transaction that only reads, where all of its keys are held under a live session.
+#[inline(never)]
 fn held(machine: &Machine, request: &Request, now: u64) -> Result<Option<Body>, NoMemory>
     ensures { IfOk result (λ body. body ≡ if_live (live_number machine.now.core.seat now) (held_body machine.now.core.own.entries request.now)) }
 {

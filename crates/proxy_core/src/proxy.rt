@@ -12,7 +12,7 @@ ghost use Rattle.core_laws.specs.Outcomes.{may_have};
 ghost use Rattle.proxy_core.specs.Faults.{GivesJob, AnswersFit};
 
 use crate::events::step;
-use crate::woken::{Woken, cause_of, woken_by};
+use crate::woken::{Woken, taker_of, told_by, woken_by};
 use crate::work::has_due;
 use core_face::ProxyCore;
 use core_machine::Machine as Kept;
@@ -24,7 +24,8 @@ use std::marker::Model;
 
 /// The machine of one proxy between a cluster and its clients.
 pub struct Core {
-    kept: Kept,
+    /// Behind a box, since a hub moves its machine in and out at each step.
+    kept: Box<Kept>,
     /// Whom the last step at a hub woke.
     woken: Woken,
 }
@@ -48,9 +49,9 @@ impl Model for Core {
 
     ghost coded = { Prim.hlevel (codes, operation.the_row.coded, body.the_row.coded) };
 
-    ghost view = { λ c. c.kept.core };
+    ghost view = { λ c. c.kept.value.core };
 
-    ghost invariant = { λ c. IsKept c.kept };
+    ghost invariant = { λ c. IsKept c.kept.value };
 }
 
 impl Core {
@@ -102,9 +103,10 @@ impl Machine for Core {
     ghost steps = { λ before event now answer after. Steps before event now after answer };
 
     fn step(&mut self, event: CoreEvent, now: u64) -> Result<Outcome, StepFault> {
-        let cause = cause_of(&self.kept, &event);
+        let told = told_by(&self.kept, &event);
+        let taker = taker_of(&event);
         let answer = step(&mut self.kept, event, now);
-        self.woken = woken_by(&self.kept, cause, &answer);
+        self.woken = woken_by(&self.kept, told, taker, &answer);
         answer
     }
 
@@ -125,7 +127,7 @@ impl ProxyCore for Core {
     fn new(alloc: Global, settings: Settings) -> Result<Core, NoMemory> {
         let kept = Kept::new(alloc, settings)?;
         Ok(Core {
-            kept,
+            kept: Box::new(alloc, kept)?,
             woken: Woken::nobody(),
         })
     }

@@ -9,7 +9,7 @@ use outside::{CREWS, LOT_WORDS, Roused};
 /// The crew in which workers rest: any of them can take what is due.
 pub const WORKERS: u32 = 0;
 
-/// Where more replies stand than this, everybody is woken.
+/// Where more replies stand than this, or a stream has more members, everybody is woken.
 const MOST: u32 = 1_024;
 
 /// The lot in which a connection rests that has this ticket. A connection's tickets share their lot, since each range of 2^32 tickets
@@ -18,35 +18,37 @@ pub fn lot_of_ticket(ticket: u64) -> u32 {
     ((ticket.saturating_sub(1) >> 32) % u64::from(CREWS)) as u32
 }
 
-/// What has to be known of an event, before its step, to say whom the step wakes.
-#[derive(Clone, Copy)]
-pub(crate) struct Cause {
-    /// The ticket of the watch that is asked.
-    watch: Option<u64>,
-    /// Watches may be told something by it.
-    is_shared: bool,
-}
-
-/// The cause that an event is.
-pub(crate) fn cause_of(machine: &Machine, event: &CoreEvent) -> Cause {
+/// Whose watches an event may give something to take, by what stands before its step: a watch that is asked may join a stream that
+/// stands created, and has its first message then; of what a stream brings only its members are told. A stream that breaks off
+/// tells them nothing.
+pub(crate) fn told_by(machine: &Machine, event: &CoreEvent) -> Woken {
+    let mut woken = Woken::nobody();
     match event {
         CoreEvent::Ask {
             ticket,
             request: Request::Watch(_),
             ..
-        } => Cause {
-            watch: Some(*ticket),
-            is_shared: false,
-        },
-        CoreEvent::Item { stream, .. } | CoreEvent::Cut { stream } => Cause {
-            watch: None,
-            is_shared: machine.watches.phase(*stream).is_some(),
-        },
-        _ => Cause {
-            watch: None,
-            is_shared: false,
-        },
+        } => {
+            woken.add(lot_of_ticket(*ticket));
+            woken
+        }
+        CoreEvent::Item { stream, .. } => add_members(machine, *stream, woken),
+        _ => woken,
     }
+}
+
+/// The members of a stream too.
+fn add_members(machine: &Machine, stream: u64, woken: Woken) -> Woken {
+    let mut woken = woken;
+    let mut from = 0;
+    for _ in 0..MOST {
+        let Some(ticket) = machine.watches.member_from(stream, from) else {
+            return woken;
+        };
+        woken.add(lot_of_ticket(ticket));
+        from = ticket.saturating_add(1);
+    }
+    Woken::everybody()
 }
 
 /// Whom a step woke.
@@ -88,22 +90,33 @@ impl Woken {
     }
 }
 
-/// Whom a step woke, of this cause and with this answer, by what stands behind it. A reply that was given at once woke nobody.
+/// Who takes by this event.
+pub(crate) fn taker_of(event: &CoreEvent) -> Option<u64> {
+    match event {
+        CoreEvent::Take { ticket } => Some(*ticket),
+        _ => None,
+    }
+}
+
+/// Whom a step woke that had this answer, by what stands behind it, where its event told something to these watches. A reply that
+/// was given at once woke nobody. Who took a message and has more is woken too, so that it may rest behind each without a look.
 pub(crate) fn woken_by(
     machine: &Machine,
-    cause: Cause,
+    told: Woken,
+    taker: Option<u64>,
     answer: &Result<Outcome, StepFault>,
 ) -> Woken {
     if matches!(answer, Ok(Outcome::Replied(_))) {
         return Woken::nobody();
     }
-    if cause.is_shared {
-        return Woken::everybody();
+    if matches!(told.roused, Roused::Everybody) {
+        return told;
     }
-    let mut woken = Woken::nobody();
-    // A watch may join a stream that stands created, and has its first message then.
-    if let Some(ticket) = cause.watch {
-        woken.add(lot_of_ticket(ticket));
+    let mut woken = told;
+    if let (Some(ticket), Ok(Outcome::Item(_))) = (taker, answer) {
+        if machine.watches.has_message(ticket) {
+            woken.add(lot_of_ticket(ticket));
+        }
     }
     if has_due(machine) {
         woken.add(CREWS + WORKERS);

@@ -18,6 +18,7 @@ use wait_model::Due;
 
 /// A worker asks what is due: the first due job is sent, where there is one.
 #[tactic(auto, using(crate::proofs::Works::works))]
+#[inline(never)]
 pub(crate) fn on_work(machine: &mut Machine, now: u64) -> Result<Outcome, StepFault>
     requires { CanSend machine.old.core }
     ensures step { Does machine.old.core (on_work now machine.old.core) result machine.new.core }

@@ -1,7 +1,9 @@
+pub mod Alone
 pub mod Cancelling
 pub mod Closing
 pub mod Delivering
 pub mod Joinings
+pub mod Membership
 pub mod Remaining
 pub mod Takings
 pub mod Ticketed

@@ -1,5 +1,6 @@
 pub mod Faults
 pub mod Leavings
+pub mod Members
 pub mod Standing
 pub mod Taking
 pub mod Twins

@@ -1,14 +1,20 @@
 -- The watch of a ticket: where it stands, all others, and it split off.
-use Rattle.std.specs.Prelude.{ℕ, suc, ◌≡◌, ◌<◌, Bool, not, ◌==◌, nat_lt, if◌then◌else◌, List, [], ◌∷◌, filter, length, get_or, Option, None, Some}
+use Rattle.std.specs.Prelude.{ℕ, suc, ◌≡◌, ◌<◌, Bool, false, not, ◌==◌, nat_lt, if◌then◌else◌, List, [], ◌∷◌, filter, length, get_or, Option, None, Some}
 use Rattle.watch_model.specs.declared.place.WatchPlace.{WatchPlace}
 use Rattle.watch_model.specs.declared.place.WatchPlace.TheVariants as place
 use Rattle.watch_model.specs.State.{Watch}
 use Rattle.watch_model.specs.Lookups.{watch_at}
+use Rattle.watch_model.specs.Queues.{is_nil}
 use Rattle.watch_queue.specs.declared.watching.Watching.{Watching}
 
 abbrev pub place_at : Option Watch → Option WatchPlace
 place_at None = None
 place_at (Some w) = Some w.place
+
+-- whether it has a message that wasn't taken yet
+abbrev pub has_message : Option Watch → Bool
+has_message None = false
+has_message (Some w) = not (is_nil w.queue)
 
 abbrev pub is_other_watch : ℕ → Watching → Bool
 is_other_watch ticket w = not (w.ticket == ticket)

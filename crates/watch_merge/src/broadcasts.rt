@@ -4,10 +4,13 @@ ghost use Rattle.watch_model.specs.State.{first_broadcasts};
 ghost use Rattle.watch_model.specs.Lookups.{stream_at, watch_at};
 ghost use Rattle.watch_model.specs.Merging.{merged};
 ghost use Rattle.watch_model.specs.Cuts.{cut_at, cut_answer};
+ghost use Rattle.watch_merge.specs.Members.{members_of, first_from};
+ghost use Rattle.watch_merge.specs.Watches.{has_message};
 
-use crate::merging::{close_others, has_twins, move_members};
+use crate::members::member_from;
+use crate::merging::{any_twins, close_others, move_members};
 use crate::phases::phase_of;
-use crate::watches::place_of_watch;
+use crate::watches::{has_message, place_of_watch};
 use etcd_types::KeyRange;
 use std::alloc::Global;
 use std::marker::Model;
@@ -75,11 +78,26 @@ impl Broadcasts {
         }
     }
 
+    /// Whether a message waits for the watch with this ticket.
+    pub fn has_message(&self, ticket: u64) -> bool
+        ensures { result ≡ has_message (watch_at ticket self.now.watches) }
+    {
+        has_message(ticket, &self.watches)
+    }
+
     /// How far the opening of the stream with this number has come, or nothing where it isn't known.
     pub fn phase(&self, stream: u64) -> Option<StreamPhase>
         ensures { result ≡ option_map (λ s. s.phase) (stream_at stream self.now.streams) }
     {
         phase_of(stream, &self.streams)
+    }
+
+    /// The first ticket, from this one on, of a watch that belongs to the stream with this number. Asked again from behind each,
+    /// it tells the stream's members in order, who alone are told of what the stream brings.
+    pub fn member_from(&self, stream: u64, from: u64) -> Option<u64>
+        ensures { result ≡ first_from from (members_of stream self.now.watches) }
+    {
+        member_from(stream, from, &self.watches)
     }
 
     /// How many stream numbers were given.
@@ -132,7 +150,7 @@ impl Broadcasts {
     pub fn merge_equal(&mut self, range: &KeyRange)
         ensures { self.new ≡ merged range.now self.old }
     {
-        if !has_twins(range, &self.streams) {
+        if !any_twins(&self.index, range, &self.streams) {
             return;
         }
         self.idle = false;

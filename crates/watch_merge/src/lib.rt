@@ -6,6 +6,7 @@ mod batches;
 mod broadcasts;
 mod fault;
 mod leavers;
+mod members;
 mod merging;
 mod phases;
 mod watches;

@@ -3,15 +3,22 @@ ghost use Rattle.watch_model.specs.Lookups.{stream_at};
 ghost use Rattle.watch_model.specs.Merging.{is_of, keeper, kept_by, merged_number, merged_place, merged_stream, merged_watch};
 ghost use Rattle.watch_queue.specs.Watching.{shown, moved_as};
 ghost use Rattle.watch_merge.specs.Twins.{has_twins};
-ghost use Rattle.watch_streams.specs.Rows.{IsNumbered};
+ghost use Rattle.watch_streams.specs.Rows.{Backed, IsNumbered};
 
 use etcd_types::KeyRange;
 use watch_model::{Stream, StreamPhase, WatchPlace};
 use watch_queue::Watching;
-use watch_streams::{next_of, place_of};
+use watch_streams::{RangeIndex, next_of, place_of};
 
-/// Whether a stream of the range has its members kept by an earlier one.
-pub fn has_twins(range: &KeyRange, streams: &[Stream]) -> bool
+/// Whether a stream of the range has its members kept by an earlier one. All streams are looked at only where several have the range.
+pub fn any_twins(index: &RangeIndex, range: &KeyRange, streams: &[Stream]) -> bool
+    requires { Backed index.now streams.now }
+    ensures { result ≡ has_twins range.now streams.now }
+{
+    !index.is_alone(range) && has_twins(range, streams)
+}
+
+fn has_twins(range: &KeyRange, streams: &[Stream]) -> bool
     ensures { result ≡ has_twins range.now streams.now }
 {
     for stream in streams {

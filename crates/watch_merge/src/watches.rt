@@ -5,7 +5,7 @@ ghost use Rattle.watch_model.specs.Queues.{first_item};
 ghost use Rattle.watch_model.specs.Takes.{is_last};
 ghost use Rattle.watch_model.specs.Splitting.{split};
 ghost use Rattle.watch_queue.specs.Watching.{shown};
-ghost use Rattle.watch_merge.specs.Watches.{IsWatchAt, place_at, is_other_watch, others, split_to, gap};
+ghost use Rattle.watch_merge.specs.Watches.{IsWatchAt, place_at, has_message, is_other_watch, others, split_to, gap};
 ghost use Rattle.watch_merge.specs.Taking.{joins_again, is_split, ends};
 
 use etcd_types::{NoMemory, WatchItem};
@@ -19,6 +19,17 @@ pub fn place_of_watch(ticket: u64, watches: &[Watching]) -> Option<WatchPlace>
 {
     let at = index_of(ticket, watches)?;
     Some(watches[at].place)
+}
+
+/// Whether a message waits for the watch of this ticket.
+pub fn has_message(ticket: u64, watches: &[Watching]) -> bool
+    requires { tickets_from 0 (map shown watches.now) ≡ true }
+    ensures { result ≡ has_message (watch_at ticket (map shown watches.now)) }
+{
+    match index_of(ticket, watches) {
+        None => false,
+        Some(at) => !watches[at].queue.is_empty(),
+    }
 }
 
 /// The watch of this ticket is gone.
@@ -118,7 +129,7 @@ pub fn insert_watch(watch: Watching, watches: &mut Vec<Watching>)
 }
 
 /// How many watches stand before one of this ticket.
-fn gap(ticket: u64, watches: &[Watching]) -> usize
+pub fn gap(ticket: u64, watches: &[Watching]) -> usize
     requires { tickets_from 0 (map shown watches.now) ≡ true }
     ensures bound { result ≤ length watches.now }
     ensures gap { result ≡ gap ticket watches.now }

@@ -132,7 +132,7 @@ rest_of k rows = ap (λ (n : ℕ). take n (drop k rows)) (sym (length-drop k row
 
 -- No other stream can be joined.
 
-same_digest : (r s : KeyRange) → same_range r s ≡ true → digest r ≡ digest s
+pub same_digest : (r s : KeyRange) → same_range r s ≡ true → digest r ≡ digest s
 same_digest r s e =
     ap digest (λ i. record { key = same-equal r.key s.key (and_first (same r.key s.key) (same r.end s.end) e) i; end = same-equal r.end s.end (and_second (same r.key s.key) (same r.end s.end) e) i })
 

@@ -1,3 +1,4 @@
+pub mod Alone
 pub mod Changing
 mod Halving
 pub mod Idle

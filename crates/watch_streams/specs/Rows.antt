@@ -1,9 +1,9 @@
 -- The streams' numbers in the order of the digests of their ranges. A digest is any number that a range gives; streams whose ranges
 -- share one are told apart by the ranges themselves.
-use Rattle.std.specs.Prelude.{ℕ, suc, ◌+◌, ◌*◌, ◌%◌, ◌≡◌, Bool, true, not, ◌&&◌, ◌==◌, nat_lt, nat_le, if◌then◌else◌, List, [], ◌∷◌, map, filter, Option, None, Some}
+use Rattle.std.specs.Prelude.{ℕ, suc, ◌+◌, ◌*◌, ◌%◌, ◌≡◌, ◌≤◌, Bool, true, not, ◌&&◌, ◌==◌, nat_lt, nat_le, if◌then◌else◌, List, [], ◌∷◌, map, filter, length, Option, None, Some}
 use Rattle.etcd_types.specs.declared.key_range.KeyRange.{KeyRange}
 use Rattle.watch_model.specs.State.{Stream}
-use Rattle.watch_model.specs.Lookups.{stream_at, numbered}
+use Rattle.watch_model.specs.Lookups.{same_range, stream_at, numbered}
 use Rattle.watch_model.specs.Joining.{is_joinable, better}
 use Rattle.watch_streams.specs.declared.rows.Row.{Row}
 use Rattle.watch_streams.specs.declared.index.RangeIndex.{RangeIndex}
@@ -58,6 +58,13 @@ pub record Indexed (rows : List Row) (ss : List Stream) : Type 0 where
 
 abbrev pub Backed : RangeIndex → List Stream → Type 0
 Backed index ss = index.stands ≡ true → Indexed index.rows.items ss
+
+abbrev pub of_range : KeyRange → List Stream → List Stream
+of_range range ss = filter (λ s. same_range s.stream.range range) ss
+
+-- no two streams have the range
+abbrev pub IsAlone : KeyRange → List Stream → Type 0
+IsAlone range ss = length (of_range range ss) ≤ 1
 
 pub record IsNumbered (ss : List Stream) : Type 0 where
   pub high : ℕ

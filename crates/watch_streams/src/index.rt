@@ -1,12 +1,12 @@
-ghost use Rattle.std.specs.Prelude.{◌≡◌, ◌++◌, ◌∷◌, [], None};
+ghost use Rattle.std.specs.Prelude.{◌≡◌, ◌++◌, ◌∷◌, [], true, None};
 ghost use Rattle.std.specs.Option.{option_copied};
 ghost use Rattle.watch_model.specs.State.{Stream as StreamOf};
 ghost use Rattle.watch_model.specs.Lookups.{stream_at, without_stream};
 ghost use Rattle.watch_model.specs.Joining.{best_of, opening_from_now, stream_to_join};
 ghost use Rattle.watch_model.specs.Splitting.{emptied_as};
-ghost use Rattle.watch_streams.specs.Rows.{found_in, chosen_at, Indexed, Backed, IsNumbered};
+ghost use Rattle.watch_streams.specs.Rows.{found_in, chosen_at, Indexed, Backed, IsAlone, IsNumbered};
 
-use crate::rows::{Row, before, digest, drop_row, insert_row};
+use crate::rows::{Row, at_most_one, before, digest, drop_row, insert_row};
 use crate::seats;
 use crate::streams::{is_due, place_of};
 use etcd_types::KeyRange;
@@ -89,6 +89,13 @@ impl RangeIndex {
         for stream in streams {
             self.opened(stream.number, stream.stream.reopen().0);
         }
+    }
+
+    /// Whether no two streams have the range, as far as that is seen at once.
+    pub fn is_alone(&self, range: &KeyRange) -> bool
+        ensures { (ss : _) → Backed self.now ss → result ≡ true → IsAlone range.now ss }
+    {
+        self.stands && at_most_one(digest(range), &self.rows)
     }
 
     /// The stream that a watch of the range joins, where its own next is this, or 0 while it isn't decided, and `seen`

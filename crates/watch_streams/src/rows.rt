@@ -1,5 +1,5 @@
 ghost use Rattle.std.specs.Prelude.{◌≡◌, ◌<◌, ◌≤◌, ◌+◌, true, length, nat_lt, OnOk};
-ghost use Rattle.watch_streams.specs.Rows.{mixed, digest, before, rising, with_row, is_other_row, without_row};
+ghost use Rattle.watch_streams.specs.Rows.{mixed, digest, before, rising, under, with_row, is_other_row, without_row};
 
 use etcd_types::{KeyRange, NoMemory};
 
@@ -44,6 +44,17 @@ pub fn before(limit: u64, rows: &[Row]) -> usize
             ensures { result ≡ nat_lt row.now.digest limit }
         { row.digest < limit },
     )
+}
+
+/// Whether no two rows have this digest, where digests don't fall.
+pub fn at_most_one(digest: u64, rows: &[Row]) -> bool
+    ensures { rising 0 rows.now ≡ true → result ≡ true → length (under digest rows.now) ≤ 1 }
+{
+    let next = before(digest, rows) + 1;
+    if next >= rows.len() {
+        return true;
+    }
+    rows[next].digest != digest
 }
 
 /// The row stands behind those of its digest and of smaller ones, where digests don't fall.

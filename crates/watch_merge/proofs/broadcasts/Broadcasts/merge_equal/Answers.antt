@@ -13,10 +13,10 @@ use Rattle.watch_streams.specs.Rows.{Backed}
 use Rattle.watch_streams.proofs.Indexing.{rows_map, backed_same}
 use Rattle.watch_merge.proofs.broadcasts.Broadcasts.merge_equal.Goals as goal
 
-pub returns-then-not-has_twins : goal.returns-then-not-has_twins
-returns-then-not-has_twins c =
+pub returns-then-not-any_twins : goal.returns-then-not-any_twins
+returns-then-not-any_twins c =
     let b : Broadcasts = the_view c.self.inside in
-    let none : has_twins c.args.range.now b.streams ≡ false = sym (ap (has_twins c.args.range.now) c.deref.ensures.value) ∙ sym c.has_twins.ensures ∙ c.if-not-has_twins.true in
+    let none : has_twins c.args.range.now b.streams ≡ false = sym (ap (has_twins c.args.range.now) c.deref.ensures.value) ∙ sym c.any_twins.ensures ∙ c.if-not-any_twins.true in
     subst (λ (x : Broadcasts). x ≡ merged c.args.range.now x) c.self.view_is (sym (nothing_merges c.args.range.now b none))
 
 pub invariant_of-self : goal.invariant_of-self
