@@ -2,7 +2,7 @@ ghost use Rattle.std.specs.Prelude.{◌≡◌, ◌≤◌, ℕ, List, [], ◌∷�
 ghost use Rattle.http_wire.specs.Connections.{bytes_ahead};
 ghost use Rattle.outside.specs.Calls.{Adds, Begun};
 ghost use Rattle.outside.specs.declared.link.LinkFault.{LinkFault as BeginFault};
-ghost use Rattle.stream_model.specs.Following.{Following};
+ghost use Rattle.stream_model.specs.Following.{Following, is_cancel};
 ghost use Rattle.stream_model.specs.Parts.{Follows};
 
 use crate::feed::{cut, feed, linger};
@@ -23,8 +23,21 @@ fn has_events(item: &WatchItem) -> bool {
     }
 }
 
+/// Whether a message ends its watch.
+fn is_cancel(item: &WatchItem) -> bool
+    ensures { result ≡ is_cancel item.now }
+{
+    matches!(item, WatchItem::Canceled { .. })
+}
+
+/// Whether a message ends its watch for another cause than a compaction: the core opens such a stream again at once.
+fn is_refusal(item: &WatchItem) -> bool {
+    matches!(item, WatchItem::Canceled { compact: 0, .. })
+}
+
 /// Follows a stream that was begun, until it ends: reads the answer that its source gives, feeds each of its messages to the turn,
-/// and cuts the stream at the end, but where the core doesn't know it any more or no further step can be made.
+/// and cuts the stream at the end, but where the core doesn't know it any more or no further step can be made. A message that cancels
+/// the watch is the last one: a member leaves such a stream open.
 pub fn follow_on<R: Wait, T: Turn, S: Source, C: Clock>(
     rt: &R,
     alloc: Global,
@@ -56,8 +69,13 @@ pub fn follow_on<R: Wait, T: Turn, S: Source, C: Clock>(
                 return cut(turn, clock, stream, end);
             }
         };
+        if is_refusal(&item) {
+            linger(clock, eventful);
+        }
         let more = has_events(&item);
+        let is_last = is_cancel(&item);
         match feed(turn, clock, stream, item) {
+            None if is_last => return cut(turn, clock, stream, StreamEnd::Cut),
             None => eventful |= more,
             Some(end) => return end,
         }

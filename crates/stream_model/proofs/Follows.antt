@@ -26,7 +26,7 @@ use Rattle.serve_model.specs.Dialog.{is_worn}
 use Rattle.serve_model.proofs.Steps.{adds_then, adds_none, every_append}
 use Rattle.stream_model.specs.declared.ends.StreamEnd.{StreamEnd}
 use Rattle.stream_model.specs.declared.ends.StreamEnd.TheVariants as how
-use Rattle.stream_model.specs.Following.{Cause, Message, Lines, Opened, Reads, OpenedMore, lines_of, AreRead, Stands, HasRisen, IsQuiet, wanted, end_by, steps_of, failed, Cuts, Ends, Following, Fed}
+use Rattle.stream_model.specs.Following.{Cause, Message, is_cancel, AllGo, Goes, Lines, Opened, Reads, OpenedMore, lines_of, AreRead, Stands, HasRisen, IsQuiet, wanted, end_by, steps_of, failed, Cuts, Ends, Following, Fed}
 use Rattle.stream_model.specs.Parts.{Opens, StandsNext, Nexts, is_for_memory, end_of, Refuses, Feeds, IsCut}
 
 -- ---- lines
@@ -52,22 +52,35 @@ reads_more lines next new line (Some all) (Some bytes) (Some after) r n = opened
 
 pub just_opened : (stream : ℕ) (left rest : Option (List ℕ)) (framing : Framing) (made : Option (List Step)) → ReadsAhead AnswerRead left rest (Ok (200, framing))
     → Fed stream left rest framing made made
-just_opened stream None rest framing made r = record { messages = []; read = tt; opened = tt; adds = adds_none made }
+just_opened stream None rest framing made r = record { messages = []; read = tt; goes = tt; opened = tt; adds = adds_none made }
 just_opened stream (Some all) None framing made r = absurd r
-just_opened stream (Some all) (Some bytes) framing made r = record { messages = []; read = tt; opened = (framing, bytes, r, (refl, refl)); adds = adds_none made }
+just_opened stream (Some all) (Some bytes) framing made r = record { messages = []; read = tt; goes = tt; opened = (framing, bytes, r, (refl, refl)); adds = adds_none made }
 
 pub fed_more : (stream : ℕ) (left mid rest : Option (List ℕ)) (old new : Framing) (a b c : Option (List Step)) (earlier later : ℕ) (item : WatchItem) → Fed stream left mid old a b
-    → Nexts old new mid rest earlier later (Ok item) → Feeds stream item b c None → Fed stream left rest new a c
-fed_more stream left mid rest old new a b c earlier later item f n s =
+    → Nexts old new mid rest earlier later (Ok item) → is_cancel item ≡ false → Feeds stream item b c None → Fed stream left rest new a c
+fed_more stream left mid rest old new a b c earlier later item f n g s =
     let m : Message = record { line = n.0; item = item; now = s.0 } in
     record {
       messages = f.messages ++ m ∷ [];
       read = every_append (λ (x : Message). item_of x.line ≡ Ok x.item) f.messages (m ∷ []) f.read (n.2, tt);
+      goes = every_append (λ (x : Message). is_cancel x.item ≡ false) f.messages (m ∷ []) f.goes (g, tt);
       opened = subst (λ (ls : List (List ℕ)). Reads (Opened ls) left new rest) (sym (map-append (λ (x : Message). x.line) f.messages (m ∷ []))) (reads_more (lines_of f.messages) old new n.0 left mid rest f.opened n.1);
       adds = subst (Adds a c) (sym (map-append (λ (x : Message). entry_of (Item stream x.item) x.now (Ok Noted)) f.messages (m ∷ []))) (adds_then a b c (steps_of stream f.messages) (entry_of (Item stream item) s.0 (Ok Noted) ∷ []) f.adds s.1);
     }
 
 -- ---- the end
+
+quiet_goes : (cause : Cause) (ms : List Message) → IsQuiet cause → AllGo ms → Goes cause ms
+quiet_goes Cause.Unready ms q g = g
+quiet_goes (Cause.Unanswered fault) ms q g = g
+quiet_goes (Cause.Refused status framing) ms q g = g
+quiet_goes (Cause.Broken fault) ms q g = g
+quiet_goes Cause.Ended ms q g = g
+quiet_goes Cause.Over ms q g = absurd q
+quiet_goes (Cause.Unread line) ms q g = g
+quiet_goes (Cause.NoMessage line) ms q g = g
+quiet_goes (Cause.Unfed m fault) ms q g = absurd q
+quiet_goes (Cause.Late m) ms q g = g
 
 quiet_failed : (stream : ℕ) (cause : Cause) → IsQuiet cause → failed stream cause ≡ []
 quiet_failed stream Cause.Unready q = refl
@@ -75,6 +88,7 @@ quiet_failed stream (Cause.Unanswered fault) q = refl
 quiet_failed stream (Cause.Refused status framing) q = refl
 quiet_failed stream (Cause.Broken fault) q = refl
 quiet_failed stream Cause.Ended q = refl
+quiet_failed stream Cause.Over q = absurd q
 quiet_failed stream (Cause.Unread line) q = refl
 quiet_failed stream (Cause.NoMessage line) q = refl
 quiet_failed stream (Cause.Unfed m fault) q = absurd q
@@ -92,6 +106,7 @@ not_opened stream left rest earlier later a b first end o c = record {
   messages = [];
   read = tt;
   cause = o.0;
+  goes = quiet_goes o.0 [] o.1 tt;
   stands = o.3;
   risen = o.4;
   tail = c.0;
@@ -103,9 +118,9 @@ not_opened stream left rest earlier later a b first end o c = record {
 pub no_wire : (stream : ℕ) (left : Option (List ℕ)) (earlier : ℕ) (a b : Option (List Step)) (end : StreamEnd) → IsCut stream how.NoMemory end a b
     → Following stream left earlier earlier a b end
 no_wire stream None earlier a b end c =
-    record { messages = []; read = tt; cause = Cause.Unready; stands = tt; risen = tt; tail = c.0; ends = quiet_cut stream Cause.Unready how.NoMemory end c.0 tt refl c.1; adds = c.2 }
+    record { messages = []; read = tt; cause = Cause.Unready; goes = tt; stands = tt; risen = tt; tail = c.0; ends = quiet_cut stream Cause.Unready how.NoMemory end c.0 tt refl c.1; adds = c.2 }
 no_wire stream (Some all) earlier a b end c =
-    record { messages = []; read = tt; cause = Cause.Unready; stands = refl; risen = tt; tail = c.0; ends = quiet_cut stream Cause.Unready how.NoMemory end c.0 tt refl c.1; adds = c.2 }
+    record { messages = []; read = tt; cause = Cause.Unready; goes = tt; stands = refl; risen = tt; tail = c.0; ends = quiet_cut stream Cause.Unready how.NoMemory end c.0 tt refl c.1; adds = c.2 }
 
 -- what stands behind the messages
 stands_behind : (cause : Cause) (ms : List Message) (old : Framing) (all mid : List ℕ) → Opened (lines_of ms) all old mid → StandsNext cause old mid → Stands cause ms all
@@ -114,6 +129,7 @@ stands_behind (Cause.Unanswered fault) ms old all mid o n = absurd n
 stands_behind (Cause.Refused status framing) ms old all mid o n = absurd n
 stands_behind (Cause.Broken fault) ms old all mid o n = (old, n.0, mid, n.1, o, n.2)
 stands_behind Cause.Ended ms old all mid o n = (old, n.0, mid, n.1, o, n.2)
+stands_behind Cause.Over ms old all mid o n = absurd n
 stands_behind (Cause.Unread line) ms old all mid o n = (n.0, n.1, opened_more (lines_of ms) old n.0 line all mid n.1 o n.2)
 stands_behind (Cause.NoMessage line) ms old all mid o n = ((n.0.0, n.0.1, opened_more (lines_of ms) old n.0.0 line all mid n.0.1 o n.0.2), n.1)
 stands_behind (Cause.Unfed m fault) ms old all mid o n = absurd n
@@ -146,6 +162,7 @@ risen_since (Cause.Broken wire.NoMemory) n m k le r = tt
 risen_since Cause.Unready n m k le r = tt
 risen_since (Cause.Refused status framing) n m k le r = tt
 risen_since Cause.Ended n m k le r = tt
+risen_since Cause.Over n m k le r = tt
 risen_since (Cause.Unread line) n m k le r = tt
 risen_since (Cause.NoMessage line) n m k le r = tt
 risen_since (Cause.Unfed message fault) n m k le r = tt
@@ -158,6 +175,7 @@ none_came stream left mid rest old new start earlier later a b c first end f le 
   messages = f.messages;
   read = f.read;
   cause = n.0;
+  goes = quiet_goes n.0 f.messages n.1 f.goes;
   stands = stands_ahead n.0 f.messages old left mid f.opened n.3;
   risen = risen_since n.0 start earlier later le n.4;
   tail = s.0;
@@ -165,26 +183,53 @@ none_came stream left mid rest old new start earlier later a b c first end f le 
   adds = adds_then a b c (steps_of stream f.messages) s.0 f.adds s.2;
 }
 
+opened_at : (ms : List Message) (left rest : Option (List ℕ)) (framing : Framing) → Reads (Opened (lines_of ms)) left framing rest → IfSome left (Stands Cause.Over ms)
+opened_at ms None rest framing o = tt
+opened_at ms (Some all) None framing o = absurd o
+opened_at ms (Some all) (Some bytes) framing o = (framing, bytes, o)
+
+-- the last message ended the watch
+pub was_over : (stream : ℕ) (left mid rest : Option (List ℕ)) (old new : Framing) (start later before behind : ℕ) (a b c d : Option (List Step)) (item : WatchItem) (end : StreamEnd)
+    → Fed stream left mid old a b → Nexts old new mid rest before behind (Ok item) → is_cancel item ≡ true → Feeds stream item b c None → IsCut stream how.Cut end c d
+    → Following stream left start later a d end
+was_over stream left mid rest old new start later before behind a b c d item end f n g s t =
+    let m : Message = record { line = n.0; item = item; now = s.0 } in
+    let ms = f.messages ++ m ∷ [] in
+    let opened = subst (λ (ls : List (List ℕ)). Reads (Opened ls) left new rest) (sym (map-append (λ (x : Message). x.line) f.messages (m ∷ []))) (reads_more (lines_of f.messages) old new n.0 left mid rest f.opened n.1) in
+    let adds = subst (Adds a c) (sym (map-append (λ (x : Message). entry_of (Item stream x.item) x.now (Ok Noted)) f.messages (m ∷ []))) (adds_then a b c (steps_of stream f.messages) (entry_of (Item stream item) s.0 (Ok Noted) ∷ []) f.adds s.1) in
+    record {
+      messages = ms;
+      read = every_append (λ (x : Message). item_of x.line ≡ Ok x.item) f.messages (m ∷ []) f.read (n.2, tt);
+      cause = Cause.Over;
+      goes = (f.messages, m, refl, g, f.goes);
+      stands = opened_at ms left rest new opened;
+      risen = tt;
+      tail = t.0;
+      ends = Ends.cutting Cause.Over how.Cut end t.0 refl t.1;
+      adds = adds_then a c d (steps_of stream ms) t.0 adds t.2;
+    }
+
 -- what a message that couldn't be fed is as a cause
 abbrev pub IsUnfed : ℕ → List ℕ → WatchItem → StreamEnd → List Step → Type 0
 IsUnfed stream line item end steps =
     (cause : Cause) × Ends stream cause end steps
     × ((ms : List Message) (left : Option (List ℕ)) → IfSome left (λ (all : List ℕ). OpenedMore ms line all × (item_of line ≡ Ok item)) → IfSome left (Stands cause ms))
     × ((earlier later : ℕ) → HasRisen cause earlier later)
+    × ((ms : List Message) → AllGo ms → Goes cause ms)
 
 unfed : (stream : ℕ) (line : List ℕ) (item : WatchItem) (end : StreamEnd) (steps : List Step) → Refuses stream item end steps → IsUnfed stream line item end steps
 unfed stream line item _ _ (Refuses.cutting now last steps c) =
     let m : Message = record { line = line; item = item; now = now } in
-    (Cause.Unfed m step.NoMemory, Ends.cutting (Cause.Unfed m step.NoMemory) how.NoMemory last steps refl c, λ ms left p. p, λ earlier later. tt)
+    (Cause.Unfed m step.NoMemory, Ends.cutting (Cause.Unfed m step.NoMemory) how.NoMemory last steps refl c, λ ms left p. p, λ earlier later. tt, λ ms g. g)
 unfed stream line item _ _ (Refuses.gone now) =
     let m : Message = record { line = line; item = item; now = now } in
-    (Cause.Unfed m (step.NoSuchStream stream), Ends.gone m, λ ms left p. p, λ earlier later. tt)
+    (Cause.Unfed m (step.NoSuchStream stream), Ends.gone m, λ ms left p. p, λ earlier later. tt, λ ms g. g)
 unfed stream line item _ _ (Refuses.worn now) =
     let m : Message = record { line = line; item = item; now = now } in
-    (Cause.Unfed m step.Worn, Ends.worn m, λ ms left p. p, λ earlier later. tt)
+    (Cause.Unfed m step.Worn, Ends.worn m, λ ms left p. p, λ earlier later. tt, λ ms g. g)
 unfed stream line item _ _ Refuses.late =
     let m : Message = record { line = line; item = item; now = 0 } in
-    (Cause.Late m, Ends.late m, λ ms left p. p, λ earlier later. tt)
+    (Cause.Late m, Ends.late m, λ ms left p. p, λ earlier later. tt, λ ms g. g)
 
 -- a message came that couldn't be fed
 more_stands : (ms : List Message) (old new : Framing) (line : List ℕ) (left mid rest : Option (List ℕ)) → Reads (Opened (lines_of ms)) left old mid
@@ -206,6 +251,7 @@ not_fed stream left mid rest old new start earlier later a b c item end f n s =
       messages = f.messages;
       read = f.read;
       cause = is.0;
+      goes = is.4 f.messages f.goes;
       stands = is.2 f.messages left (both_stand (OpenedMore f.messages n.0) (item_of n.0 ≡ Ok item) left (more_stands f.messages old new n.0 left mid rest f.opened n.1) n.2);
       risen = is.3 start later;
       tail = s.0;

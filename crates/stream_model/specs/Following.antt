@@ -1,8 +1,10 @@
 -- A stream of a member, followed: an answer of status 200 whose body comes in lines, each of them a message, as etcd's JSON gateway
--- sends them; one step on Item for each, in order; and at its end one on Cut.
-use Rattle.std.specs.Prelude.{◌≡◌, ℕ, List, [], ◌∷◌, ◌++◌, map, Option, None, Some, IfSome, Result, Ok, Err, ⊤}
+-- sends them; one step on Item for each, in order; and at its end one on Cut. It ends behind the message that cancels its watch, since
+-- a member leaves the body of such a stream open.
+use Rattle.std.specs.Prelude.{◌≡◌, ℕ, Bool, true, false, List, [], ◌∷◌, ◌++◌, map, Option, None, Some, IfSome, Result, Ok, Err, ⊤}
 use Rattle.outside.specs.Faults.{Rose}
 use Rattle.etcd_types.specs.declared.watch.WatchItem.{WatchItem}
+use Rattle.etcd_types.specs.declared.watch.WatchItem.TheVariants.{Canceled}
 use Rattle.json_model.specs.declared.fault.NotReply.TheVariants.{Unreadable}
 use Rattle.json_model.specs.WatchItems.{item_of}
 use Rattle.http_wire.specs.declared.fault.WireFault.{WireFault}
@@ -51,16 +53,27 @@ lines_of messages = map (λ m. m.line) messages
 abbrev pub AreRead : List Message → Type 0
 AreRead messages = Every (λ m. item_of m.line ≡ Ok m.item) messages
 
+-- a message that ends the watch
+abbrev pub is_cancel : WatchItem → Bool
+is_cancel (Canceled header compact) = true
+is_cancel _ = false
+
+-- none of them ends the watch
+abbrev pub AllGo : List Message → Type 0
+AllGo messages = Every (λ m. is_cancel m.item ≡ false) messages
+
 -- ---- why it ended
 
--- no memory for a wire; no answer; an answer of another status; what follows is no line; the body's end; a line that memory was wanting
--- to read; a line that is no message; a message that the core refused; a message after the hub's last step
+-- no memory for a wire; no answer; an answer of another status; what follows is no line; the body's end; the last message was fed and ended
+-- the watch; a line that memory was wanting to read; a line that is no message; a message that the core refused; a message after the hub's
+-- last step
 pub data Cause : Type 0 where
   Unready : Cause
   Unanswered : WireFault → Cause
   Refused : ℕ → Framing → Cause
   Broken : WireFault → Cause
   Ended : Cause
+  Over : Cause
   Unread : List ℕ → Cause
   NoMessage : List ℕ → Cause
   Unfed : Message → StepFault → Cause
@@ -79,6 +92,7 @@ Stands (Broken fault) messages all =
     (old : Framing) × (new : Framing) × (mid : List ℕ) × (rest : List ℕ) × Opened (lines_of messages) all old mid × NextLine LINE_LIMIT old new mid rest (Err fault)
 Stands Ended messages all =
     (old : Framing) × (new : Framing) × (mid : List ℕ) × (rest : List ℕ) × Opened (lines_of messages) all old mid × NextLine LINE_LIMIT old new mid rest (Ok None)
+Stands Over messages all = (framing : Framing) × (rest : List ℕ) × Opened (lines_of messages) all framing rest
 Stands (Unread line) messages all = OpenedMore messages line all
 Stands (NoMessage line) messages all = OpenedMore messages line all × (item_of line ≡ Err Unreadable)
 Stands (Unfed m fault) messages all = OpenedMore messages m.line all × (item_of m.line ≡ Ok m.item)
@@ -96,6 +110,7 @@ wanted (Unanswered fault) = Some (end_by fault)
 wanted (Refused status framing) = Some how.Cut
 wanted (Broken fault) = Some (end_by fault)
 wanted Ended = Some how.Cut
+wanted Over = Some how.Cut
 wanted (Unread line) = Some how.NoMemory
 wanted (NoMessage line) = Some how.Cut
 wanted (Unfed m step.NoMemory) = Some how.NoMemory
@@ -108,8 +123,14 @@ HasRisen (Unanswered wire.ReadFault) earlier later = Rose earlier later
 HasRisen (Broken wire.ReadFault) earlier later = Rose earlier later
 HasRisen _ earlier later = ⊤
 
--- it has no step of its own
+-- the last message ended the watch, and no other one did
+abbrev pub Goes : Cause → List Message → Type 0
+Goes Over messages = (front : List Message) × (m : Message) × (messages ≡ front ++ m ∷ []) × (is_cancel m.item ≡ true) × AllGo front
+Goes _ messages = AllGo messages
+
+-- it comes of no message
 abbrev pub IsQuiet : Cause → Type 0
+IsQuiet Over = ⊥
 IsQuiet (Unfed m fault) = ⊥
 IsQuiet _ = ⊤
 
@@ -140,15 +161,17 @@ pub record Following (stream : ℕ) (left : Option (List ℕ)) (earlier later : 
   pub messages : List Message
   pub read : AreRead messages
   pub cause : Cause
+  pub goes : Goes cause messages
   pub stands : IfSome left (Stands cause messages)
   pub risen : HasRisen cause earlier later
   pub tail : List Step
   pub ends : Ends stream cause end tail
   pub adds : Adds made made' (steps_of stream messages ++ tail)
 
--- the messages that were fed so far
+-- the messages that were fed so far, where the watch goes on
 pub record Fed (stream : ℕ) (left rest : Option (List ℕ)) (framing : Framing) (made made' : Option (List Step)) : Type 0 where
   pub messages : List Message
   pub read : AreRead messages
+  pub goes : AllGo messages
   pub opened : Reads (Opened (lines_of messages)) left framing rest
   pub adds : Adds made made' (steps_of stream messages)
