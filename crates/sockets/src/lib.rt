@@ -5,10 +5,14 @@
 //! standard error, and so is why the host listens or accepts no more.
 #![tactic(auto)]
 
+mod answer;
+mod answer_end;
 mod answer_stream;
 mod connection;
 mod head_end;
 mod host;
+mod idle;
+mod lasting;
 mod limits;
 mod link;
 mod member;

@@ -5,7 +5,6 @@ use crate::limits::LinkLimits;
 use crate::member::Member;
 use crate::members::Members;
 use crate::times::{Until, time};
-use crate::transfer::receive_all;
 use etcd_types::Bytes;
 use outside::{Link, LinkFault};
 use std::alloc::Global;
@@ -16,7 +15,8 @@ use std::rt::Clock as Times;
 use std::sync::{Arc, Wait};
 use std::time::Duration;
 
-/// The link to the members of a cluster over sockets. Each call has a connection of its own.
+/// The link to the members of a cluster over sockets. A call uses a connection that an earlier call left, where one is there,
+/// and a stream has one of its own.
 #[derive(Drop)]
 pub struct SocketLink<R: Drop> {
     rt: R,
@@ -65,14 +65,16 @@ impl<R: Net<Stream = TcpStream> + Times + Wait + Eprint + Drop + Copy> SocketLin
             self.limits.read
         };
         let until = Until::after(&self.rt, limit)?;
-        let stream = member.begin(&self.rt, call, self.limits.connect, until)?;
-        receive_all(&self.rt, alloc, &stream, until)
+        member.answer(&self.rt, alloc, call, self.limits.connect, until)
     }
 
     // Makes a whole call, and tells whether the member answers.
     fn called(&self, alloc: Global, member: u32, call: &[u8]) -> io::Result<Vec<u8>> {
         let member = self.members.member(member)?;
         let answer = self.answer(alloc, member, call);
+        if answer.is_err() {
+            member.idle.close(&self.rt);
+        }
         self.members.tell(&self.rt, member, answer.as_ref().err());
         answer
     }

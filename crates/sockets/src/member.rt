@@ -1,3 +1,6 @@
+use crate::answer::receive_answer;
+use crate::idle::Idle;
+use crate::lasting::lasting;
 use crate::times::Until;
 use crate::transfer::{receive, send};
 use etcd_types::{Bytes, NoMemory};
@@ -43,6 +46,8 @@ pub(crate) struct Member {
     pub(crate) asked: Mutex<Asked>,
     /// 1 where it was told last that it doesn't answer.
     pub(crate) told: AtomicU64,
+    /// Connections that calls left.
+    pub(crate) idle: Idle,
 }
 
 /// The address of a host behind this one, or its first.
@@ -80,6 +85,7 @@ impl Member {
             address: Mutex::new(address),
             asked: Mutex::new(Asked { at: 0, good: false }),
             told: AtomicU64::new(0),
+            idle: Idle::new(alloc),
         })
     }
 
@@ -115,6 +121,18 @@ impl Member {
         Err(io::Error::from(ErrorKind::TimedOut))
     }
 
+    // Connects, which is to take so many milliseconds at most. What is written is sent at once.
+    fn reach<R: Net<Stream = TcpStream> + Times + Wait>(
+        &self,
+        rt: &R,
+        connect: u64,
+        until: Until,
+    ) -> io::Result<TcpStream> {
+        let stream = self.connect(rt, until.or_after(rt, connect)?)?;
+        let _ = stream.set_nodelay(true);
+        Ok(stream)
+    }
+
     /// Connects, which is to take so many milliseconds at most, and sends a call.
     pub(crate) fn begin<R: Net<Stream = TcpStream> + Times + Wait>(
         &self,
@@ -123,10 +141,32 @@ impl Member {
         connect: u64,
         until: Until,
     ) -> io::Result<TcpStream> {
-        let stream = self.connect(rt, until.or_after(rt, connect)?)?;
-        let _ = stream.set_nodelay(true);
+        let stream = self.reach(rt, connect, until)?;
         send(rt, &stream, call, until)?;
         Ok(stream)
+    }
+
+    /// Makes a whole call: on a connection that an earlier one left, or else on a new one, which is to take so many
+    /// milliseconds at most. It is sent once, whatever comes of it, since it may be done where its answer is lost.
+    pub(crate) fn answer<R: Net<Stream = TcpStream> + Times + Wait>(
+        &self,
+        rt: &R,
+        alloc: Global,
+        call: &[u8],
+        connect: u64,
+        until: Until,
+    ) -> io::Result<Vec<u8>> {
+        let call = lasting(alloc, call)?;
+        let stream = match self.idle.take(rt) {
+            Some(stream) => stream,
+            None => self.reach(rt, connect, until)?,
+        };
+        send(rt, &stream, call.as_slice(), until)?;
+        let (answer, is_whole) = receive_answer(rt, alloc, &stream, until)?;
+        if is_whole {
+            self.idle.keep(rt, stream);
+        }
+        Ok(answer)
     }
 
     /// Asks whether it answers, on a connection of its own.

@@ -4,6 +4,7 @@ ghost use Rattle.std.specs.Io.{ReadsAtMost};
 use crate::connection::Shared;
 use crate::head_end::HeadEnd;
 use crate::times::{TRIES, Until};
+use crate::transfer::glance;
 use outside::{Failed, Source};
 use std::alloc::Global;
 use std::io;
@@ -104,17 +105,11 @@ impl<R: Wait + Times + Drop> Source for SocketSource<R> {
 
     /// The other end is gone where the connection was closed or failed. One that closed its writing half counts as gone.
     fn check(&mut self) -> Result<(), Failed> {
-        let stream = &self.shared.stream;
-        let mut room = [0u8; 1];
-        let looked = match stream.set_nonblocking(true) {
-            Ok(()) => stream.peek(&mut room),
-            Err(error) => Err(error),
-        };
-        let there = match looked {
+        let is_there = match glance(&self.shared.stream) {
             Ok(count) => count > 0,
             Err(error) => { matches!(error.kind(), ErrorKind::WouldBlock | ErrorKind::Interrupted) }
         };
-        if there && stream.set_nonblocking(false).is_ok() {
+        if is_there {
             return Ok(());
         }
         self.faults = self.faults.saturating_add(1);

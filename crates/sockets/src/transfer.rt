@@ -2,15 +2,10 @@
 ghost use Rattle.std.specs.Io.{ReadsAtMost};
 
 use crate::times::{TRIES, Until};
-use outside::CALL_LIMIT;
-use std::alloc::Global;
 use std::io;
 use std::io::{ErrorKind, Read, Write};
 use std::net::TcpStream;
 use std::rt::Clock as Times;
-
-/// How much of an answer is read at once.
-const PIECE: usize = 16_384;
 
 // A limit of time that has passed is told as one.
 fn timed(error: io::Error) -> io::Error {
@@ -66,27 +61,11 @@ pub(crate) fn receive<R: Times>(
     Err(io::Error::from(ErrorKind::Interrupted))
 }
 
-/// Reads up to the end of the connection. An answer without a byte is none.
-pub(crate) fn receive_all<R: Times>(
-    rt: &R,
-    alloc: Global,
-    stream: &TcpStream,
-    until: Until,
-) -> io::Result<Vec<u8>> {
-    let mut all = Vec::new(alloc);
-    let mut room = [0u8; PIECE];
-    for _ in 0..TRIES {
-        let count = receive(rt, stream, &mut room, until)?;
-        if count == 0 {
-            break;
-        }
-        all.extend_from_slice(&room[..count])?;
-        if all.len() > CALL_LIMIT {
-            return Err(io::Error::new(ErrorKind::InvalidData, "the answer has more than 64 MiB"));
-        }
-    }
-    if all.is_empty() {
-        return Err(io::Error::from(ErrorKind::UnexpectedEof));
-    }
-    Ok(all)
+/// Looks whether a byte has come, and waits for none. It is `WouldBlock` where none has, and 0 at the end.
+pub(crate) fn glance(stream: &TcpStream) -> io::Result<usize> {
+    stream.set_nonblocking(true)?;
+    let mut room = [0u8; 1];
+    let looked = stream.peek(&mut room);
+    stream.set_nonblocking(false)?;
+    looked
 }
