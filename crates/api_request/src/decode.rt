@@ -42,6 +42,7 @@ fn request_in(alloc: Global, path: Path, object: &Map<String, Value>) -> Result<
 }
 
 /// The request without a look at what isn't served.
+#[inline(never)]
 fn any_request(alloc: Global, path: Path, object: &Map<String, Value>) -> Result<Request, ApiFault>
     ensures { GivesRequest (λ request. request) result (of_request (spec.request_in max_depth path (members_view object.now.entries))) }
 {
@@ -52,6 +53,7 @@ fn any_request(alloc: Global, path: Path, object: &Map<String, Value>) -> Result
 }
 
 /// The members of the body's object. An empty body is an object without members.
+#[inline(never)]
 fn body_members(alloc: Global, body: &[u8]) -> Result<Map<String, Value>, ApiFault>
     ensures { GivesRequest (λ m. members_view m.entries) result (spec.or_not_json (spec.body_members body.now)) }
 {
@@ -65,6 +67,7 @@ fn body_members(alloc: Global, body: &[u8]) -> Result<Map<String, Value>, ApiFau
     }
 }
 
+#[inline(never)]
 fn served(alloc: Global, extra: Option<Extra>, request: Request) -> Result<Request, ApiFault>
     ensures { GivesRequest (λ request. request) result (spec.served extra request) }
 {

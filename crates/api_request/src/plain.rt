@@ -67,6 +67,7 @@ fn read_of(alloc: Global, key: Bytes) -> Request
 }
 
 /// The request of a path and a body that are as a plain read of one key is written.
+#[inline(never)]
 pub(crate) fn plain_request(alloc: Global, path: &[u8], body: &[u8]) -> Option<Request>
     ensures { IfSome result (λ request. request_of Client path.now body.now ≡ Ok request) }
 {

@@ -13,6 +13,9 @@ const FIRST_ROOM: usize = 4_096;
 /// How much is read at once where reads fill their room.
 const READ_ROOM: usize = 65_536;
 
+/// What holds no byte keeps no more room than this.
+const IDLE_ROOM: usize = 16_384;
+
 /// The bytes that were read and not used yet. They lie in a vector that is kept and grows as they need it.
 #[derive(Debug, Drop)]
 pub(crate) struct Buffer {
@@ -65,6 +68,18 @@ impl Buffer {
             self.end = 0;
         } else {
             self.start += count;
+        }
+    }
+
+    /// Gives back the room that a large request took, where no byte is held and there is memory for a smaller one.
+    pub(crate) fn settle(&mut self)
+        ensures { held self.new ≡ held self.old }
+    {
+        if !self.is_empty() || self.room.len() <= IDLE_ROOM {
+            return;
+        }
+        if let Ok(small) = Buffer::new(self.alloc) {
+            *self = small;
         }
     }
 

@@ -100,7 +100,8 @@ fn head_from(
     })
 }
 
-/// Reads the bytes as one whole head of a request.
+/// Reads the bytes as one whole head of a request. Its frame is large, and gone while a connection rests for its next head.
+#[inline(never)]
 pub(crate) fn parse_head(alloc: Global, bytes: &[u8]) -> Result<Head, WireFault>
     ensures { spec.IsHead bytes.now result }
 {

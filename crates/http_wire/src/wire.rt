@@ -18,7 +18,8 @@ use std::marker::Model;
 /// source, and reads from it no more than it needs. What a call gives depends on the bytes alone, in whatever pieces
 /// they come. After a fault, want of memory too, each reading call answers that fault again.
 ///
-/// It begins with 4 KB and grows with what it has to hold at once, up to twice the limit of a head.
+/// It begins with 4 KB and grows with what it has to hold at once, up to twice the limit of a head. Where it grew above 16 KB and
+/// holds nothing, it begins anew before the next head is read.
 #[derive(Debug, Drop)]
 pub struct Wire {
     buffer: Buffer,
@@ -92,6 +93,7 @@ impl Wire {
         if let Some(fault) = self.fault {
             return Err(fault);
         }
+        self.buffer.settle();
         let head = next_head(self.alloc, &mut self.buffer, source);
         self.remember(head)
     }

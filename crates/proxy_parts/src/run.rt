@@ -38,6 +38,7 @@ pub struct PartDone<S, K> {
 }
 
 /// Works over a place until no further step can be made.
+#[inline(never)]
 fn run_worker<R: Wait, L: Link, P: Spawner<Pass = Place>, C: Clock>(
     rt: &R,
     alloc: Global,
@@ -60,6 +61,7 @@ where
 }
 
 /// Ticks over a place until no further step can be made.
+#[inline(never)]
 fn run_ticker<R: Wait, C: Clock, D: Draw>(
     rt: &R,
     place: Place,
@@ -77,6 +79,7 @@ fn run_ticker<R: Wait, C: Clock, D: Draw>(
 }
 
 /// Serves a connection over a place.
+#[inline(never)]
 fn run_connection<R: Wait, S: Source, K: Sink, C: Clock, D: Draw>(
     rt: &R,
     alloc: Global,
@@ -101,6 +104,7 @@ fn run_connection<R: Wait, S: Source, K: Sink, C: Clock, D: Draw>(
 }
 
 /// Begins a stream and follows it over a place.
+#[inline(never)]
 fn run_follower<R: Wait, L: Link, C: Clock>(
     rt: &R,
     alloc: Global,

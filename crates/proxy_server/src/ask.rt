@@ -56,6 +56,7 @@ fn leave<T: Turn, C: Clock>(turn: &mut T, clock: &mut C, ticket: u64, end: Sessi
 }
 
 /// Asks with a ticket, and serves the request until its reply is whole.
+#[inline(never)]
 pub(crate) fn ask<R: Wait, T: Turn, S: Source, K: Sink, C: Clock>(
     rt: &R,
     alloc: Global,

@@ -19,6 +19,7 @@ use std::alloc::Global;
 use std::sync::Wait;
 
 /// Asks a request with the next ticket and a drawn word, if a ticket is left.
+#[inline(never)]
 fn respond<R: Wait, T: Turn, S: Source, K: Sink, C: Clock, D: Draw>(
     rt: &R,
     alloc: Global,
@@ -64,6 +65,7 @@ fn respond<R: Wait, T: Turn, S: Source, K: Sink, C: Clock, D: Draw>(
 }
 
 /// Answers a request that was read. Where a ticket is in use, it asks again with the next one.
+#[inline(never)]
 fn answer<R: Wait, T: Turn, S: Source, K: Sink, C: Clock, D: Draw>(
     rt: &R,
     alloc: Global,

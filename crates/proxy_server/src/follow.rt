@@ -10,21 +10,13 @@ use crate::ends::end_of;
 use crate::take::take;
 use crate::turn::Turn;
 use outside::{Clock, Failed, Sink, Source};
-use serve_model::{SessionEnd, Stop, Taken, TurnFault};
+use serve_model::{SessionEnd, Stop, Taken};
 use std::alloc::Global;
 use std::sync::Wait;
 
-/// Rests, where the last step found nothing.
-fn pause<T: Turn, C: Clock>(turn: &mut T, clock: &mut C, waits: bool) -> Result<(), TurnFault>
-    ensures home { T.home turn.new ≡ T.home turn.old }
-    ensures made { Rested T.rests (T.made turn.old) (T.made turn.new) }
-    ensures fault { IfErr result IsOfRest }
-{
-    if waits { turn.rest(clock) } else { Ok(()) }
-}
-
 /// Takes what comes for a ticket that waits, and tells it as it comes, until the last thing was told: the reply, or the message
 /// that ends a watch. Where a rest brought nothing it looks whether the client is still there.
+#[inline(never)]
 pub(crate) fn follow<R: Wait, T: Turn, S: Source, K: Sink, C: Clock>(
     rt: &R,
     alloc: Global,
@@ -45,9 +37,8 @@ pub(crate) fn follow<R: Wait, T: Turn, S: Source, K: Sink, C: Clock>(
     ensures follows { Follows T.rests ticket (T.made turn.old) (T.made turn.new) (K.written sink.old) (K.written sink.new) result }
 {
     let mut begun = false;
-    let mut waits = true;
     'takes: for _ in rt.forever() {
-        match pause(turn, clock, waits) {
+        match turn.rest(clock) {
             Ok(()) => {}
             Err(fault) => return Err(Stop::Unanswered(end_of(fault))),
         }
@@ -57,12 +48,8 @@ pub(crate) fn follow<R: Wait, T: Turn, S: Source, K: Sink, C: Clock>(
                     Ok(()) => {}
                     Err(Failed) => return Err(Stop::Unanswered(SessionEnd::ReadFault)),
                 }
-                waits = true;
             }
-            Ok(Taken::Part) => {
-                begun = true;
-                waits = false;
-            }
+            Ok(Taken::Part) => begun = true,
             Ok(Taken::Last) => return Ok(()),
             Err(why) => return Err(why),
         }

@@ -2,6 +2,9 @@
 //! connection's dialog is stands in `serve_model`.
 #![tactic(auto)]
 
+// A function that is never inlined here has its frame only while it runs: what a thread's stack once reached stays in memory as long as the
+// thread, and one into which others are inlined holds the frames of all of them at once.
+
 mod ask;
 mod ends;
 mod exchange;

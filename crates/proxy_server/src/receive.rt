@@ -52,6 +52,7 @@ fn encourage<K: Sink>(sink: &mut K, head: &Head) -> Result<(), WireFault>
 }
 
 /// Reads the next request.
+#[inline(never)]
 pub(crate) fn receive<S: Source, K: Sink>(
     alloc: Global,
     wire: &mut Wire,

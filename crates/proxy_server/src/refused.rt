@@ -32,6 +32,7 @@ fn is_head(method: &Method) -> bool
 
 /// What is asked, or why it is refused.
 #[tactic(auto, unfolding(serve_model::specs::Dialog::asked_of))]
+#[inline(never)]
 pub(crate) fn asked(
     alloc: Global,
     received: &Received,
@@ -154,6 +155,7 @@ pub(crate) fn refuse<K: Sink>(
 
 /// Refuses a request of this method with no step. The reply to a HEAD has no body.
 #[tactic(auto, unfolding(serve_model::specs::Dialog::refusal_to, serve_model::specs::Dialog::refusal))]
+#[inline(never)]
 pub(crate) fn refuse_request<K: Sink>(
     alloc: Global,
     sink: &mut K,

@@ -26,8 +26,9 @@ pub trait Turn {
         ensures fits { Fits event result }
         ensures home { home self.new ≡ home self.old };
 
-    /// Rests until a reply may be there. It may also return at any other time, and may make steps of its own. It is to be
-    /// called right after the step that found nothing, with no other step between, so that no wake-up is missed.
+    /// Rests until there may be something to take. It may also return at any other time, and may make steps of its own. It is to
+    /// be called right after a step, with no other between, so that no wake-up is missed: also a step that took something wakes
+    /// its own turn where more stands there.
     fn rest<C: Clock>(&mut self, clock: &mut C) -> Result<(), TurnFault>
         ensures made { Rested rests (made self.old) (made self.new) }
         ensures fault { IfErr result IsOfRest }
