@@ -73,7 +73,8 @@ take_kept() {
     mkdir -p "$1/.git"
     (cd "$1" && exec rt ci) > "$log" 2>&1 < /dev/null &
     gate=$!
-    while kill -0 $gate 2> /dev/null && [ $silent -lt 20 ] && ! grep -q "^rt: $2 is kept:" "$log"; do
+    # It looks at all crates before it gives the first.
+    while kill -0 $gate 2> /dev/null && [ $silent -lt $((given > 0 ? 20 : 120)) ] && ! grep -q "^rt: $2 is kept:" "$log"; do
         sleep 1
         now=$(grep -c '^rt: [a-z_0-9]* is kept:' "$log" || true)
         [ "$now" -gt $given ] && silent=0 || silent=$((silent + 1))

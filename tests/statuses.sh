@@ -15,15 +15,15 @@ comes_to() {
     # The words are split where they stand.
     # shellcheck disable=SC2086
     printf "$script" | "$program" $words > "$work/output" 2> "$work/errors" || got=$?
-    printf "$output" > "$work/wanted_output"
-    printf "$errors" > "$work/wanted_errors"
+    printf -- "$output" > "$work/wanted_output"
+    printf -- "$errors" > "$work/wanted_errors"
     if [ "$got" -ne "$status" ] || ! cmp -s "$work/output" "$work/wanted_output" || ! cmp -s "$work/errors" "$work/wanted_errors"; then
         echo "statuses: '$words' on '$script': status $got, $(cat "$work/errors"), and not $status, $errors" >&2
         failures=$((failures + 1))
     fi
 }
 
-usage='usage: etcd_proxy replay [--generate N]\n'
+usage='usage: etcd_proxy replay [--generate N] or grpc-proxy start OPTIONS\n'
 comes_to '' 'replay' 0 '' ''
 comes_to 'world 1 ~ ~\nstart 1' 'replay' 0 'world 1 ~ ~\nstarted 1\n' ''
 comes_to '' '--version' 0 'etcd_proxy 0.1.0\n' ''
@@ -41,6 +41,33 @@ comes_to '' 'replay --generate 20001' 2 '' "$usage"
 comes_to '' 'replay --generate 1 1' 2 '' "$usage"
 comes_to '' 'replay x' 2 '' "$usage"
 comes_to '' "$(printf '\377')" 2 '' "$usage"
+comes_to '' 'grpc-proxy' 2 '' "$usage"
+comes_to '' 'grpc-proxy stop' 2 '' "$usage"
+comes_to '' 'grpc-proxy start' 2 '' "error: the following required arguments were not provided: --endpoints <HOST:PORT,..>\n$usage"
+comes_to '' 'grpc-proxy start --endpoints=127.0.0.1:2379 --workers=0' 2 '' "--workers 0: not a number from 1 to 64\n$usage"
+comes_to '' 'grpc-proxy start --endpoints=https://127.0.0.1:2379' 2 '' "--endpoints https://127.0.0.1:2379: https isn't served\n$usage"
+comes_to '' 'grpc-proxy start --endpoint=127.0.0.1:2379' 2 '' "error: unexpected argument '--endpoint' found\n$usage"
+
+# An address that is none of this machine's can't be listened on. The system's cause may stand between the two lines.
+got=0
+"$program" grpc-proxy start --endpoints=127.0.0.1:2379 --listen-addr=192.0.2.1:9 > "$work/output" 2> "$work/errors" || got=$?
+[ "$got" -eq 7 ] && [ "$(head -n 1 "$work/errors")" = 'serving 192.0.2.1:9 for 127.0.0.1:2379' ] && grep -q '^listener fault$' "$work/errors" || {
+    echo "statuses: an address that can't be listened on: status $got" >&2
+    failures=$((failures + 1))
+}
+
+# Where the address space is too small for the threads' stacks, a worker can't be started, and the system's cause is told.
+got=0
+(ulimit -v 200000 && exec "$program" grpc-proxy start --endpoints=127.0.0.1:2379 --listen-addr=127.0.0.2:23790 --workers=64) > "$work/output" 2> "$work/errors" || got=$?
+[ "$got" -eq 8 ] && grep -q "^etcd_proxy: can't start a thread: " "$work/errors" && [ "$(tail -n 1 "$work/errors")" = 'spawner fault' ] || {
+    echo "statuses: a worker that can't be started: status $got, $(cat "$work/errors")" >&2
+    failures=$((failures + 1))
+}
+
+"$program" grpc-proxy start --help | grep -q 'default: 127.0.0.1:23790' || {
+    echo 'statuses: grpc-proxy start --help shows no default' >&2
+    failures=$((failures + 1))
+}
 
 "$program" --help | grep -q 'usage: etcd_proxy replay < SCRIPT' || {
     echo 'statuses: --help shows no usage' >&2

@@ -1,2 +1,4 @@
 pub mod Complete
 pub mod Generated
+pub mod Lines
+pub mod Started

@@ -1,4 +1,5 @@
 pub mod Generated
 pub mod Run
+pub mod Start
 pub mod Texts
 pub mod Words

@@ -1,54 +1,48 @@
-ghost use Rattle.std.specs.Prelude.{◌≡◌, ◌≢◌, ◌≤◌, ◌↔◌, ℕ, Some, None, Err, IfOk, codes};
-ghost use Rattle.std.specs.Io.KnownBytes.{Appends};
+ghost use Rattle.std.specs.Prelude.{◌≡◌, ◌≢◌, ◌↔◌, ℕ, List, String, Some, None, map};
+ghost use Rattle.std.specs.String.{string_bytes};
+ghost use Rattle.std.specs.declared.alloc.Global.{Global as Heap};
 ghost use Rattle.outside.specs.Faults.{Rose};
-ghost use Rattle.outside.specs.Streams.{WritesFront};
-ghost use Rattle.replay_generated.specs.declared.summary.Summary.{Summary as Counts};
-ghost use Rattle.etcd_proxy.specs.Generated.{Generates, IsSummaryOf, summary_text};
-ghost use Rattle.etcd_proxy.specs.Run.{Runs, Tells, Prints, IsWholeScript, status_of, text_of_status, refused_text};
+ghost use Rattle.proxy_service.specs.Service.{seen};
+ghost use Rattle.etcd_proxy.specs.Generated.{Generates};
+ghost use Rattle.etcd_proxy.specs.Run.{Runs, Tells, Prints, IsWholeScript};
+ghost use Rattle.etcd_proxy.specs.Start.{Starts, moment, options_of};
 ghost use Rattle.etcd_proxy.specs.Texts.{usage_text, help_text, version_text};
 ghost use Rattle.etcd_proxy.specs.Words.{command_of};
 
-use crate::words::{Command, NoWords, command_of};
-use etcd_types::NoMemory;
-use outside::{Failed, Sink, Source, write_whole};
-use proxy_core::Core;
-use replay_generated::{Summary, generated};
-use replay_input::{Ending, LineRefusal, Stop, replay_script};
+use crate::ending::run_ending;
+use crate::start::start;
+use crate::words::{Command, options_of};
+use outside::{Host, Sink, Source, Spawner};
+use proxy_parts::Place;
 use std::alloc::Global;
+use std::sync::Wait;
 
-const USAGE: &[u8] = b"usage: etcd_proxy replay [--generate N]\n";
-
-const HELP: &[u8] = b"\
-etcd_proxy replays scripted schedules of etcd proxies over a small store.
-
-usage: etcd_proxy replay < SCRIPT
-       etcd_proxy replay --generate N
-
-  replay         reads a script from the input and writes its transcript to the output
-  --generate N   replays the script that is generated from N, 1 to 20000, and writes counts of its transcript
-  --help         shows this
-  --version      shows the version
-";
-
-const VERSION: &[u8] = b"etcd_proxy 0.1.0\n";
-
-/// Does what the words ask for, and answers the exit status.
+/// Does what the words ask for, and answers the exit status. Under `grpc-proxy start` it serves, and may wait; all other words are those of
+/// `run_ending`.
 ///
-/// 0: the script was read to its end and its transcript is written. 1: a line is refused. 2: the words are none of the
-/// forms. 3: the input failed. 4: the output failed. 5: memory was wanting. 6: a line passes a limit. The words are
-/// those of the command line after the program's name.
-pub fn run<S: Source, K: Sink, E: Sink>(
+/// The statuses are those of `run_ending`, and two under `grpc-proxy start` alone. 7: it can't listen, or no further client can come. 8: a
+/// worker or the ticker wasn't started.
+pub fn run<R: Wait, S: Source, K: Sink, E: Sink, H: Host, P: Spawner<Pass = Place, Conn = H::Conn>>(
+    rt: &R,
     alloc: Global,
     words: &[String],
     input: &mut S,
     output: &mut K,
     errors: &mut E,
+    host: &mut H,
+    spawner: &mut P,
 ) -> u8
-    // Status 2 comes exactly where the words are none of the forms, and then the usage is told and nothing is written.
-    ensures usage { (result ≡ 2) ↔ (command_of words.now ≡ None) }
-    ensures tells_usage { command_of words.now ≡ None
+    // Under `grpc-proxy start` the settings that the options name are served, or it is told why not.
+    ensures starts { (options : List (String Heap)) → options_of words.now ≡ Some options → Starts (map string_bytes options)
+        (moment (K.written output.old) (K.faults output.old) (E.written errors.old) (E.faults errors.old) (seen (H.made host.old) (H.faults host.old) (P.handed spawner.old) (P.faults spawner.old)))
+        (moment (K.written output.new) (K.faults output.new) (E.written errors.new) (E.faults errors.new) (seen (H.made host.new) (H.faults host.new) (P.handed spawner.new) (P.faults spawner.new))) result }
+
+    // Under all other words nobody is served, and it is as with `run_ending`.
+    ensures unserved { options_of words.now ≡ None → (host.new ≡ host.old) × (spawner.new ≡ spawner.old) }
+    ensures usage { options_of words.now ≡ None → ((result ≡ 2) ↔ (command_of words.now ≡ None)) }
+    ensures tells_usage { options_of words.now ≡ None → command_of words.now ≡ None
         → Tells (E.written errors.old) (E.written errors.new) (E.faults errors.old) (E.faults errors.new) usage_text }
-    ensures unwritten { command_of words.now ≡ None → output.new ≡ output.old }
+    ensures unwritten { options_of words.now ≡ None → command_of words.now ≡ None → output.new ≡ output.old }
 
     // The texts are written to the output, and without `replay` nothing is read.
     ensures help { command_of words.now ≡ Some Command.Help
@@ -77,156 +71,8 @@ pub fn run<S: Source, K: Sink, E: Sink>(
     ensures read_fault { result ≡ 3 → Rose (S.faults input.old) (S.faults input.new) }
     ensures write_fault { result ≡ 4 → Rose (K.faults output.old) (K.faults output.new) }
 {
-    match command_of(words) {
-        None => {
-            tell(errors, USAGE);
-            2
-        }
-        Some(Command::Help) => print(output, errors, HELP),
-        Some(Command::Version) => print(output, errors, VERSION),
-        Some(Command::Replay) => replay(alloc, input, output, errors),
-        Some(Command::Generate(number)) => generate(alloc, number, output, errors),
+    match options_of(words) {
+        Some(options) => start(rt, alloc, options, output, errors, host, spawner),
+        None => run_ending(alloc, words, input, output, errors),
     }
-}
-
-/// Tells why the words of the command line can't be had, and answers the exit status: 2 where one of them isn't UTF-8, which
-/// is none of the forms, and 5 where memory was wanting.
-pub fn tell_no_words<E: Sink>(why: NoWords, errors: &mut E) -> u8
-    ensures usage { why ≡ NoWords.NotText → (result ≡ 2)
-        × Tells (E.written errors.old) (E.written errors.new) (E.faults errors.old) (E.faults errors.new) usage_text }
-    ensures memory { why ≡ NoWords.NoMemory → (result ≡ 5)
-        × Tells (E.written errors.old) (E.written errors.new) (E.faults errors.old) (E.faults errors.new) (text_of_status (Err Stop.NoMemory)) }
-{
-    match why {
-        NoWords::NotText => {
-            tell(errors, USAGE);
-            2
-        }
-        NoWords::NoMemory => {
-            tell(errors, b"no memory\n");
-            5
-        }
-    }
-}
-
-fn replay<S: Source, K: Sink, E: Sink>(
-    alloc: Global,
-    input: &mut S,
-    output: &mut K,
-    errors: &mut E,
-) -> u8
-    ensures runs { Runs (S.left input.old) (S.left input.new) (K.written output.old) (K.written output.new)
-        (E.written errors.old) (E.written errors.new) (E.faults errors.old) (E.faults errors.new) result }
-    ensures complete { IsWholeScript (S.left input.old) → (result ≢ 1) × (result ≢ 6) }
-    ensures no_usage { result ≢ 2 }
-    ensures read_fault { result ≡ 3 → Rose (S.faults input.old) (S.faults input.new) }
-    ensures write_fault { result ≡ 4 → Rose (K.faults output.old) (K.faults output.new) }
-{
-    let outcome = replay_script::<Core, S, K>(alloc, input, output);
-    match text_of(alloc, &outcome) {
-        Ok(text) => {
-            tell(errors, text.as_slice());
-            status_of(&outcome)
-        }
-        Err(NoMemory) => {
-            tell(errors, b"no memory\n");
-            5
-        }
-    }
-}
-
-/// Writes the counts of the script that is generated from this number.
-fn generate<K: Sink, E: Sink>(alloc: Global, number: u64, output: &mut K, errors: &mut E) -> u8
-    requires { number ≤ 20000 }
-    ensures generates { Generates (K.written output.old) (K.written output.new) (K.faults output.old) (K.faults output.new)
-        (E.written errors.old) (E.written errors.new) (E.faults errors.old) (E.faults errors.new) number result }
-    ensures no_usage { result ≢ 2 }
-    ensures no_read_fault { result ≢ 3 }
-    ensures write_fault { result ≡ 4 → Rose (K.faults output.old) (K.faults output.new) }
-{
-    match counted(alloc, number) {
-        Ok(text) => print(output, errors, text.as_slice()),
-        Err(NoMemory) => {
-            tell(errors, b"no memory\n");
-            5
-        }
-    }
-}
-
-fn counted(alloc: Global, number: u64) -> Result<Vec<u8>, NoMemory>
-    requires { number ≤ 20000 }
-    ensures { IfOk result (λ text. (counts : Counts) × IsSummaryOf number counts × (text.items ≡ summary_text counts)) }
-{
-    let summary = generated::<Core>(alloc, number)?;
-    Ok(summary_text(alloc, &summary)?)
-}
-
-fn summary_text(alloc: Global, summary: &Summary) -> Result<Vec<u8>, NoMemory>
-    ensures { IfOk result (λ text. text.items ≡ summary_text summary.now) }
-{
-    let Summary {
-        asked,
-        replied,
-        unsent,
-        revision,
-    } = *summary;
-    let text = format!(in alloc;
-        "asked {asked}\nreplied {replied}\nunsent {unsent}\nrevision {revision}\n"
-    )?;
-    Ok(text.into_bytes())
-}
-
-/// Writes a text to the output.
-fn print<K: Sink, E: Sink>(output: &mut K, errors: &mut E, text: &[u8]) -> u8
-    ensures { Prints (K.written output.old) (K.written output.new) (K.faults output.old) (K.faults output.new)
-        (E.written errors.old) (E.written errors.new) (E.faults errors.old) (E.faults errors.new) text.now result }
-{
-    match write_whole(output, text) {
-        Ok(()) => 0,
-        Err(Failed) => {
-            tell(errors, b"write fault\n");
-            4
-        }
-    }
-}
-
-/// Writes a text to the errors. Where that fails, nothing else is done about it.
-fn tell<E: Sink>(errors: &mut E, text: &[u8])
-    ensures { Tells (E.written errors.old) (E.written errors.new) (E.faults errors.old) (E.faults errors.new) text.now }
-{
-    let _ = write_whole(errors, text);
-}
-
-fn status_of(outcome: &Result<Ending, Stop>) -> u8
-    ensures { result ≡ status_of outcome.now }
-{
-    match outcome {
-        Ok(Ending::Open) => 0,
-        Ok(Ending::Refused { .. }) => 1,
-        Ok(Ending::PastLimit) => 6,
-        Err(Stop::ReadFault) => 3,
-        Err(Stop::WriteFault) => 4,
-        Err(Stop::NoMemory) => 5,
-    }
-}
-
-/// The text of a status.
-fn text_of(alloc: Global, outcome: &Result<Ending, Stop>) -> Result<Vec<u8>, NoMemory>
-    ensures { IfOk result (λ text. text.items ≡ text_of_status outcome.now) }
-{
-    match outcome {
-        Ok(Ending::Open) => Ok(Vec::new(alloc)),
-        Ok(Ending::Refused { number, refusal }) => Ok(refused_text(alloc, *number, refusal)?),
-        Ok(Ending::PastLimit) => Ok(Vec::from_slice(alloc, b"limit\n")?),
-        Err(Stop::ReadFault) => Ok(Vec::from_slice(alloc, b"read fault\n")?),
-        Err(Stop::WriteFault) => Ok(Vec::from_slice(alloc, b"write fault\n")?),
-        Err(Stop::NoMemory) => Ok(Vec::from_slice(alloc, b"no memory\n")?),
-    }
-}
-
-fn refused_text(alloc: Global, number: u64, refusal: &LineRefusal) -> Result<Vec<u8>, NoMemory>
-    ensures { IfOk result (λ text. text.items ≡ refused_text number refusal.now) }
-{
-    let text = format!(in alloc; "line {number}: {refusal}\n")?;
-    Ok(text.into_bytes())
 }

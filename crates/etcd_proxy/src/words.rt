@@ -1,4 +1,5 @@
-ghost use Rattle.std.specs.Prelude.{◌≡◌, IfSome};
+ghost use Rattle.std.specs.Prelude.{◌≡◌, IfSome, option_map};
+ghost use Rattle.etcd_proxy.specs.Start.{options_of};
 ghost use Rattle.etcd_proxy.specs.Words.{command_of, named, named_with, IsInRange};
 
 use text_words::number_of;
@@ -62,5 +63,16 @@ fn named(word: &str) -> Option<Command>
         Some(Command::Version)
     } else {
         None
+    }
+}
+
+/// The options behind `grpc-proxy start`, where the words begin so.
+pub(crate) fn options_of(words: &[String]) -> Option<&[String]>
+    ensures { option_map (λ options. options.now) result ≡ options_of words.now }
+{
+    match words {
+        [program, command, options @ ..]
+            if program.as_str() == "grpc-proxy" && command.as_str() == "start" => { Some(options) }
+        _ => None,
     }
 }

@@ -4,7 +4,6 @@
 
 mod clients;
 mod ends;
-mod lots;
 mod places;
 mod server;
 mod service;

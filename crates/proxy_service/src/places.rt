@@ -2,9 +2,9 @@ ghost use Rattle.std.specs.Prelude.{◌≡◌, ◌≤◌, ◌^◌, IfOk};
 ghost use Rattle.proxy_parts.specs.Homes.{home_of};
 ghost use Rattle.proxy_service.specs.Parts as spec;
 
-use crate::lots::{WORKERS, lot_of_ticket};
 use etcd_types::NoMemory;
 use outside::TicketRange;
+use proxy_core::{WORKERS, lot_of_ticket};
 use proxy_parts::Place;
 use std::sync::Arc;
 

@@ -3,7 +3,7 @@ use Rattle.std.proofs.Common.{refl, sym, ◌∙◌, Err}
 use Rattle.replay_input.specs.declared.stop.Stop.TheVariants.{NoMemory}
 use Rattle.replay_input.proofs.Turns.{left_off}
 use Rattle.etcd_proxy.proofs.Complete.{never_refused}
-use Rattle.etcd_proxy.proofs.run.replay.Goals as goal
+use Rattle.etcd_proxy.proofs.ending.replay.Goals as goal
 
 pub returns-in-Err-clause-runs : goal.returns-in-Err-clause-runs
 returns-in-Err-clause-runs g c = record {

@@ -1,6 +1,6 @@
 -- What is told of a generated script is told of its transcript.
 use Rattle.etcd_proxy.proofs.Generated.{is_summary}
-use Rattle.etcd_proxy.proofs.run.counted.Goals as goal
+use Rattle.etcd_proxy.proofs.ending.counted.Goals as goal
 
 pub returns : goal.returns
 returns c =

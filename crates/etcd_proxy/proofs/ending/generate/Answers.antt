@@ -1,6 +1,6 @@
 -- Memory was wanting.
 use Rattle.std.proofs.Common.{false, refl}
-use Rattle.etcd_proxy.proofs.run.generate.Goals as goal
+use Rattle.etcd_proxy.proofs.ending.generate.Goals as goal
 
 pub returns-in-Err-clause-generates : goal.returns-in-Err-clause-generates
 returns-in-Err-clause-generates g c = record {

@@ -1,0 +1,16 @@
+//! The parts of a server, each in a thread of its own.
+#![tactic(auto)]
+
+mod carried;
+mod ends;
+mod further;
+mod handover;
+mod job;
+mod load;
+mod open;
+mod threaded;
+
+pub use ends::Ends;
+pub use further::Nothing;
+pub use open::CONNECTIONS;
+pub use threaded::{Followers, Server, Threaded};

@@ -1,0 +1,40 @@
+ghost use Rattle.std.specs.Prelude.{◌≡◌};
+ghost use Rattle.part_threads.specs.Loads.{part_of};
+
+use outside::{Follow, Part, TicketRange};
+use proxy_parts::Place;
+
+/// What a part is, but for its place.
+#[derive(Drop)]
+pub(crate) enum Load<C> {
+    Worker,
+    Ticker,
+    Connection(C, TicketRange),
+    Follower(Follow),
+}
+
+/// A part taken apart.
+pub(crate) fn split<C>(part: Part<Place, C>) -> (Place, Load<C>)
+    ensures { part_of result.0 result.1 ≡ part }
+{
+    match part {
+        Part::Worker(place) => (place, Load::Worker),
+        Part::Ticker(place) => (place, Load::Ticker),
+        Part::Connection(place, connection, tickets) => {
+            (place, Load::Connection(connection, tickets))
+        }
+        Part::Follower(place, follow) => (place, Load::Follower(follow)),
+    }
+}
+
+/// The part that was taken apart.
+pub(crate) fn join<C>(place: Place, load: Load<C>) -> Part<Place, C>
+    ensures { result ≡ part_of place load }
+{
+    match load {
+        Load::Worker => Part::Worker(place),
+        Load::Ticker => Part::Ticker(place),
+        Load::Connection(connection, tickets) => Part::Connection(place, connection, tickets),
+        Load::Follower(follow) => Part::Follower(place, follow),
+    }
+}

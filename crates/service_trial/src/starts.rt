@@ -1,0 +1,34 @@
+use crate::settings::{clients, service};
+use etcd_types::NoMemory;
+use outside::{MemHost, MemSpawner};
+use proxy_parts::Place;
+use proxy_service::{ServeEnd, serve};
+use std::alloc::Global;
+use std::sync::Wait;
+
+/// What a call that is to fail is made to.
+#[derive(Clone, Copy, Debug, PartialEq, Eq)]
+pub(crate) enum Fails {
+    /// The start of a part, by its number from 1 on.
+    Start(u64),
+    /// A call of the host, of which the first listens and each other accepts.
+    Host(u64),
+}
+
+/// How a server with two clients ends where that call fails, and how many parts were started.
+pub(crate) fn started<R: Wait>(
+    rt: &R,
+    alloc: Global,
+    fails: Fails,
+) -> Result<(ServeEnd, usize), NoMemory> {
+    let mut starts = Vec::new(alloc);
+    let mut calls = Vec::new(alloc);
+    match fails {
+        Fails::Start(number) => starts.push(number)?,
+        Fails::Host(number) => calls.push(number)?,
+    }
+    let mut host = MemHost::new(alloc, clients(alloc, 2)?, calls);
+    let mut spawner: MemSpawner<Place, u32> = MemSpawner::new(alloc, starts);
+    let end = serve(rt, alloc, service(alloc)?, &mut host, &mut spawner);
+    Ok((end, spawner.parts().len()))
+}
