@@ -1,0 +1,253 @@
+#!/usr/bin/env python3
+"""What bench/server.sh measures."""
+import json, os, re, resource, select, shutil, socket, struct, subprocess, sys, tempfile, time
+
+sys.path.insert(0, os.path.join(os.path.dirname(os.path.abspath(__file__)), "..", "tests"))
+from cluster import Cluster, Proxy, Watch, free_port, in_memory, put, text64, until, watched
+
+PROGRAM, SECONDS = os.path.abspath(sys.argv[1]), sys.argv[2]
+CONNECTIONS = (1, 16, 64)
+TICKS = os.sysconf("SC_CLK_TCK")
+KEY = text64("bench/key")
+READ = json.dumps({"key": KEY}, separators=(",", ":"))
+PUT = json.dumps({"key": KEY, "value": text64("v" * 32)}, separators=(",", ":"))
+
+
+def processor_time(pids):
+    total = 0
+    for pid in pids:
+        with open(f"/proc/{pid}/stat") as stat:
+            fields = stat.read().rsplit(")", 1)[1].split()
+        total += int(fields[11]) + int(fields[12])
+    return total / TICKS
+
+
+def sized(pid):
+    """Its memory and its page tables, in bytes."""
+    with open(f"/proc/{pid}/status") as status:
+        text = status.read()
+    return tuple(int(re.search(rf"{name}:\s+(\d+)", text)[1]) * 1024 for name in ("VmRSS", "VmPTE"))
+
+
+class Load:
+    """What wrk got from a server."""
+
+    def __init__(self, folder, port, connections, pids, path, body, closing):
+        script = f"{folder}/load.lua"
+        with open(script, "w") as lua:
+            lua.write(f"wrk.method = 'POST'\nwrk.body = '{body}'\n")
+            if closing:
+                lua.write("wrk.headers['Connection'] = 'close'\n")
+        before, client = processor_time(pids), resource.getrusage(resource.RUSAGE_CHILDREN)
+        told = subprocess.run(["wrk", "-t", str(min(connections, 2)), "-c", str(connections), "-d", f"{SECONDS}s", "--latency", "-s", script,
+                               f"http://127.0.0.1:{port}{path}"], capture_output=True, text=True, check=True).stdout
+        after = resource.getrusage(resource.RUSAGE_CHILDREN)
+        count = int(re.search(r"(\d+) requests in", told)[1])
+        self.rate = float(re.search(r"Requests/sec:\s+(\S+)", told)[1])
+        self.server = (processor_time(pids) - before) / max(count, 1) * 1e6
+        self.client = (after.ru_utime + after.ru_stime - client.ru_utime - client.ru_stime) / max(count, 1) * 1e6
+        self.half, self.most = (re.search(rf"^ +{share}% +(\S+)", told, re.M)[1] for share in (50, 99))
+        self.failed = re.search(r"(Non-2xx.*|Socket errors.*)", told)
+
+    def told(self):
+        failed = f"  [{self.failed[1]}]" if self.failed else ""
+        return f"{self.rate:9.0f}/s, {self.server:6.1f} + {self.client:5.1f} us of processor, p50 {self.half}, p99 {self.most}{failed}"
+
+
+def reply_of(port):
+    """The bytes of the body that a read is answered with."""
+    with socket.create_connection(("127.0.0.1", port)) as client:
+        client.sendall(b"POST /v3/kv/range HTTP/1.1\r\nHost: h\r\nConnection: close\r\nContent-Length: %d\r\n\r\n" % len(READ) + READ.encode())
+        return b"".join(iter(lambda: client.recv(65536), b"")).split(b"\r\n\r\n", 1)[1].decode()
+
+
+def nginx(folder, body):
+    port = free_port()
+    with open(f"{folder}/nginx.conf", "w") as conf:
+        conf.write(f"""worker_processes 4; daemon off; pid {folder}/nginx.pid; error_log {folder}/nginx.log;
+events {{ worker_connections 1024; }}
+http {{ access_log off; keepalive_requests 1000000000; default_type application/json;
+server {{ listen 127.0.0.1:{port}; location / {{ return 200 '{body}'; }} }} }}
+""")
+    process = subprocess.Popen(["nginx", "-c", f"{folder}/nginx.conf", "-p", folder])
+    until(lambda: socket.socket().connect_ex(("127.0.0.1", port)) == 0, 10, "nginx listens")
+    with open(f"/proc/{process.pid}/task/{process.pid}/children") as children:
+        return process, port, [int(pid) for pid in children.read().split()]
+
+
+MISSED = []
+
+
+def mark(what, value, unit, least=None, most=None):
+    """Says whether a mark is met."""
+    met = value >= least if least is not None else value <= most
+    wanted = f"at least {least}" if least is not None else f"at most {most}"
+    print(f"  mark: {what} {value:.2f}{unit}, {wanted}{unit}: {'met' if met else 'missed'}", flush=True)
+    if not met:
+        MISSED.append(what)
+
+
+def compare(what, ours, theirs, name, by_processor, least=None):
+    share = (theirs.server + theirs.client) / (ours.server + ours.client) if by_processor else ours.rate / theirs.rate
+    way = "processor time" if by_processor else "requests"
+    print(f"{what}\n  ours   {ours.told()}\n  {name:6} {theirs.told()}\n  {share:.2f} of {name}, by {way}", flush=True)
+    if least is not None:
+        mark(f"{what}, beside {name} by {way}", share, "", least=least)
+
+
+def reads(folder, cluster, proxy):
+    pids = [proxy.process.pid]
+    put(proxy, "bench/key", "v" * 32)
+    proxy.post("/v3/kv/range", {"key": KEY})
+    server, port, workers = nginx(folder, reply_of(proxy.port))
+    try:
+        for connections in CONNECTIONS:
+            theirs = Load(folder, port, connections, workers, "/", READ, False)
+            ours = Load(folder, proxy.port, connections, pids, "/v3/kv/range", READ, False)
+            compare(f"cached reads, {connections} connections", ours, theirs, "nginx", True, 0.8 if connections < 64 else 0.7)
+    finally:
+        server.terminate()
+        server.wait()
+
+
+def calls(folder, cluster, proxy):
+    pids, members = [proxy.process.pid], [p.pid for p in cluster.processes]
+    for what, path, body, least in (("reads passed on", "/v3/kv/range", READ, None), ("puts", "/v3/kv/put", PUT, 0.95)):
+        for connections in CONNECTIONS:
+            theirs = Load(folder, cluster.ports[0], connections, members, path, body, True)
+            ours = Load(folder, proxy.port, connections, pids, path, body, False)
+            compare(f"{what}, {connections} connections", ours, theirs, "direct", False, least)
+
+
+def delivered(all_watches, revision):
+    """Waits until each watch has a message with this revision, and looks at no more of it than that."""
+    mark, ready = b'"mod_revision":"%d"' % revision, select.epoll()
+    waiting = {watch.socket.fileno(): watch.socket for watch in all_watches}
+    for number in waiting:
+        ready.register(number, select.EPOLLIN)
+    while waiting:
+        for number, _ in ready.poll(60):
+            if number in waiting and mark in waiting[number].recv(65536):
+                del waiting[number]
+    ready.close()
+
+
+# By this option a read also tells when the kernel had its last bytes (Linux, SO_TIMESTAMPNS).
+STAMPED = 35
+
+
+def arrived(watch, revision):
+    """When the watch's message with this revision came to its socket, in seconds of the system's clock, however late it is read."""
+    mark, ready = b'"mod_revision":"%d"' % revision, select.poll()
+    ready.register(watch.socket, select.POLLIN)
+    while ready.poll(60_000):
+        message, stamps, _, _ = watch.socket.recvmsg(65536, 64)
+        if mark in message:
+            seconds, parts = struct.unpack("qq", stamps[0][2])
+            return seconds + parts / 1e9
+    raise OSError("a watch was told nothing for a minute")
+
+
+class Took:
+    """What each of some puts took, in milliseconds."""
+
+    def __init__(self):
+        self.all = []
+
+    def add(self, seconds):
+        self.all.append(seconds * 1e3)
+
+    def half(self):
+        return sorted(self.all)[len(self.all) // 2]
+
+    def told(self):
+        return f"p50 {self.half():.1f} ms, least {min(self.all):.1f}, most {max(self.all):.1f}"
+
+
+def arrivals(all_watches, proxy):
+    """From the sending of a put until its event was at the first and at the last watch's socket. Nobody reads meanwhile, so that the clients, which stand
+    on the same processors here, take none of them from the server."""
+    first, last = Took(), Took()
+    for watch in all_watches:
+        watch.socket.setsockopt(socket.SOL_SOCKET, STAMPED, 1)
+    for number in range(20):
+        start = time.time()
+        revision = put(proxy, "w/0", f"value {number}")
+        time.sleep(0.3)
+        came = [arrived(watch, revision) for watch in all_watches]
+        first.add(min(came) - start)
+        last.add(max(came) - start)
+    return first, last
+
+
+def readings(all_watches, proxy):
+    """From the sending of a put until one client in Python has read its event from each watch, and its reply's part of that."""
+    reply, last = Took(), Took()
+    for number in range(20):
+        start = time.monotonic()
+        revision = put(proxy, "w/0", f"value {number}")
+        reply.add(time.monotonic() - start)
+        delivered(all_watches, revision)
+        last.add(time.monotonic() - start)
+        time.sleep(0.3)
+    return reply, last
+
+
+def watches(cluster, proxy):
+    before, count = sized(proxy.process.pid), 1000
+    all_watches = [Watch(proxy.port, {"key": text64("w/"), "range_end": text64("w0")}) for _ in range(count)]
+    watched(all_watches, lambda: all(w.created for w in all_watches), 60, "all watches are created")
+    after = sized(proxy.process.pid)
+    used = processor_time([proxy.process.pid])
+    first, last = arrivals(all_watches, proxy)
+    used = (processor_time([proxy.process.pid]) - used) / (20 * count) * 1e6
+    reply, read = readings(all_watches, proxy)
+    print(f"{count} equal watches, {used:.0f} us of processor a message\n"
+          f"  from a put to the last client's socket: {last.told()}\n"
+          f"  to the first client's socket: {first.told()}\n"
+          f"  until one client in Python has read all: {read.told()}\n"
+          f"  until the put's reply: {reply.told()}\n"
+          f"  {(after[0] - before[0]) / count / 1e3:.1f} KB a client, and {(after[1] - before[1]) / count / 1e3:.1f} KB of page tables", flush=True)
+    mark("last delivery", last.half(), " ms", most=15)
+    mark("a watching client", (after[0] - before[0]) / count / 1e3, " KB", most=40)
+    for watch in all_watches:
+        watch.socket.close()
+
+
+def idle(proxy):
+    before, count, kept = sized(proxy.process.pid), 1000, []
+    for number in range(count):
+        kept.append(socket.create_connection(("127.0.0.1", proxy.port), 10))
+    time.sleep(2)
+    after = sized(proxy.process.pid)
+    print(f"{count} idle connections: {(after[0] - before[0]) / count / 1e3:.1f} KB each, and {(after[1] - before[1]) / count / 1e3:.1f} KB of page tables")
+    mark("an idle connection", (after[0] - before[0]) / count / 1e3, " KB", most=24)
+    for one in kept:
+        one.sendall(b"POST /v3/kv/range HTTP/1.1\r\nHost: h\r\nContent-Length: %d\r\n\r\n" % len(READ) + READ.encode())
+        one.recv(65536)
+    served = sized(proxy.process.pid)
+    print(f"  once each had a reply: {(served[0] - before[0]) / count / 1e3:.1f} KB, and {(served[1] - before[1]) / count / 1e3:.1f} KB of page tables")
+
+
+def main():
+    folder = tempfile.mkdtemp(prefix="etcd-proxy-", dir=in_memory())
+    cluster = Cluster(folder)
+    proxies = []
+    try:
+        proxies.append(Proxy(PROGRAM, cluster, folder, "leasing", "--leasing-prefix=L/", "--workers=64"))
+        reads(folder, cluster, proxies[0])
+        proxies.append(Proxy(PROGRAM, cluster, folder, "plain", "--workers=64"))
+        calls(folder, cluster, proxies[1])
+        for name, measure in (("watches", lambda proxy: watches(cluster, proxy)), ("idle", idle)):
+            proxies.append(Proxy(PROGRAM, cluster, folder, name))
+            measure(proxies[-1])
+    finally:
+        for proxy in proxies:
+            proxy.stop()
+        cluster.stop()
+        shutil.rmtree(folder, ignore_errors=True)
+    print(f"marks missed: {'; '.join(MISSED)}" if MISSED else "all marks are met")
+    return 1 if MISSED else 0
+
+
+sys.exit(main())

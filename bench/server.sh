@@ -1,0 +1,15 @@
+#!/usr/bin/env bash
+# Measures a running proxy before three etcd members on loopback, side by side with nginx and with the cluster's own JSON gateway: cached
+# reads, reads passed on and puts, at 1, 16 and 64 connections; a thousand equal watches; and what an idle connection takes. Judge by the
+# processor time a request: requests a second move with what else the machine does. The members keep their data in memory where there is
+# room for it, since a disk that is busy would be measured in place of them. It ends in its marks, with status 1 where one is missed.
+#
+# usage: bash bench/server.sh [PROGRAM] [SECONDS]
+#
+# It needs Debian's etcd-server, nginx-light and wrk, and python3. The proved program is taken where none is named.
+set -euo pipefail
+here=$(cd "$(dirname "$0")" && pwd)
+for name in etcd nginx wrk python3; do
+    command -v "$name" > /dev/null || { echo "server: $name is wanting (apt-get install etcd-server nginx-light wrk python3)" >&2; exit 1; }
+done
+exec python3 "$here/server.py" "${1:-$here/../crates/etcd_proxy/out/etcd_proxy}" "${2:-3}"
