@@ -1,5 +1,5 @@
-//! Where the answer to a call ends, by its own framing (RFC 9112, sections 6 and 7), so that its connection may carry another
-//! call (section 9.3). It is told only where nothing is in doubt; each other answer ends with its connection.
+//! Where the answer to a call ends, by its own framing (RFC 9112: message body, chunked coding), so that its connection may carry
+//! another call (RFC 9112: persistence). It is told only where nothing is in doubt; each other answer ends with its connection.
 
 ghost use Rattle.std.specs.Prelude.{◌≤◌};
 
