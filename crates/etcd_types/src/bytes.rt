@@ -10,6 +10,7 @@ use crate::no_memory::NoMemory;
 use crate::short_bytes::{MOST, ShortBytes};
 use std::alloc::Global;
 use std::cmp::Ordering;
+use std::fmt;
 use std::marker::Model;
 
 /// Where bytes lie.
@@ -21,7 +22,6 @@ enum Held {
 
 /// A key, a value or another string of bytes, of any length. Few bytes, as most keys are, lie in the value itself, so that they
 /// take no memory of their own. Contracts see it as the list of its bytes.
-#[derive(Debug)]
 pub struct Bytes {
     held: Held,
 }
@@ -31,6 +31,15 @@ impl Drop for Bytes {
     fn drop(self) {
         let Bytes { held } = self;
         drop(held);
+    }
+}
+
+// By hand, so that what is shown tells the bytes and not where they lie.
+impl fmt::Debug for Bytes {
+    fn fmt<W: fmt::Write>(&self, f: &mut fmt::Formatter<W>) -> fmt::Result {
+        f.debug_struct("Bytes")
+            .field("bytes", &self.as_slice())
+            .finish()
     }
 }
 
