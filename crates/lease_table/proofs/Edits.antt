@@ -1,24 +1,18 @@
 -- What an edit at a key's place does to the table.
-use Rattle.std.proofs.Common.{◌≡◌, ◌≢◌, ℕ, zero, suc, ◌+◌, ◌-◌, ◌++◌, true, List, [], ◌∷◌, map, take, drop, get_or, set, IsTrue, None, Some, is_some, refl, sym, ◌∙◌, ap, subst, arith}
+use Rattle.std.proofs.Common.{◌≡◌, ◌≢◌, ℕ, zero, suc, ◌+◌, ◌-◌, ◌<◌, length, ◌++◌, true, List, [], ◌∷◌, map, take, drop, get_or, set, IsTrue, None, Some, is_some, refl, sym, ◌∙◌, ap, subst, arith}
+use Rattle.std.proofs.lemmas.List.{get_or-set_same}
 use Rattle.std.specs.List.{insert, remove}
-use Rattle.std.specs.Ordering.{nat_cmp}
-use Rattle.std.specs.Cmp.Lexicographic.{slice_cmp}
-use Rattle.std.specs.FinMap.Entries.{below_all}
 use Rattle.std.specs.Option.{option_map}
 use Rattle.proxy_model.specs.declared.lease.Entry.{Entry}
 use Rattle.proxy_model.specs.Keyed.{Keyed, at, with_at, changed_at, is_in_order}
 use Rattle.proxy_model.specs.LeaseTable.{Table, change, hold}
 use Rattle.proxy_model.proofs.KeyedLaws.{to_T, in_order-with_at}
 use Rattle.keyed_rows.specs.Places.{IsPlace, IsGap}
-use Rattle.lease_table.specs.Dues.{changed_in}
+use Rattle.slot_rows.specs.Roomy.{changed_in}
+use Rattle.slot_rows.proofs.Changes.{set-changed}
 use Rattle.keyed_rows.proofs.Places.{changed-gap, at-place, put-place, place-is_some, put-gap, without-place, without-gap}
 
 -- One row changed, by its place.
-
-set-changed : {A : Type 0} (es : Keyed A) (i : ℕ) (f : A → A) (d : List ℕ × A) → set es i ((get_or es i d).0, f (get_or es i d).1) ≡ changed_in es i f
-set-changed [] i f d = refl
-set-changed (e ∷ es) zero f d = refl
-set-changed (e ∷ es) (suc i) f d = ap (λ fs. e ∷ fs) (set-changed es i f d)
 
 pub set_is_changed : (es : Keyed Entry) (i : ℕ) (f : Entry → Entry) (row : List ℕ × Entry) → row ≡ get_or es i row → set es i (row.0, f row.1) ≡ changed_in es i f
 set_is_changed es i f row e =
@@ -35,15 +29,19 @@ changed_table t k f i p = ap (λ (es : Keyed Entry). record t { entries = es }) 
 pub unchanged_table : (t : Table) (k : List ℕ) (f : Entry → Entry) (i : ℕ) → IsTrue (is_in_order t.entries) → IsGap t.entries k i → t ≡ change t k f
 unchanged_table t k f i s g = ap (λ (es : Keyed Entry). record t { entries = es }) (changed-gap t.entries k i f s g)
 
-below-changed : {A : Type 0} (k : List ℕ) (es : Keyed A) (i : ℕ) (f : A → A) → below_all (slice_cmp nat_cmp) k (changed_in es i f) ≡ below_all (slice_cmp nat_cmp) k es
-below-changed k [] i f = refl
-below-changed k (e ∷ es) zero f = refl
-below-changed k (e ∷ es) (suc i) f = rw (below-changed k es i f) refl
+-- What is read of one row before and after its turn.
+pub record IsTurned (es : Keyed Entry) (i : ℕ) (f : Entry → Entry) (old : List ℕ × Entry) (after : Keyed Entry) (row : List ℕ × Entry) : Type 0 where
+  pub within : i < length es
+  pub old_is : old ≡ get_or es i old
+  pub after_is : after ≡ changed_in es i f
+  pub row_is : row ≡ get_or after i row
 
-pub in_order-changed_in : {A : Type 0} (es : Keyed A) (i : ℕ) (f : A → A) → is_in_order (changed_in es i f) ≡ is_in_order es
-in_order-changed_in [] i f = refl
-in_order-changed_in (e ∷ es) zero f = refl
-in_order-changed_in (e ∷ es) (suc i) f = rw (below-changed e.0 es i f, in_order-changed_in es i f) refl
+pub turned_rows : (es : Keyed Entry) (i : ℕ) (f : Entry → Entry) (old : List ℕ × Entry) (after : Keyed Entry) (row : List ℕ × Entry) → IsTurned es i f old after row → after ≡ set es i (old.0, f old.1)
+turned_rows es i f old after row x = x.after_is ∙ sym (set_is_changed es i f old x.old_is)
+
+pub turned_row : (es : Keyed Entry) (i : ℕ) (f : Entry → Entry) (old : List ℕ × Entry) (after : Keyed Entry) (row : List ℕ × Entry) → IsTurned es i f old after row → row ≡ (old.0, f old.1)
+turned_row es i f old after row x =
+    x.row_is ∙ ap (λ (es : Keyed Entry). get_or es i row) (turned_rows es i f old after row x) ∙ get_or-set_same es i (old.0, f old.1) row x.within
 
 -- Each row up to a place is changed.
 

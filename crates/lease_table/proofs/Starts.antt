@@ -17,7 +17,7 @@ use Rattle.proxy_model.specs.LeaseTable.{given_up, given_up_in}
 use Rattle.proxy_model.proofs.KeyedLaws.{from_T}
 use Rattle.keyed_rows.specs.Places.{IsPlace, IsGap}
 use Rattle.keyed_rows.proofs.Places.{first_T, second_part, less}
-use Rattle.lease_table.specs.Dues.{changed_in}
+use Rattle.slot_rows.specs.Roomy.{changed_in}
 use Rattle.lease_table.specs.Starts.{IsStart, is_in}
 
 -- Keys and ranges.

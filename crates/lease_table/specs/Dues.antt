@@ -1,5 +1,5 @@
 -- Which entries have a rescind that is to be sent: how many have one, and where the first of them stands.
-use Rattle.std.specs.Prelude.{◌≡◌, ℕ, zero, suc, ◌+◌, ◌-◌, ◌==◌, nat_lt, Bool, IsTrue, if◌then◌else◌, [], ◌∷◌, drop}
+use Rattle.std.specs.Prelude.{◌≡◌, ℕ, suc, ◌+◌, ◌-◌, ◌<◌, ◌^◌, ◌==◌, nat_lt, Bool, IsTrue, if◌then◌else◌, [], ◌∷◌, drop, length}
 use Rattle.proxy_model.specs.declared.lease.Entry.{Entry}
 use Rattle.proxy_model.specs.Keyed.{Keyed, is_in_order}
 use Rattle.wait_model.specs.Phases.{is_rescind_due}
@@ -26,11 +26,10 @@ pub record IsKept (rows : Keyed Entry) (due first : ℕ) : Type 0 where
   pub counted : due ≡ due_count rows
   pub found : first ≡ first_due rows
 
--- the row at the place, changed
-abbrev pub changed_in : {A : Type 0} → Keyed A → ℕ → (A → A) → Keyed A
-changed_in [] i f = []
-changed_in (e ∷ es) zero f = (e.0, f e.1) ∷ es
-changed_in (e ∷ es) (suc i) f = e ∷ changed_in es i f
+-- They are kept, and their number and the room beside them fit 32 bits.
+pub record IsRoomy (rows : Keyed Entry) (spare due first : ℕ) : Type 0 where
+  pub kept : IsKept rows due first
+  pub most : length rows + spare < 2 ^ 32
 
 -- Where the first one stands after a change of one row, by whether that row has a rescind that is to be sent.
 

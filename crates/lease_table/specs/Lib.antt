@@ -1,4 +1,3 @@
-pub mod Blanks
 pub mod Dues
 pub mod Starts
 pub mod Turns

@@ -3,7 +3,9 @@
 ghost use Rattle.std.specs.Prelude.{◌≡◌, ◌<◌, ◌≤◌, ◌+◌, ◌^◌, length};
 ghost use Rattle.lease_table.specs.Dues.{one_if, due_count, first_due_from, first_of_changed, first_of_added, first_of_removed};
 
-use crate::rows::Row;
+use crate::turns::is_rescind_due;
+use proxy_model::Entry;
+use slot_rows::SlotRows;
 
 /// The number after one row was changed: `was` and `is` say whether its rescind is to be sent.
 pub(crate) fn count_changed(due: usize, was: bool, is: bool) -> usize
@@ -20,15 +22,15 @@ pub(crate) fn count_changed(due: usize, was: bool, is: bool) -> usize
 
 /// The first one after the row at this place was changed.
 pub(crate) fn first_of_changed(
-    rows: &[Row],
+    rows: &SlotRows<Entry>,
     due: usize,
     first: usize,
     place: usize,
     is: bool,
 ) -> usize
-    requires counted { due ≡ due_count rows.now }
-    requires in_range { place < length rows.now }
-    ensures { result ≡ first_of_changed rows.now first place is }
+    requires counted { due ≡ due_count rows.now.rows }
+    requires in_range { place < length rows.now.rows }
+    ensures { result ≡ first_of_changed rows.now.rows first place is }
 {
     if is {
         if place < first { place } else { first }
@@ -54,10 +56,15 @@ pub(crate) fn first_of_added(first: usize, place: usize, is: bool) -> usize
 }
 
 /// The first one after the row at this place was taken out.
-pub(crate) fn first_of_removed(rows: &[Row], due: usize, first: usize, place: usize) -> usize
-    requires counted { due ≡ due_count rows.now }
-    requires in_range { place ≤ length rows.now }
-    ensures { result ≡ first_of_removed rows.now first place }
+pub(crate) fn first_of_removed(
+    rows: &SlotRows<Entry>,
+    due: usize,
+    first: usize,
+    place: usize,
+) -> usize
+    requires counted { due ≡ due_count rows.now.rows }
+    requires in_range { place ≤ length rows.now.rows }
+    ensures { result ≡ first_of_removed rows.now.rows first place }
 {
     if place < first {
         first - 1
@@ -69,10 +76,10 @@ pub(crate) fn first_of_removed(rows: &[Row], due: usize, first: usize, place: us
 }
 
 /// The first one from this place on. Where no rescind is to be sent it looks at no row.
-fn next_due(rows: &[Row], due: usize, from: usize) -> usize
-    requires counted { due ≡ due_count rows.now }
-    requires in_range { from ≤ length rows.now }
-    ensures { result ≡ first_due_from rows.now from }
+fn next_due(rows: &SlotRows<Entry>, due: usize, from: usize) -> usize
+    requires counted { due ≡ due_count rows.now.rows }
+    requires in_range { from ≤ length rows.now.rows }
+    ensures { result ≡ first_due_from rows.now.rows from }
 {
     if due == 0 {
         rows.len()
@@ -81,12 +88,12 @@ fn next_due(rows: &[Row], due: usize, from: usize) -> usize
     }
 }
 
-fn seek_due(rows: &[Row], from: usize) -> usize
-    requires { from ≤ length rows.now }
-    ensures { result ≡ first_due_from rows.now from }
+fn seek_due(rows: &SlotRows<Entry>, from: usize) -> usize
+    requires { from ≤ length rows.now.rows }
+    ensures { result ≡ first_due_from rows.now.rows from }
 {
     for place in from..rows.len() {
-        if rows[place].is_due() {
+        if is_rescind_due(&rows.row(place).1) {
             return place;
         }
     }

@@ -1,8 +1,8 @@
-//! The lease table of a proxy: what it has of each key that it owns, found by key in logarithmic time.
+//! The lease table of a proxy: what it has of each key that it owns, found by key.
 //!
 //! It is a finite map from keys to entries, beside the number of entries for which room was made. Room is made first,
-//! by `reserve`, so that an entry can be added where no memory may be wanting. The first rescind that is to be sent is found in
-//! constant time, and the entries of a range by its ends.
+//! by `reserve`, so that an entry can be added where no memory may be wanting. An entry is mostly found in constant time, the first
+//! rescind that is to be sent always, and the entries of a range by its ends.
 #![tactic(auto)]
 
 ghost use Rattle.std.specs.Prelude.{◌≡◌, ◌<◌, ◌≤◌, ◌==◌, ◌&&◌, if◌then◌else◌, true, false, IsTrue, None, Some, OnOk, OnErr, length, [], is_some, IfOk, IfErr};
@@ -18,48 +18,40 @@ ghost use Rattle.proxy_model.specs.LeaseTable.{empty_table, room, is_held, is_wr
 ghost use Rattle.wait_model.specs.DueOrder.{first_rescind};
 ghost use Rattle.wait_model.specs.Edits.{each};
 ghost use Rattle.wait_model.specs.Phases.{rescind_sent};
-ghost use Rattle.lease_table.specs.Dues.{changed_in};
 ghost use Rattle.lease_table.specs.Starts.{IsStart, is_in};
 ghost use Rattle.lease_table.specs.Turns.{turned};
+ghost use Rattle.slot_rows.specs.Roomy.{changed_in};
 
 mod dues;
-mod rows;
 mod turns;
 
 use crate::dues::{count_changed, first_of_added, first_of_changed, first_of_removed};
-pub use crate::rows::Row;
-use crate::rows::{blank_all, make_room};
 use crate::turns::{Turn, is_rescind_due};
 use etcd_types::{Bytes, KeyRange, Kv, NoMemory};
 pub use proxy_model::{Entry, Phase};
+use slot_rows::SlotRows;
 use std::alloc::Global;
-use std::cmp::Ordering;
 use std::marker::Model;
 
 /// The entries, by key.
 #[derive(Debug, Drop)]
 pub struct LeaseTable {
-    rows: Vec<Row>,
-    /// Rows for entries that come, as many as there is room for.
-    blanks: Vec<Row>,
+    rows: SlotRows<Entry>,
     /// How many rescinds are to be sent.
     due: usize,
     /// The place of the first entry whose rescind is, or behind all.
     first: usize,
-    alloc: Global,
 }
 
 impl Model for LeaseTable {
-    ghost use Rattle.std.specs.Prelude.{vec_len};
-    ghost use Rattle.std.specs.Vec.{vec_capacity};
     ghost use Rattle.proxy_model.specs.LeaseTable.{Table};
-    ghost use Rattle.lease_table.specs.Blanks.{IsRoomy};
+    ghost use Rattle.lease_table.specs.Dues.{IsRoomy};
 
     ghost Value = { Table };
 
-    ghost view = { λ t. record { entries = t.rows.items; spare = vec_len t.blanks } };
+    ghost view = { λ t. record { entries = t.rows.rows; spare = t.rows.spare } };
 
-    ghost invariant = { λ t. IsRoomy t.rows.items t.due t.first (vec_len t.rows) (vec_capacity t.rows) (vec_len t.blanks) (vec_capacity t.blanks) };
+    ghost invariant = { λ t. IsRoomy t.rows.rows t.rows.spare t.due t.first };
 }
 
 impl LeaseTable {
@@ -68,11 +60,9 @@ impl LeaseTable {
         ensures { result ≡ empty_table }
     {
         LeaseTable {
-            rows: Vec::new(alloc),
-            blanks: Vec::new(alloc),
+            rows: SlotRows::new(alloc),
             due: 0,
             first: 0,
-            alloc,
         }
     }
 
@@ -83,40 +73,36 @@ impl LeaseTable {
         ensures ok { OnOk result (count ≤ self.new.spare) }
         ensures err { OnErr result (self.new ≡ self.old) }
     {
-        make_room(self.alloc, &mut self.rows, &mut self.blanks, count as usize)?;
-        Ok(())
+        self.rows.reserve(count)
     }
 
     /// How many entries there is room for already.
     pub fn spare(&self) -> u64
         ensures { result ≡ self.now.spare }
     {
-        self.blanks.len() as u64
+        self.rows.spare() as u64
     }
 
-    /// All entries, in the order of their keys.
-    pub fn entries(&self) -> &[Row]
-        ensures all { result.now ≡ self.now.entries }
+    /// How many entries there are. No key has two.
+    pub fn len(&self) -> usize
+        ensures all { result ≡ length self.now.entries }
         ensures in_order { IsTrue (is_in_order self.now.entries) }
     {
-        &self.rows
+        self.rows.len()
     }
 
     /// The key's entry.
     pub fn find(&self, key: &Bytes) -> Option<&Entry>
         ensures { option_copied result ≡ at self.now.entries key.now }
     {
-        match self.place(key) {
-            Ok(at) => Some(self.rows[at].entry()),
-            Err(_) => None,
-        }
+        self.rows.find(key)
     }
 
     /// Whether a key of the range has an entry.
     pub fn has_in(&self, range: &KeyRange) -> bool
         ensures { result ≡ list_any (λ e. contains range.now e.0) self.now.entries }
     {
-        let _all = self.entries();
+        let _count = self.len();
         self.is_in(range, self.start(range))
     }
 
@@ -132,9 +118,7 @@ impl LeaseTable {
                 let is = is_rescind_due(&entry);
                 self.due = count_changed(self.due, false, is);
                 self.first = first_of_added(self.first, gap, is);
-                let mut row = self.blanks.take_last();
-                row.fill(key, entry);
-                self.rows.insert(gap, row).unwrap();
+                self.rows.insert(gap, key, entry);
             }
         }
     }
@@ -185,10 +169,9 @@ impl LeaseTable {
         ensures room { room self.new ≡ room self.old }
     {
         if let Ok(place) = self.place(key) {
-            let mut row = self.rows.remove(place);
-            let was = row.is_due();
-            row.clear(self.alloc);
-            self.blanks.push_reserved(row);
+            let row = self.rows.remove(place);
+            let was = is_rescind_due(&row.1);
+            drop(row);
             self.due = count_changed(self.due, was, false);
             self.first = first_of_removed(&self.rows, self.due, self.first, place);
         }
@@ -199,7 +182,7 @@ impl LeaseTable {
         ensures entries { self.new.entries ≡ [] }
         ensures room { room self.new ≡ room self.old }
     {
-        blank_all(self.alloc, &mut self.rows, &mut self.blanks);
+        self.rows.clear();
         self.due = 0;
         self.first = 0;
     }
@@ -208,7 +191,7 @@ impl LeaseTable {
     pub fn leave_range(&mut self, range: &KeyRange)
         ensures { self.new ≡ leave_range self.old range.now }
     {
-        let _all = self.entries();
+        let _count = self.len();
         let mut place = self.start(range);
         while self.is_in(range, place) {
             self.turn_at(place, Turn::GivenUp);
@@ -250,9 +233,10 @@ impl LeaseTable {
     pub fn first_rescind(&self) -> Option<&(Bytes, Entry)>
         ensures { option_copied result ≡ first_rescind self.now.entries }
     {
-        match self.rows.get(self.first) {
-            Some(row) => Some(row.as_pair()),
-            None => None,
+        if self.first < self.rows.len() {
+            Some(self.rows.row(self.first))
+        } else {
+            None
         }
     }
 
@@ -263,11 +247,7 @@ impl LeaseTable {
         ensures up_to_end { IfErr result (λ gap. gap ≤ length self.now.entries) }
         ensures absent { IfErr result (IsGap self.now.entries key.now) }
     {
-        self.rows.binary_search_by(
-            |row: &Row| -> Ordering
-                ensures { result ≡ slice_cmp nat_cmp row.now.0 key.entry.now }
-            { row.key().cmp(key) },
-        )
+        self.rows.place(key)
     }
 
     /// Where the first row that isn't below the range is, or behind all.
@@ -286,17 +266,14 @@ impl LeaseTable {
     fn is_in(&self, range: &KeyRange, place: usize) -> bool
         ensures { result ≡ is_in range.now self.now.entries place }
     {
-        match self.rows.get(place) {
-            Some(row) => range.contains(row.key()),
-            None => false,
-        }
+        place < self.rows.len() && range.contains(&self.rows.row(place).0)
     }
 
     /// The key's entry, where there is one, takes this turn.
     fn turn(&mut self, key: &Bytes, turn: Turn)
         ensures { self.new ≡ change self.old key.now (turned turn) }
     {
-        let _all = self.entries();
+        let _count = self.len();
         if let Ok(place) = self.place(key) {
             self.turn_at(place, turn);
         }
@@ -307,10 +284,9 @@ impl LeaseTable {
         requires { place < length self.old.entries }
         ensures { self.new ≡ record self.old { entries = changed_in self.old.entries place (turned turn) } }
     {
-        let row = &mut self.rows[place];
-        let was = row.is_due();
-        row.take_turn(turn);
-        let is = row.is_due();
+        let was = is_rescind_due(&self.rows.row(place).1);
+        self.rows.change(place, turn);
+        let is = is_rescind_due(&self.rows.row(place).1);
         self.due = count_changed(self.due, was, is);
         self.first = first_of_changed(&self.rows, self.due, self.first, place, is);
     }

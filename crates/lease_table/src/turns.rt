@@ -5,6 +5,7 @@ ghost use Rattle.lease_table.specs.Turns.{turned};
 
 use etcd_types::Kv;
 use proxy_model::{Entry, Phase};
+use slot_rows::Change;
 
 /// What happens to an entry.
 #[derive(Debug, Drop)]
@@ -25,8 +26,16 @@ pub(crate) enum Turn {
     RescindLost(u64),
 }
 
+impl Change<Entry> for Turn {
+    ghost changed = { turned };
+
+    fn apply(self, entry: &mut Entry) {
+        take_turn(entry, self);
+    }
+}
+
 /// The entry takes this turn.
-pub(crate) fn take_turn(entry: &mut Entry, turn: Turn)
+fn take_turn(entry: &mut Entry, turn: Turn)
     ensures { entry.new ≡ turned turn entry.old }
 {
     match turn {

@@ -77,7 +77,7 @@ fn revoke_entry(session: Option<u64>, key: Bytes, create: u64, lease: u64, table
     ensures entries { table.new.entries ≡ revoked_entry session key create lease table.old.entries }
     ensures room { table.old.spare ≤ table.new.spare + 1 }
 {
-    let _rows = table.entries();
+    let _count = table.len();
     if is_of(table.find(&key), create) {
         table.give_up(&key);
     } else if is_unknown(session, lease, table.find(&key)) {
@@ -90,7 +90,7 @@ fn take_deleted(key: &Bytes, revision: u64, table: &mut LeaseTable)
     ensures entries { table.new.entries ≡ deleted_entries key.now revision table.old.entries }
     ensures room { table.old.spare ≤ table.new.spare }
 {
-    let _rows = table.entries();
+    let _count = table.len();
     if is_older(table.find(key), revision) {
         if is_held(table.find(key)) {
             table.remove(key);

@@ -190,7 +190,7 @@ impl Waits {
     ) -> Result<ReadAnswer, NotShape>
         ensures { (session : Option ℕ) (now : ℕ) → IsRead result (λ r. taken call r session now (owned table.now.entries self.now)) (answered call answer session now (owned table.now.entries self.now)) }
     {
-        let _rows = table.entries();
+        let _count = table.len();
         read_call(
             self.alloc,
             &self.prefix,

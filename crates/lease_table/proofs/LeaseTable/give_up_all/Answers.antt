@@ -3,7 +3,7 @@ use Rattle.std.proofs.Common.{ap, ◌∙◌}
 use Rattle.proxy_model.specs.declared.lease.Entry.{Entry}
 use Rattle.proxy_model.specs.Keyed.{Keyed}
 use Rattle.proxy_model.specs.LeaseTable.{Table, given_up}
-use Rattle.lease_table.specs.Dues.{changed_in}
+use Rattle.slot_rows.specs.Roomy.{changed_in}
 use Rattle.lease_table.proofs.Edits.{done_more}
 use Rattle.lease_table.proofs.LeaseTable.give_up_all.Goals as goal
 

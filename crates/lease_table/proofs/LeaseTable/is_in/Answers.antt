@@ -1,27 +1,27 @@
 -- The row at the place, where there is one.
-use Rattle.std.proofs.Common.{◌≡◌, ◌<◌, ◌≤◌, ℕ, List, length, get_or, ap, subst, ◌∙◌}
-use Rattle.etcd_types.specs.Ranges.{contains}
+use Rattle.std.proofs.Common.{◌≡◌, ◌<◌, ◌≤◌, ℕ, List, length, nat_lt, false, ap, ◌∙◌, arith}
+use Rattle.std.proofs.lemmas.Bool.Decides.{nat_tests}
 use Rattle.proxy_model.specs.declared.lease.Entry.{Entry}
-use Rattle.proxy_model.specs.Keyed.{Keyed}
 use Rattle.proxy_model.specs.LeaseTable.{Table}
 use Rattle.lease_table.specs.Starts.{is_in}
 use Rattle.lease_table.proofs.Starts.{in-some, in-none}
 use Rattle.lease_table.proofs.LeaseTable.is_in.Goals as goal
 
-pub returns-in-Some : goal.returns-in-Some
-returns-in-Some c =
-    let es = c.self.inside.rows.items in
+pub returns-then-place-len : goal.returns-then-place-len
+returns-then-place-len c =
+    let es = c.self.inside.rows.rows in
     let n = c.args.place in
-    let row : List ℕ × Entry = c.in-Some.row.now in
-    let a = c.in-Some.ensures.lookup in
-    let l : n < length es = subst (λ (xs : Keyed Entry). n < length xs) c.deref.ensures.value a.3.0 in
-    let is : row ≡ get_or es n row = subst (λ (xs : Keyed Entry). row ≡ get_or xs n row) c.deref.ensures.value a.1 in
-    c.contains.ensures ∙ ap (contains c.args.range.now) c.key.ensures ∙ in-some c.args.range.now es n row l is ∙ ap (λ (t : Table). is_in c.args.range.now t.entries n) c.self.view_is
+    let row : List ℕ × Entry = c.row.result.now in
+    let count = c.len.ensures.all in
+    let l : n < length es = omega (arith, count, c.if-place-len.true) in
+    c.contains.ensures ∙ in-some c.args.range.now es n row l c.row.ensures ∙ ap (λ (t : Table). is_in c.args.range.now t.entries n) c.self.view_is
 
-pub returns-in-None : goal.returns-in-None
-returns-in-None c =
-    let es = c.self.inside.rows.items in
+pub returns-else-place-len : goal.returns-else-place-len
+returns-else-place-len c =
+    let es = c.self.inside.rows.rows in
     let n = c.args.place in
-    let a = c.in-None.ensures.lookup in
-    let l : length es ≤ n = subst (λ (xs : Keyed Entry). length xs ≤ n) c.deref.ensures.value a.3 in
-    in-none c.args.range.now es n l ∙ ap (λ (t : Table). is_in c.args.range.now t.entries n) c.self.view_is
+    let count = c.len.ensures.all in
+    let behind = c.if-place-len.false in
+    let l : length es ≤ n = omega (arith, count, behind) in
+    let no : nat_lt n c.len.result ≡ false = grind (arith, nat_tests) in
+    no ∙ in-none c.args.range.now es n l ∙ ap (λ (t : Table). is_in c.args.range.now t.entries n) c.self.view_is

@@ -1,11 +1,11 @@
 -- One more row of the range is given up, and behind the last one there is none.
-use Rattle.std.proofs.Common.{◌≡◌, length, arith, true, false, sym, ap, ◌∙◌}
+use Rattle.std.proofs.Common.{◌≡◌, arith, true, false, sym, ap, ◌∙◌}
 use Rattle.etcd_types.specs.Ranges.{lowest}
 use Rattle.proxy_model.specs.declared.lease.Entry.{Entry}
 use Rattle.proxy_model.specs.Keyed.{Keyed}
 use Rattle.proxy_model.specs.LeaseTable.{Table, given_up}
 use Rattle.proxy_model.proofs.KeyedLaws.{to_T}
-use Rattle.lease_table.specs.Dues.{changed_in}
+use Rattle.slot_rows.specs.Roomy.{changed_in}
 use Rattle.lease_table.specs.Starts.{is_in}
 use Rattle.lease_table.proofs.Starts.{partly, partly-start, partly_more, partly-last, past-start, past_more, in-length, in-partly}
 use Rattle.lease_table.proofs.LeaseTable.leave_range.Goals as goal
@@ -33,7 +33,7 @@ loop-self-preserved c =
           c.turn_at.ensures
           ∙ ap (λ (t : Table). record t { entries = changed_in t.entries i given_up }) c.loop-self.invariant.table
           ∙ ap (λ (fs : Keyed Entry). record c.args.self.now { entries = fs }) (partly_more r es i here);
-      past = past_more (lowest r) es i (to_T _ c.entries-all.ensures.in_order) c.loop-self.invariant.past;
+      past = past_more (lowest r) es i (to_T _ c.len-count.ensures.in_order) c.loop-self.invariant.past;
     }
 
 pub overflow_add-place : goal.overflow_add-place
@@ -43,8 +43,7 @@ overflow_add-place c =
     let i = c.loop-self.place in
     let here : is_in r (partly r es i) i ≡ true = sym (ap (λ (t : Table). is_in r t.entries i) c.loop-self.invariant.table) ∙ sym c.is_in.ensures ∙ c.loop-self-test.true in
     let l = in-partly r es i here in
-    let most = c.entries-all.type_inv.0 in
-    let same = ap length c.entries-all.ensures.all in omega (arith, l, most, same)
+    let same = c.len-count.ensures.all in omega (arith, l, same)
 
 pub loop-self-smaller : goal.loop-self-smaller
 loop-self-smaller c =
@@ -60,4 +59,4 @@ returns c =
     let r = c.args.range.now in
     let i = c.loop-self.place in
     let out : is_in r (partly r es i) i ≡ false = sym (ap (λ (t : Table). is_in r t.entries i) c.loop-self.invariant.table) ∙ sym c.is_in.ensures ∙ c.loop-self-test.false in
-    c.loop-self.invariant.table ∙ ap (λ (fs : Keyed Entry). record c.args.self.now { entries = fs }) (partly-last r es i (to_T _ c.entries-all.ensures.in_order) c.loop-self.invariant.past out)
+    c.loop-self.invariant.table ∙ ap (λ (fs : Keyed Entry). record c.args.self.now { entries = fs }) (partly-last r es i (to_T _ c.len-count.ensures.in_order) c.loop-self.invariant.past out)

@@ -1,5 +1,6 @@
--- The row at the key's place is taken out and kept as a blank one, and where there is none all stays.
+-- The row at the key's place is taken out, and where there is none all stays.
 use Rattle.std.proofs.Common.{◌≡◌, ◌<◌, None, length, sym, ap, subst, ◌∙◌, arith}
+use Rattle.std.proofs.lemmas.List.Edits.{length-remove}
 use Rattle.proxy_model.specs.declared.lease.Entry.{Entry}
 use Rattle.proxy_model.specs.Keyed.{Keyed, with_at}
 use Rattle.proxy_model.specs.LeaseTable.{Table, room}
@@ -9,64 +10,66 @@ use Rattle.lease_table.proofs.Counting.{counted_one, count-remove, kept-removed}
 use Rattle.lease_table.proofs.Edits.{in_order-removed, removed, none_removed}
 use Rattle.lease_table.proofs.LeaseTable.remove.Goals as goal
 
-pub push_reserved-requires : goal.push_reserved-requires
-push_reserved-requires c =
-    let shorter = c.remove-row.ensures.len in
-    let to_blank = c.self.invariant.to_blank in omega (arith, shorter, to_blank)
-
 pub count_changed-self-inside-requires-clause-counted : goal.count_changed-self-inside-requires-clause-counted
 count_changed-self-inside-requires-clause-counted c =
-    let es = c.self.inside.rows.items in
+    let es = c.self.inside.rows.rows in
     let i = c.in-Ok.place in
     let l = subst (λ (t : Table). i < length t.entries) (sym c.self.view_is) c.in-Ok.ensures.in_range in
-    let one = counted_one es i c.remove-row.result l c.remove-row.ensures.value in
-    let was = ap one_if c.is_due-was.ensures in
+    let one = counted_one es i c.remove-row.result l c.remove-row.ensures.row in
+    let was = ap one_if c.is_rescind_due-was.ensures in
     let count = c.self.invariant.kept.counted in omega (arith, one, was, count)
 
 pub first_of_removed-self-inside-requires-clause-counted : goal.first_of_removed-self-inside-requires-clause-counted
 first_of_removed-self-inside-requires-clause-counted c =
-    let es = c.self.inside.rows.items in
+    let es = c.self.inside.rows.rows in
     let i = c.in-Ok.place in
     let l = subst (λ (t : Table). i < length t.entries) (sym c.self.view_is) c.in-Ok.ensures.in_range in
-    let counts = count-remove es i c.remove-row.result l c.remove-row.ensures.value in
-    let was = ap one_if c.is_due-was.ensures in
+    let counts = count-remove es i c.remove-row.result l c.remove-row.ensures.row in
+    let was = ap one_if c.is_rescind_due-was.ensures in
     let count = c.self.invariant.kept.counted in
     let after = c.count_changed-self-inside.ensures in
-    let same = ap due_count (c.deref.ensures.value ∙ c.remove-row.ensures.items) in omega (arith, counts, was, count, after, same)
+    let same = ap due_count c.remove-row.ensures.rows in omega (arith, counts, was, count, after, same)
+
+pub first_of_removed-self-inside-requires-clause-in_range : goal.first_of_removed-self-inside-requires-clause-in_range
+first_of_removed-self-inside-requires-clause-in_range c =
+    let es = c.self.inside.rows.rows in
+    let i = c.in-Ok.place in
+    let l = subst (λ (t : Table). i < length t.entries) (sym c.self.view_is) c.in-Ok.ensures.in_range in
+    let shorter = length-remove es i l in
+    let same = ap length c.remove-row.ensures.rows in omega (arith, l, shorter, same)
 
 pub invariant_of-self : goal.invariant_of-self
 invariant_of-self c =
-    let es = c.self.inside.rows.items in
+    let es = c.self.inside.rows.rows in
     let i = c.in-Ok.place in
     let l = subst (λ (t : Table). i < length t.entries) (sym c.self.view_is) c.in-Ok.ensures.in_range in
     let place = subst (λ (t : Table). IsPlace t.entries c.args.key.now i) (sym c.self.view_is) c.in-Ok.ensures.found in
-    let was = ap one_if c.is_due-was.ensures in
+    let was = ap one_if c.is_rescind_due-was.ensures in
     let after = c.count_changed-self-inside.ensures in
-    let first = c.first_of_removed-self-inside.ensures ∙ ap (λ (rows : Keyed Entry). first_of_removed rows c.self.inside.first i) (c.deref.ensures.value ∙ c.remove-row.ensures.items) in
-    let shorter = c.remove-row.ensures.len in
-    let capacity = c.remove-row.ensures.capacity in
-    let more = c.push_reserved.ensures.len in
-    let blank_capacity = c.push_reserved.ensures.capacity in
-    let to_hold = c.self.invariant.to_hold in
-    let to_blank = c.self.invariant.to_blank in
+    let first = c.first_of_removed-self-inside.ensures ∙ ap (λ (rows : Keyed Entry). first_of_removed rows c.self.inside.first i) c.remove-row.ensures.rows in
+    let shorter = length-remove es i l in
+    let same = ap length c.remove-row.ensures.rows in
+    let more = c.remove-row.ensures.spare in
+    let most = c.self.invariant.most in
     record {
-      kept = subst (λ (rs : Keyed Entry). IsKept rs c.count_changed-self-inside.result c.first_of_removed-self-inside.result) (sym c.remove-row.ensures.items) (kept-removed es c.self.inside.due c.self.inside.first i c.remove-row.result c.count_changed-self-inside.result c.first_of_removed-self-inside.result c.self.invariant.kept l c.remove-row.ensures.value (in_order-removed es c.args.key.now i c.self.invariant.kept.in_order place) (omega (arith, was, after)) first);
-      to_hold = omega (arith, shorter, capacity, more, to_hold);
-      to_blank = omega (arith, shorter, more, blank_capacity, to_blank);
+      kept = subst (λ (rs : Keyed Entry). IsKept rs c.count_changed-self-inside.result c.first_of_removed-self-inside.result) (sym c.remove-row.ensures.rows) (kept-removed es c.self.inside.due c.self.inside.first i c.remove-row.result c.count_changed-self-inside.result c.first_of_removed-self-inside.result c.self.invariant.kept l c.remove-row.ensures.row (in_order-removed es c.args.key.now i c.self.invariant.kept.in_order place) (omega (arith, was, after)) first);
+      most = omega (arith, shorter, same, more, most);
     }
 
 pub returns-in-Ok-clause-entries : goal.returns-in-Ok-clause-entries
 returns-in-Ok-clause-entries c =
     let place = subst (λ (t : Table). IsPlace t.entries c.args.key.now c.in-Ok.place) (sym c.self.view_is) c.in-Ok.ensures.found in
-    c.remove-row.ensures.items ∙ removed _ _ _ c.self.invariant.kept.in_order place ∙ ap (λ (t : Table). with_at t.entries c.args.key.now None) c.self.view_is
+    c.remove-row.ensures.rows ∙ removed _ _ _ c.self.invariant.kept.in_order place ∙ ap (λ (t : Table). with_at t.entries c.args.key.now None) c.self.view_is
 
 pub returns-in-Ok-clause-room : goal.returns-in-Ok-clause-room
 returns-in-Ok-clause-room c =
+    let es = c.self.inside.rows.rows in
+    let i = c.in-Ok.place in
+    let l = subst (λ (t : Table). i < length t.entries) (sym c.self.view_is) c.in-Ok.ensures.in_range in
     let before = ap room c.self.view_is in
-    let shorter = c.remove-row.ensures.len in
-    let more = c.push_reserved.ensures.len in
-    let o = c.self.inside.rows.ok in
-    let p = c.remove-row.new.self.ok in omega (arith, before, shorter, more, o, p)
+    let shorter = length-remove es i l in
+    let same = ap length c.remove-row.ensures.rows in
+    let more = c.remove-row.ensures.spare in omega (arith, before, shorter, same, more)
 
 pub returns-in_default-clause-entries : goal.returns-in_default-clause-entries
 returns-in_default-clause-entries c =

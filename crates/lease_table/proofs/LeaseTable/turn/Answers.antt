@@ -10,4 +10,4 @@ returns-in-Ok c =
 
 pub returns-in_default : goal.returns-in_default
 returns-in_default c =
-    unchanged_table c.args.self.now c.args.key.now (turned c.args.turn) c.in_default.field-0 c.entries-all.ensures.in_order c.in_default.ensures.absent
+    unchanged_table c.args.self.now c.args.key.now (turned c.args.turn) c.in_default.field-0 c.len-count.ensures.in_order c.in_default.ensures.absent

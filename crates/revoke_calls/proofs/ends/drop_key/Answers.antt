@@ -16,4 +16,4 @@ pub returns-else-is_writing : goal.returns-else-is_writing
 returns-else-is_writing c =
     let es = c.args.table.now.entries in
     let k = c.args.key.now in
-    stays_at es k (dropped_turn k (at es k)) c.entries-rows.ensures.in_order (dropped_other k (at es k) (ap is_writing (sym c.find.ensures) ∙ sym c.is_writing.ensures ∙ c.if-is_writing.false))
+    stays_at es k (dropped_turn k (at es k)) c.len-count.ensures.in_order (dropped_other k (at es k) (ap is_writing (sym c.find.ensures) ∙ sym c.is_writing.ensures ∙ c.if-is_writing.false))

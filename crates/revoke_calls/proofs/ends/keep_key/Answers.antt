@@ -16,4 +16,4 @@ returns-else-is_writing-clause-entries c =
     let es = c.args.table.now.entries in
     let k = c.args.key.now in
     let os = c.args.owners.now in
-    stays_at es k (kept_turn os k (at es k)) c.entries-rows.ensures.in_order (kept_other os k (at es k) (ap is_writing (sym c.find.ensures) ∙ sym c.is_writing.ensures ∙ c.if-is_writing.false))
+    stays_at es k (kept_turn os k (at es k)) c.len-count.ensures.in_order (kept_other os k (at es k) (ap is_writing (sym c.find.ensures) ∙ sym c.is_writing.ensures ∙ c.if-is_writing.false))

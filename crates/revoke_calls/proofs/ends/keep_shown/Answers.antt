@@ -10,7 +10,7 @@ returns-then-is_owner-clause-entries c =
     let os = c.args.owners.now in
     let es = c.args.table.now.entries in
     let o = sym c.is_owner.ensures ∙ c.if-is_owner.true in
-    c.keep_keys.ensures.entries ∙ ap (λ rs. turned (kept_turn os) rs es) c.as_slice.ensures ∙ ap (λ b. turned (kept_turn os) (cond b w.ranges []) es) (sym o) ∙ kept_is w os es c.requires c.entries-rows.ensures.in_order
+    c.keep_keys.ensures.entries ∙ ap (λ rs. turned (kept_turn os) rs es) c.as_slice.ensures ∙ ap (λ b. turned (kept_turn os) (cond b w.ranges []) es) (sym o) ∙ kept_is w os es c.requires c.len-count.ensures.in_order
 
 pub returns-else-is_owner-clause-entries : goal.returns-else-is_owner-clause-entries
 returns-else-is_owner-clause-entries c =
@@ -18,4 +18,4 @@ returns-else-is_owner-clause-entries c =
     let os = c.args.owners.now in
     let es = c.args.table.now.entries in
     let o = sym c.is_owner.ensures ∙ c.if-is_owner.false in
-    ap (λ b. turned (kept_turn os) (cond b w.ranges []) es) (sym o) ∙ kept_is w os es c.requires c.entries-rows.ensures.in_order
+    ap (λ b. turned (kept_turn os) (cond b w.ranges []) es) (sym o) ∙ kept_is w os es c.requires c.len-count.ensures.in_order

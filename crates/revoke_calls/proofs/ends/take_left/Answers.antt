@@ -16,4 +16,4 @@ pub returns-then-not-is_writing : goal.returns-then-not-is_writing
 returns-then-not-is_writing c =
     let es = c.args.table.now.entries in
     let k = c.args.left.key in
-    stays_at es k (wrote_turn c.args.left.kv (at es k)) c.entries-rows.ensures.in_order (wrote_other c.args.left.kv (at es k) (ap is_writing (sym c.find.ensures) ∙ sym c.is_writing.ensures ∙ c.if-not-is_writing.true))
+    stays_at es k (wrote_turn c.args.left.kv (at es k)) c.len-count.ensures.in_order (wrote_other c.args.left.kv (at es k) (ap is_writing (sym c.find.ensures) ∙ sym c.is_writing.ensures ∙ c.if-not-is_writing.true))

@@ -14,10 +14,10 @@ pub returns-then-is_writing : goal.returns-then-is_writing
 returns-then-is_writing c =
     let es = c.args.table.now.entries in
     let k = c.args.key.now in
-    ap (λ t. t.entries) c.set_fate.ensures ∙ changed_is es k (after c.args.fate) (settled_at c.args.fate k) c.entries-rows.ensures.in_order (λ j x t. ap (λ b. cond b (if_written true (after c.args.fate) x) x) t) (written_here (after c.args.fate) (same k k) (at es k) (same-itself k) (ap is_writing (sym c.find.ensures) ∙ sym c.is_writing.ensures ∙ c.if-is_writing.true))
+    ap (λ t. t.entries) c.set_fate.ensures ∙ changed_is es k (after c.args.fate) (settled_at c.args.fate k) c.len-count.ensures.in_order (λ j x t. ap (λ b. cond b (if_written true (after c.args.fate) x) x) t) (written_here (after c.args.fate) (same k k) (at es k) (same-itself k) (ap is_writing (sym c.find.ensures) ∙ sym c.is_writing.ensures ∙ c.if-is_writing.true))
 
 pub returns-else-is_writing : goal.returns-else-is_writing
 returns-else-is_writing c =
     let es = c.args.table.now.entries in
     let k = c.args.key.now in
-    unchanged_is es k (settled_at c.args.fate k) c.entries-rows.ensures.in_order (λ j x t. ap (λ b. cond b (if_written true (after c.args.fate) x) x) t) (other_here (after c.args.fate) (same k k) (at es k) (ap is_writing (sym c.find.ensures) ∙ sym c.is_writing.ensures ∙ c.if-is_writing.false))
+    unchanged_is es k (settled_at c.args.fate k) c.len-count.ensures.in_order (λ j x t. ap (λ b. cond b (if_written true (after c.args.fate) x) x) t) (other_here (after c.args.fate) (same k k) (at es k) (ap is_writing (sym c.find.ensures) ∙ sym c.is_writing.ensures ∙ c.if-is_writing.false))

@@ -20,4 +20,4 @@ returns-else-is_unknown-clause-entries c =
     let k = c.args.key in
     let other = ap (is_of c.args.create) (sym c.find.ensures) ∙ sym c.is_of.ensures ∙ c.if-is_of.false in
     let known = ap (is_unknown c.args.session c.args.lease) (sym c.find-else-is_of.ensures) ∙ sym c.is_unknown.ensures ∙ c.if-is_unknown.false in
-    stays_at es k (revoked_turn c.args.session c.args.create c.args.lease (at es k)) c.entries-rows.ensures.in_order (revoked_other c.args.session c.args.create c.args.lease (at es k) other known)
+    stays_at es k (revoked_turn c.args.session c.args.create c.args.lease (at es k)) c.len-count.ensures.in_order (revoked_other c.args.session c.args.create c.args.lease (at es k) other known)

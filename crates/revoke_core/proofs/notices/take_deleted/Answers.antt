@@ -19,11 +19,11 @@ returns-else-is_writing-clause-entries c =
     let k = c.args.key.now in
     let not_held = ap is_held (sym c.find-then-is_older.ensures) ∙ sym c.is_held.ensures ∙ c.if-is_held.false in
     let not_written = ap is_writing (sym c.find-else-is_held.ensures) ∙ sym c.is_writing.ensures ∙ c.if-is_writing.false in
-    stays_at es k (deleted_turn c.args.revision (at es k)) c.entries-rows.ensures.in_order (deleted_leaving c.args.revision (at es k) not_held not_written)
+    stays_at es k (deleted_turn c.args.revision (at es k)) c.len-count.ensures.in_order (deleted_leaving c.args.revision (at es k) not_held not_written)
 
 pub returns-else-is_older-clause-entries : goal.returns-else-is_older-clause-entries
 returns-else-is_older-clause-entries c =
     let es = c.args.table.now.entries in
     let k = c.args.key.now in
     let younger = ap (is_older c.args.revision) (sym c.find.ensures) ∙ sym c.is_older.ensures ∙ c.if-is_older.false in
-    stays_at es k (deleted_turn c.args.revision (at es k)) c.entries-rows.ensures.in_order (deleted_younger c.args.revision (at es k) younger)
+    stays_at es k (deleted_turn c.args.revision (at es k)) c.len-count.ensures.in_order (deleted_younger c.args.revision (at es k) younger)

@@ -13,10 +13,10 @@ pub returns-then-is_held : goal.returns-then-is_held
 returns-then-is_held c =
     let es = c.args.table.now.entries in
     let k = c.args.key.now in
-    ap (λ t. t.entries) c.begin_write.ensures ∙ changed_is es k writing (begun_at k) c.entries-rows.ensures.in_order (λ j x t. ap (λ b. cond b (begun x) x) t) (held_begun (same k k) (at es k) (same-itself k) (ap is_held (sym c.find.ensures) ∙ sym c.is_held.ensures ∙ c.if-is_held.true))
+    ap (λ t. t.entries) c.begin_write.ensures ∙ changed_is es k writing (begun_at k) c.len-count.ensures.in_order (λ j x t. ap (λ b. cond b (begun x) x) t) (held_begun (same k k) (at es k) (same-itself k) (ap is_held (sym c.find.ensures) ∙ sym c.is_held.ensures ∙ c.if-is_held.true))
 
 pub returns-else-is_held : goal.returns-else-is_held
 returns-else-is_held c =
     let es = c.args.table.now.entries in
     let k = c.args.key.now in
-    unchanged_is es k (begun_at k) c.entries-rows.ensures.in_order (λ j x t. ap (λ b. cond b (begun x) x) t) (other_begun (same k k) (at es k) (ap is_held (sym c.find.ensures) ∙ sym c.is_held.ensures ∙ c.if-is_held.false))
+    unchanged_is es k (begun_at k) c.len-count.ensures.in_order (λ j x t. ap (λ b. cond b (begun x) x) t) (other_begun (same k k) (at es k) (ap is_held (sym c.find.ensures) ∙ sym c.is_held.ensures ∙ c.if-is_held.false))

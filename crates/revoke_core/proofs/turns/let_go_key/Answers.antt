@@ -26,14 +26,14 @@ returns-then-is_leased c =
     let es = c.args.table.now.entries in
     let k = c.args.key.now in
     let ask = c.args.request.now in
-    ap (λ t. t.entries) c.leave.ensures ∙ changed_is es k leaving (let_go_at ask k) c.entries-rows.ensures.in_order (λ j x t. spared (same j k) (leased ask j) x t) (held_let_go (same k k && leased ask k) (at es k) (and_both (same k k) (leased ask k) (same-itself k) (sym c.is_leased.ensures ∙ c.if-is_leased.true)) (ap is_held (sym c.find.ensures) ∙ sym c.is_held.ensures ∙ c.if-is_held.true))
+    ap (λ t. t.entries) c.leave.ensures ∙ changed_is es k leaving (let_go_at ask k) c.len-count.ensures.in_order (λ j x t. spared (same j k) (leased ask j) x t) (held_let_go (same k k && leased ask k) (at es k) (and_both (same k k) (leased ask k) (same-itself k) (sym c.is_leased.ensures ∙ c.if-is_leased.true)) (ap is_held (sym c.find.ensures) ∙ sym c.is_held.ensures ∙ c.if-is_held.true))
 
 pub returns-else-is_held : goal.returns-else-is_held
 returns-else-is_held c =
     let es = c.args.table.now.entries in
     let k = c.args.key.now in
     let ask = c.args.request.now in
-    unchanged_is es k (let_go_at ask k) c.entries-rows.ensures.in_order (λ j x t. spared (same j k) (leased ask j) x t) (elim c.else-is_held.branch [
+    unchanged_is es k (let_go_at ask k) c.len-count.ensures.in_order (λ j x t. spared (same j k) (leased ask j) x t) (elim c.else-is_held.branch [
       | else-is_held-via-then-is_held+else-is_leased w ↦ none_let_go (same k k && leased ask k) (at es k) (unless (same k k) (leased ask k) (sym w.is_leased.ensures ∙ w.if-is_leased.false))
       | else-is_held-via-else-is_held w ↦ other_let_go (same k k && leased ask k) (at es k) (ap is_held (sym c.find.ensures) ∙ sym c.is_held.ensures ∙ w.if-is_held.false)
     ])

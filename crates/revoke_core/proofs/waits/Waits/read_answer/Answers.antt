@@ -15,6 +15,6 @@ pub returns : goal.returns
 returns c = λ session now.
     let w : Waits = the_view c.self.inside in
     let es = c.args.table.now.entries in
-    let does = answered_is_read c.args.call c.args.answer session now (owned es w) c.self.invariant.proper c.entries-rows.ensures.in_order in
+    let does = answered_is_read c.args.call c.args.answer session now (owned es w) c.self.invariant.proper c.len-count.ensures.in_order in
     let here = subst (λ (cs : List WaitCall). Reads c.read_call.result (job_read w.prefix c.args.call c.args.answer (job_of c.args.call cs) w.writes es)) c.deref-2.ensures.value (subst (λ (ws : List Write). Reads c.read_call.result (job_read w.prefix c.args.call c.args.answer (job_of c.args.call c.deref-2.result.now) ws es)) c.deref.ensures.value c.read_call.ensures) in
     subst (λ (v : Waits). IsRead c.read_call.result (λ r. taken c.args.call r session now (owned es v)) (answered c.args.call c.args.answer session now (owned es v))) c.self.view_is (is_read c.read_call.result _ (λ r. taken c.args.call r session now (owned es w)) _ here does)

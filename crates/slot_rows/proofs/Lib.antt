@@ -1,0 +1,3 @@
+mod Gathered
+pub mod Changes
+mod Edits
