@@ -10,7 +10,7 @@ use Rattle.read_model.specs.declared.asked.Asked.{Asked}
 use Rattle.read_model.specs.declared.asked.Stage.{Stage}
 use Rattle.read_model.specs.declared.asked.Stage.TheVariants as stage
 use Rattle.core_model.specs.Lookups.{calls_as, stage_calls, has_ticket}
-use Rattle.known_asks.specs.Marks.{stage_rank, stage_number, mark_of}
+use Rattle.ask_tables.specs.Marks.{stage_rank, stage_number, mark_of}
 use Rattle.known_asks.specs.Firsts.{IsNext, IsNextOf}
 use Rattle.known_asks.specs.Callers.{IsCaller, IsFirstCaller, AreCallers}
 use Rattle.known_asks.specs.declared.callers.Callers.TheVariants.{One, Several}

@@ -18,8 +18,8 @@ use Rattle.core_model.specs.ClockWork.{is_replied}
 use Rattle.core_model.specs.Lookups.{ask_at}
 use Rattle.core_model.specs.Takes.{lesser, least_ready}
 use Rattle.known_asks.specs.Indexed.{Indexed}
-use Rattle.known_asks.specs.Marked.{Placed}
-use Rattle.known_asks.specs.Marks.{stage_rank, stage_number, mark_of}
+use Rattle.ask_tables.specs.Marked.{Placed}
+use Rattle.ask_tables.specs.Marks.{stage_rank, stage_number, mark_of}
 use Rattle.known_asks.specs.Firsts.{all_before, IsNextBy, IsNext, IsNextOf, is_due, due_place, none_due, IsFirstDue, IsFirstDueOf}
 use Rattle.known_asks.proofs.Tickets.{asks, its_ask, all_agree}
 use Rattle.known_asks.proofs.MarkOrder.{sooner, by_mark, by_kind, due_rank, rank_due, replied_rank, rank_replied}
@@ -69,6 +69,14 @@ first_row k marks (x ∷ rows) e h l i = sym h ∙ ap (λ (y : List ℕ × ℕ).
 pub no_row : (k : List ℕ) (marks rows : Keyed ℕ) → rows ≡ rows_from k marks → length rows < 1 → rows_from k marks ≡ []
 no_row k marks [] h l = sym h
 no_row k marks (x ∷ rows) h l = absurd (omega arith)
+
+pub all_row : (marks rows : Keyed ℕ) (e : List ℕ × ℕ) → rows ≡ marks → 1 ≤ length rows → e ≡ get_or rows 0 e → marks ≡ e ∷ drop 1 rows
+all_row marks [] e h l i = absurd (omega arith)
+all_row marks (x ∷ rows) e h l i = sym h ∙ ap (λ (y : List ℕ × ℕ). y ∷ rows) (sym i)
+
+pub no_row_at_all : (marks rows : Keyed ℕ) → rows ≡ marks → length rows < 1 → rows_from (0 ∷ 0 ∷ 0 ∷ []) marks ≡ []
+no_row_at_all marks [] h l = ap (rows_from (0 ∷ 0 ∷ 0 ∷ [])) (sym h)
+no_row_at_all marks (x ∷ rows) h l = absurd (omega arith)
 
 some_of : (g : Asked → List ℕ) (o : Option Asked) (k : List ℕ) → option_map g o ≡ Some k → is_some o ≡ true
 some_of g None k e = absurd (cc)

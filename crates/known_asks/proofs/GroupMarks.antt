@@ -8,10 +8,9 @@ use Rattle.read_model.specs.declared.asked.Asked.{Asked}
 use Rattle.read_model.specs.declared.asked.Stage.{Stage}
 use Rattle.read_model.specs.declared.asked.Stage.TheVariants as stage
 use Rattle.core_model.specs.Groups.{keeps, is_due_stage, is_out_stage, waits_next, due_since, group_since, or_else}
-use Rattle.known_asks.specs.Alike.{is_alike}
-use Rattle.known_asks.specs.Marks.{stage_rank, stage_number}
+use Rattle.ask_tables.specs.Marks.{is_alike, stage_rank, stage_number}
 use Rattle.known_asks.specs.OneByOne.{first_of}
-use Rattle.known_asks.specs.RowMarks.{group_kind, group_key, by_group, has_key}
+use Rattle.ask_tables.specs.RowMarks.{group_kind, group_key, by_group, has_key}
 
 not_out : (call : ℕ) (s : Stage) → (stage_rank s == 3) && (stage_number s == call) ≡ false → is_out_stage call s ≡ false
 not_out call (stage.Calling s) e = refl

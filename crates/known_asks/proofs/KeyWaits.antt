@@ -7,11 +7,10 @@ use Rattle.read_model.specs.PlainRead.{ask_key}
 use Rattle.read_model.specs.declared.asked.Asked.{Asked}
 use Rattle.read_model.specs.declared.asked.Stage.{Stage}
 use Rattle.read_model.specs.declared.asked.Stage.TheVariants as stage
-use Rattle.known_asks.specs.Alike.{is_alike}
-use Rattle.known_asks.specs.KeyMarks.{by_key, key_number}
-use Rattle.known_asks.specs.RowMarks.{has_key}
-use Rattle.known_asks.specs.Marks.{stage_rank, stage_number}
-use Rattle.known_asks.specs.Waiting.{waits_at_key}
+use Rattle.ask_tables.specs.Marks.{is_alike, stage_rank, stage_number}
+use Rattle.ask_tables.specs.KeyMarks.{by_key, key_number}
+use Rattle.ask_tables.specs.RowMarks.{has_key}
+use Rattle.ask_tables.specs.Waiting.{waits_at_key}
 
 waits_not : (s : Stage) → (stage_rank s == 0) && (stage_number s == 0) ≡ false → waits_at_key s ≡ false
 waits_not (stage.Calling s) e = refl

@@ -1,5 +1,5 @@
 -- Who times out first, and a bound of the times of asking.
-use Rattle.std.proofs.Common.{◌≡◌, ℕ, ◌-◌, ◌<◌, Bool, true, false, not, cond, ◌&&◌, ◌||◌, nat_le, List, [], ◌∷◌, Option, Some, None, refl, ◌∙◌, ap, arith}
+use Rattle.std.proofs.Common.{◌≡◌, ℕ, ◌-◌, ◌<◌, ◌==◌, Bool, true, false, not, cond, ◌&&◌, nat_le, List, [], ◌∷◌, Option, Some, None, refl, sym, ◌∙◌, ap, arith}
 use Rattle.std.specs.List.{list_all}
 use Rattle.std.specs.Option.{option_map}
 use Rattle.std.proofs.lemmas.Bool.Decides.{nat_tests}
@@ -9,9 +9,11 @@ use Rattle.read_model.specs.declared.asked.Stage.TheVariants as stage
 use Rattle.read_model.specs.declared.asked.Verdict.TheVariants as verdict
 use Rattle.read_model.specs.PlainRead.{in_stage}
 use Rattle.core_model.specs.ClockWork.{is_replied, times_out, timed_out_ask}
-use Rattle.known_asks.specs.Asks.{is_since, all_since, none_times_out}
+use Rattle.core_model.specs.Lookups.{ask_at, has_ticket}
+use Rattle.known_asks.specs.Asks.{none_times_out}
+use Rattle.ask_tables.specs.RowMarks.{row_mark, by_time}
 use Rattle.known_asks.specs.OneByOne.{Settles}
-use Rattle.known_asks.specs.Times.{IsOldest, IsOldestOf, IsLateOf}
+use Rattle.known_asks.specs.Times.{IsOldest, IsOldestOf, IsLateOf, is_late}
 use Rattle.known_asks.proofs.Since.{none_is_late}
 
 -- what times out has a reply then, and times out no more
@@ -34,11 +36,6 @@ all_have now (a ∷ xs) h =
     one true e = refl
     one false e = absurd (cc)
 
-pub replied_since : (bound : ℕ) (xs : List Asked) → list_all (λ a. is_replied a.stage) xs ≡ true → all_since bound xs ≡ true
-replied_since bound [] h = refl
-replied_since bound (a ∷ xs) h =
-    and_both (is_since bound a) (all_since bound xs) (ap (λ b. b || nat_le bound a.asked) (and_first (is_replied a.stage) (list_all (λ b. is_replied b.stage) xs) h)) (replied_since bound xs (and_second (is_replied a.stage) (list_all (λ b. is_replied b.stage) xs) h))
-
 in_time : (b : Bool) (now asked : ℕ) → b ≡ false → not b && nat_le 5000 (now - asked) ≡ false → now - asked < 5000
 in_time true now asked e f = absurd (cc)
 in_time false now asked e f = grind (arith, nat_tests)
@@ -52,3 +49,35 @@ late_is now r xs h = one (times_out now r) refl
 
 pub none_is_late_then : (now : ℕ) (xs : List Asked) → IsOldestOf None xs → IsLateOf None now xs
 none_is_late_then now xs h = all_have now xs h
+
+-- The first mark tells whether one does.
+
+pub late_mark : (now : ℕ) (r : Asked) (n : ℕ) → is_late (row_mark by_time n r) now ≡ times_out now r
+late_mark now r n = one (is_replied r.stage)
+  where
+    one : (b : Bool) → ((cond {A = ℕ × ℕ} b (1, 0) (0, r.asked)).0 == 0) && nat_le 5000 (now - (cond {A = ℕ × ℕ} b (1, 0) (0, r.asked)).1) ≡ not b && nat_le 5000 (now - r.asked)
+    one true = refl
+    one false = refl
+
+one_is_late : (now t : ℕ) (r : Asked) (xs : List Asked) → ask_at t xs ≡ Some r → times_out now r ≡ true → none_times_out now xs ≡ false
+one_is_late now t r [] h e = absurd (cc)
+one_is_late now t r (a ∷ xs) h e = one (has_ticket t a) h (one_is_late now t r xs)
+  where
+    neither : (b : Bool) → b && false ≡ false
+    neither true = refl
+    neither false = refl
+
+    one : (b : Bool) → cond b (Some a) (ask_at t xs) ≡ Some r → (ask_at t xs ≡ Some r → times_out now r ≡ true → none_times_out now xs ≡ false) → not (times_out now a) && none_times_out now xs ≡ false
+    one true g k = let is : a ≡ r = cc in ap (λ (x : Asked). not (times_out now x) && none_times_out now xs) is ∙ ap (λ b. not b && none_times_out now xs) e
+    one false g k = ap (λ b. not (times_out now a) && b) (k g e) ∙ neither (not (times_out now a))
+
+pub first_tells : (now : ℕ) (r : Asked) (xs : List Asked) → IsOldestOf (cond (is_replied r.stage) None (Some r)) xs → times_out now r ≡ not (none_times_out now xs)
+first_tells now r xs h = of_reply (is_replied r.stage) refl h
+  where
+    of_time : is_replied r.stage ≡ false → IsOldest r xs → (b : Bool) → times_out now r ≡ b → times_out now r ≡ not (none_times_out now xs)
+    of_time f k true e = e ∙ sym (ap not (one_is_late now r.ticket r xs k.there e))
+    of_time f k false e = e ∙ sym (ap not (none_is_late now r.asked xs (in_time (is_replied r.stage) now r.asked f e) k.first))
+
+    of_reply : (b : Bool) → is_replied r.stage ≡ b → IsOldestOf (cond b None (Some r)) xs → times_out now r ≡ not (none_times_out now xs)
+    of_reply true f k = ap (λ b. not b && nat_le 5000 (now - r.asked)) f ∙ sym (ap not (all_have now xs k))
+    of_reply false f k = of_time f k (times_out now r) refl

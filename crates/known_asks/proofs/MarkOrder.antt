@@ -10,7 +10,7 @@ use Rattle.read_model.specs.declared.asked.Asked.{Asked}
 use Rattle.read_model.specs.declared.asked.Stage.{Stage}
 use Rattle.read_model.specs.declared.asked.Stage.TheVariants as stage
 use Rattle.core_model.specs.ClockWork.{is_replied}
-use Rattle.known_asks.specs.Marks.{stage_rank, stage_number, mark_of}
+use Rattle.ask_tables.specs.Marks.{stage_rank, stage_number, mark_of}
 use Rattle.known_asks.specs.Firsts.{is_due}
 
 -- the first numbers that aren't the same decide

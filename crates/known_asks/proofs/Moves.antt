@@ -22,12 +22,12 @@ use Rattle.proxy_model.specs.Keyed as keyed
 use Rattle.proxy_model.proofs.KeyedLaws as keyed_laws
 use Rattle.read_model.specs.declared.asked.Asked.{Asked}
 use Rattle.known_asks.specs.Indexed.{Fits}
-use Rattle.known_asks.specs.KeyMarks.{by_key, by_wait, ticket_mark}
-use Rattle.known_asks.specs.Marks.{mark_of}
-use Rattle.known_asks.specs.RowMarks.{row_mark, by_group, by_time, marks_of, put_at, taken_at, moved}
-use Rattle.known_asks.specs.Marked.{Placed, Marked, HasRow, IsFree}
-use Rattle.known_asks.specs.declared.tables.Tables.{Tables}
-use Rattle.known_asks.specs.declared.row_marks.RowMarks.{RowMarks}
+use Rattle.ask_tables.specs.KeyMarks.{by_key, by_wait, ticket_mark}
+use Rattle.ask_tables.specs.Marks.{mark_of}
+use Rattle.ask_tables.specs.RowMarks.{row_mark, by_group, by_time, marks_of, put_at, taken_at, moved}
+use Rattle.ask_tables.specs.Marked.{Placed, Marked, HasRow, IsFree}
+use Rattle.ask_tables.specs.declared.tables.Tables.{Tables}
+use Rattle.ask_tables.specs.declared.row_marks.RowMarks.{RowMarks}
 use Rattle.known_asks.proofs.Tickets.{at_end}
 
 pub is_false : (b : Bool) → (b ≡ true → ⊥) → b ≡ false
@@ -320,13 +320,3 @@ pub within : (f : ℕ × Asked → ℕ × Asked) (xs ys : Numbered Asked) (i : �
 within f xs ys i l e =
     let long : length (map f (take i xs) ++ drop i xs) ≡ length xs = length-append (map f (take i xs)) (drop i xs) ∙ omega (arith, length-map (take i xs) f, length-take i xs, length-drop i xs, l) in
     rw e (rw long l)
-
--- what is put where nothing stood and taken out again leaves all as it was
-pub undone : (es : Keyed ℕ) (k : List ℕ) (n : ℕ) → IsTrue (keyed.is_in_order es) → keyed.at es k ≡ None → keyed.with_at (keyed.with_at es k (Some n)) k None ≡ es
-undone es k n s e =
-    keyed_laws.same_keyed (keyed.with_at (keyed.with_at es k (Some n)) k None) es (keyed_laws.in_order-with_at (keyed.with_at es k (Some n)) k None (keyed_laws.in_order-with_at es k (Some n) s)) s (λ j.
-    keyed_laws.at-with_at (keyed.with_at es k (Some n)) k j None ∙ ap (λ o. cond (same k j) None o) (keyed_laws.at-with_at es k j (Some n)) ∙ one j (same k j) refl)
-  where
-    one : (j : List ℕ) (b : Bool) → same k j ≡ b → cond b None (cond b (Some n) (keyed.at es j)) ≡ keyed.at es j
-    one j true t = sym (subst (λ (i : List ℕ). keyed.at es i ≡ None) (same-equal k j t) e)
-    one j false t = refl

@@ -7,10 +7,10 @@ use Rattle.read_model.specs.declared.asked.Asked.{Asked}
 use Rattle.core_model.specs.ClockWork.{is_replied}
 use Rattle.core_model.specs.Lookups.{ask_at}
 use Rattle.core_model.specs.Takes.{least_ready}
-use Rattle.known_asks.specs.Alike.{is_alike, is_within, none_within, IsNextAlike, IsNextAlikeOf}
+use Rattle.known_asks.specs.Alike.{is_within, none_within, IsNextAlike, IsNextAlikeOf}
+use Rattle.ask_tables.specs.Marks.{is_alike, stage_rank, stage_number}
 use Rattle.known_asks.specs.Firsts.{IsNext, IsNextOf}
-use Rattle.known_asks.specs.KeyMarks.{by_wait}
-use Rattle.known_asks.specs.Marks.{stage_rank, stage_number}
+use Rattle.ask_tables.specs.KeyMarks.{by_wait}
 use Rattle.known_asks.proofs.Firsts.{unready, above, finds, none_ready}
 use Rattle.known_asks.proofs.MarkOrder.{replied_rank, rank_replied}
 use Rattle.known_asks.proofs.SideBySide.{next_found, none_is_left, its_rank}

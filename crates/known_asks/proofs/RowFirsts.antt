@@ -1,6 +1,6 @@
 -- The first number from a mark on that ends with numbers of rows: that of the first request of a kind and a key, in the order of
 -- asking, and that of the one without a reply that was asked first.
-use Rattle.std.proofs.Common.{◌≡◌, ℕ, Bool, true, false, not, cond, ◌||◌, ◌&&◌, ◌==◌, nat_lt, nat_le, IsTrue, List, [], ◌∷◌, Some, None, refl, sym, ◌∙◌, ap, subst, arith}
+use Rattle.std.proofs.Common.{◌≡◌, ℕ, Bool, true, false, not, cond, ◌||◌, ◌&&◌, ◌==◌, nat_lt, nat_le, IsTrue, List, [], ◌∷◌, Option, Some, None, refl, sym, ◌∙◌, ap, subst, arith}
 use lib.Dec.{T}
 use Rattle.std.specs.Ordering.{nat_cmp, is_lt}
 use Rattle.std.specs.FinMap.{is_sorted}
@@ -13,6 +13,7 @@ use Rattle.numbered_rows.proofs.NumberedLaws.{to_T}
 use Rattle.numbered_rows.proofs.Places.{first_T, rest_T}
 use Rattle.numbered_rows.proofs.Rows.{EachRow, each_row, one_number}
 use Rattle.etcd_types.specs.Keys.{before}
+use Rattle.etcd_types.proofs.KeyOrder.{same-itself}
 use Rattle.etcd_types.proofs.Bools.{and_first, and_second}
 use Rattle.proxy_model.specs.Keyed.{Keyed}
 use Rattle.proxy_model.specs.Keyed as keyed
@@ -22,9 +23,9 @@ use Rattle.read_model.specs.declared.asked.Asked.{Asked}
 use Rattle.core_model.specs.ClockWork.{is_replied}
 use Rattle.known_asks.specs.Asks.{is_since}
 use Rattle.known_asks.specs.Indexed.{Indexed}
-use Rattle.known_asks.specs.Marked.{Placed}
+use Rattle.ask_tables.specs.Marked.{Placed}
 use Rattle.known_asks.specs.OneByOne.{first_of}
-use Rattle.known_asks.specs.RowMarks.{row_mark, has_key, by_time}
+use Rattle.ask_tables.specs.RowMarks.{row_mark, has_key, by_time}
 use Rattle.known_asks.specs.Times.{IsOldestOf}
 use Rattle.known_asks.proofs.Tickets.{asks, its_ask, all_agree}
 use Rattle.known_asks.proofs.Firsts.{each_is}
@@ -186,3 +187,33 @@ pub none_oldest : (rows : Numbered Asked) (index : Numbered ℕ) (marks : Keyed 
 none_oldest rows index marks h p f =
     each_is (λ a. is_replied a.stage) rows (each_row (λ m a. is_replied a.stage ≡ true) rows (to_T _ h.rows_rise) (λ m a g.
     absurd (never_before (by_time a).0 (by_time a).1 m (sym (in_numbers by_time m a 0 0 0) ∙ none_from marks (0 ∷ 0 ∷ 0 ∷ []) (row_mark by_time m a) m f (p.found m a g)))))
+
+-- where the first of all stands first, it is the first from the first mark on
+pub all_from : (rows : Numbered Asked) (marks : Keyed ℕ) (e : List ℕ × ℕ) (rest : Keyed ℕ) → IsTrue (keyed.is_in_order marks) → Placed (row_mark by_time) rows marks → marks ≡ e ∷ rest → rows_from (0 ∷ 0 ∷ 0 ∷ []) marks ≡ e ∷ rest
+all_from rows marks e rest s p f =
+    ap (rows_from (0 ∷ 0 ∷ 0 ∷ [])) f ∙ ap (λ b. cond b (rows_from (0 ∷ 0 ∷ 0 ∷ []) rest) (e ∷ rest)) (by_row (at rows e.1) refl (p.kept e.0 e.1 there))
+  where
+    there : keyed.at marks e.0 ≡ Some e.1
+    there = ap (λ (es : Keyed ℕ). keyed.at es e.0) f ∙ ap (λ b. cond b (Some e.1) (keyed.at rest e.0)) (same-itself e.0)
+
+    is_not : (b : Bool) → (b ≡ true → ⊥) → b ≡ false
+    is_not b h = is_false b h
+
+    by_row : (o : Option Asked) → at rows e.1 ≡ o → option_map (row_mark by_time e.1) (at rows e.1) ≡ Some e.0 → before e.0 (0 ∷ 0 ∷ 0 ∷ []) ≡ false
+    by_row None g k = absurd (let n : option_map (row_mark by_time e.1) (at rows e.1) ≡ None = ap (λ o. option_map (row_mark by_time e.1) o) g in cc)
+    by_row (Some a) g k =
+        let mark : Some (row_mark by_time e.1 a) ≡ Some e.0 = ap (λ o. option_map (row_mark by_time e.1) o) (sym g) ∙ k in
+        let it : row_mark by_time e.1 a ≡ e.0 = cc in
+        is_not (before e.0 (0 ∷ 0 ∷ 0 ∷ [])) (λ t. never_before (by_time a).0 (by_time a).1 e.1 (sym (in_numbers by_time e.1 a 0 0 0) ∙ ap (λ (k : List ℕ). before k (0 ∷ 0 ∷ 0 ∷ [])) it ∙ t))
+
+pub first_time : (rows : Numbered Asked) (marks : Keyed ℕ) (e : List ℕ × ℕ) (rest : Keyed ℕ) → IsTrue (keyed.is_in_order marks) → Placed (row_mark by_time) rows marks → marks ≡ e ∷ rest → (r : Asked) × (Some r ≡ at rows e.1) × (row_mark by_time e.1 r ≡ e.0)
+first_time rows marks e rest s p f = by_row (at rows e.1) refl (p.kept e.0 e.1 there)
+  where
+    there : keyed.at marks e.0 ≡ Some e.1
+    there = ap (λ (es : Keyed ℕ). keyed.at es e.0) f ∙ ap (λ b. cond b (Some e.1) (keyed.at rest e.0)) (same-itself e.0)
+
+    by_row : (o : Option Asked) → at rows e.1 ≡ o → option_map (row_mark by_time e.1) (at rows e.1) ≡ Some e.0 → (r : Asked) × (Some r ≡ at rows e.1) × (row_mark by_time e.1 r ≡ e.0)
+    by_row None g k = absurd (let n : option_map (row_mark by_time e.1) (at rows e.1) ≡ None = ap (λ o. option_map (row_mark by_time e.1) o) g in cc)
+    by_row (Some a) g k =
+        let mark : Some (row_mark by_time e.1 a) ≡ Some e.0 = ap (λ o. option_map (row_mark by_time e.1) o) (sym g) ∙ k in
+        (a, sym g, cc)

@@ -11,10 +11,11 @@ use Rattle.core_model.specs.Fits.{once, has_number}
 use Rattle.core_model.specs.Lookups.{ask_at}
 use Rattle.known_asks.specs.Asks.{one_changed}
 use Rattle.known_asks.specs.Changes.{restaged, change_of, stage_or, staged_by}
-use Rattle.known_asks.specs.Alike.{is_narrow, all_narrow, is_below, is_within, none_within, IsNextAlike, IsNextAlikeOf, changed_within, changed_below}
+use Rattle.known_asks.specs.Alike.{all_narrow, is_below, is_within, none_within, IsNextAlike, IsNextAlikeOf, changed_within, changed_below}
+use Rattle.ask_tables.specs.Marks.{is_narrow}
 use Rattle.known_asks.specs.Firsts.{IsNextBy, IsNextByOf}
-use Rattle.known_asks.specs.KeyMarks.{ticket_mark}
-use Rattle.known_asks.specs.RowMarks.{has_key}
+use Rattle.ask_tables.specs.KeyMarks.{ticket_mark}
+use Rattle.ask_tables.specs.RowMarks.{has_key}
 use Rattle.known_asks.proofs.Firsts.{all_imply}
 use Rattle.known_asks.proofs.MarkOrder.{sooner, by_three}
 

@@ -6,17 +6,9 @@ use Rattle.read_model.specs.declared.asked.Asked.{Asked}
 use Rattle.core_model.specs.Lookups.{ask_at}
 use Rattle.known_asks.specs.declared.kin.Kin.{Kin}
 use Rattle.known_asks.specs.declared.kin.Kin.TheVariants.{Stage, Key}
-use Rattle.known_asks.specs.KeyMarks.{by_key}
-use Rattle.known_asks.specs.Marks.{stage_rank, stage_number}
-use Rattle.known_asks.specs.RowMarks.{has_key}
-
--- it has this rank and this number
-abbrev pub is_alike : ℕ → ℕ → Asked → Bool
-is_alike rank number a = (stage_rank a.stage == rank) && (stage_number a.stage == number)
-
--- tickets have 64 bits
-abbrev pub is_narrow : Asked → Bool
-is_narrow a = nat_le a.ticket 0xffff_ffff_ffff_ffff
+use Rattle.ask_tables.specs.KeyMarks.{by_key}
+use Rattle.ask_tables.specs.Marks.{is_alike, is_narrow}
+use Rattle.ask_tables.specs.RowMarks.{has_key}
 
 abbrev pub all_narrow : List Asked → Bool
 all_narrow asks = list_all is_narrow asks

@@ -11,7 +11,7 @@ use Rattle.read_model.specs.declared.asked.Asked.{Asked}
 use Rattle.read_model.specs.declared.asked.Stage.{Stage}
 use Rattle.read_model.specs.declared.asked.Stage.TheVariants as stage
 use Rattle.core_model.specs.Lookups.{ask_at}
-use Rattle.known_asks.specs.Marks.{stage_number, mark_of}
+use Rattle.ask_tables.specs.Marks.{stage_number, mark_of}
 
 -- each comes before the mark
 abbrev pub all_before : List ℕ → List Asked → Bool

@@ -4,10 +4,9 @@ use Rattle.std.specs.Option.{option_map}
 use Rattle.numbered_rows.specs.Numbered.{Numbered, at, is_in_order}
 use Rattle.numbered_rows.specs.Places.{IsPlace}
 use Rattle.read_model.specs.declared.asked.Asked.{Asked}
-use Rattle.known_asks.specs.declared.tables.Tables.{Tables}
+use Rattle.ask_tables.specs.declared.tables.Tables.{Tables}
 use Rattle.known_asks.specs.Alike.{all_narrow}
-use Rattle.known_asks.specs.Asks.{all_since}
-use Rattle.known_asks.specs.Marked.{Marked}
+use Rattle.ask_tables.specs.Marked.{Marked}
 
 pub record Indexed (rows : Numbered Asked) (index : Numbered ℕ) : Type 0 where
   pub rows_rise : IsTrue (is_in_order rows)
@@ -31,10 +30,8 @@ pub record IsAt (rows : Numbered Asked) (index : Numbered ℕ) (ticket at_index 
   pub index_bound : at_index < length index
   pub rows_bound : at_row < length rows
 
-pub record IsKept (rows : Numbered Asked) (index : Numbered ℕ) (tables : Tables) (next oldest : ℕ) : Type 0 where
+pub record IsKept (rows : Numbered Asked) (index : Numbered ℕ) (tables : Tables) (next : ℕ) : Type 0 where
   pub fits : Fits rows index next
   -- each is found by its marks
   pub marked : Marked rows tables
-  -- no request without a reply was asked before
-  pub since : all_since oldest (map (λ r. r.1) rows) ≡ true
   pub narrow : all_narrow (map (λ r. r.1) rows) ≡ true

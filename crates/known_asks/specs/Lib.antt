@@ -4,10 +4,7 @@ pub mod Callers
 pub mod Changes
 pub mod Firsts
 pub mod Indexed
-pub mod KeyMarks
-pub mod Marked
 pub mod Marks
 pub mod OneByOne
-pub mod RowMarks
 pub mod Times
 pub mod Waiting

@@ -1,29 +1,27 @@
-ghost use Rattle.std.specs.Prelude.{◌≡◌, ◌++◌, ◌∷◌, [], map, filter, nat_le, true, false, None, OnOk, OnErr};
+ghost use Rattle.std.specs.Prelude.{◌≡◌, ◌++◌, ◌∷◌, [], map, filter, nat_le, not, true, None, OnOk, OnErr};
 ghost use Rattle.std.specs.Option.{option_copied};
 ghost use Rattle.core_model.specs.ClockWork.{timed_out_ask};
 ghost use Rattle.core_model.specs.Fits.{once};
 ghost use Rattle.core_model.specs.Lookups.{ask_at, without_ask};
 ghost use Rattle.core_model.specs.Takes.{least_ready};
 ghost use Rattle.read_model.specs.PlainRead.{in_stage};
-ghost use Rattle.known_asks.specs.Asks.{one_changed, all_since, none_times_out};
+ghost use Rattle.known_asks.specs.Asks.{one_changed, none_times_out};
 ghost use Rattle.known_asks.specs.Callers.{AreCallers, IsFirstCaller};
-ghost use Rattle.known_asks.specs.Alike.{IsNextAlikeOf, is_alike, is_kin, all_narrow};
+ghost use Rattle.known_asks.specs.Alike.{IsNextAlikeOf, is_kin, all_narrow};
+ghost use Rattle.ask_tables.specs.Marks.{is_alike};
 ghost use Rattle.known_asks.specs.Firsts.{IsNext, IsNextOf, IsNextByOf, IsFirstDueOf};
-ghost use Rattle.known_asks.specs.KeyMarks.{by_key, ticket_mark};
+ghost use Rattle.ask_tables.specs.KeyMarks.{by_key, ticket_mark};
 ghost use Rattle.known_asks.specs.OneByOne.{first_of};
-ghost use Rattle.known_asks.specs.RowMarks.{has_key, by_group};
+ghost use Rattle.ask_tables.specs.RowMarks.{has_key, by_group};
 ghost use Rattle.known_asks.specs.Times.{IsOldestOf, IsLateOf};
 
 use crate::callers::{Callers, callers_before, calls_as};
-use crate::key_marks::only_at_key;
 use crate::kin::Kin;
-use crate::marks::{CALL_OUT, DUE, REPLIED, only_alike};
-use crate::places::{bound, change_one, change_rows, oldest_of, places, row_of, set_row};
-use crate::row_marks::only_keyed;
+use crate::places::{change_row, change_rows, places, row_of, set_row};
 use crate::rule::Rule;
 use crate::stages::ready_ticket;
-use crate::tables::Tables;
-use crate::times::{REQUEST_TIME, TimeOut, late_ticket, only_unanswered};
+use crate::times::{TimeOut, is_late, late_ticket, only_unanswered};
+use ask_tables::{CALL_OUT, DUE, REPLIED, Tables, only_alike, only_at_key, only_keyed};
 use etcd_types::NoMemory;
 use mark_rows::Mark;
 use numbered_rows::place;
@@ -42,8 +40,6 @@ pub struct Asks {
     tables: Tables,
     /// The number of the next row.
     next: u64,
-    /// Those without a reply were all asked then or later, in milliseconds of the proxy's clock.
-    oldest: u64,
 }
 
 impl Model for Asks {
@@ -60,7 +56,7 @@ impl Model for Asks {
 
     ghost view = { λ a. map (λ r. r.1) a.rows.items };
 
-    ghost invariant = { λ a. IsKept a.rows.items a.index.items a.tables a.next a.oldest };
+    ghost invariant = { λ a. IsKept a.rows.items a.index.items a.tables a.next };
 }
 
 impl Asks {
@@ -73,7 +69,6 @@ impl Asks {
             index: Vec::new(alloc),
             tables: Tables::new(alloc),
             next: 0,
-            oldest: u64::MAX,
         }
     }
 
@@ -112,7 +107,6 @@ impl Asks {
         match place(&self.index, ticket) {
             Ok(_) => unreachable!(),
             Err(gap) => {
-                self.oldest = bound(self.oldest, &ask);
                 self.rows.push((self.next, ask)).unwrap();
                 self.index.insert(gap, (ticket, self.next)).unwrap();
                 self.next += 1;
@@ -142,7 +136,7 @@ impl Asks {
         ensures { self.new ≡ one_changed ticket (in_stage stage) self.old }
     {
         if let Some((_, row)) = places(&self.rows, &self.index, ticket) {
-            self.oldest = set_row(&mut self.rows[row], &mut self.tables, stage, self.oldest);
+            set_row(&mut self.rows[row], &mut self.tables, stage);
         }
     }
 
@@ -151,7 +145,7 @@ impl Asks {
         ensures { self.new ≡ one_changed ticket (R.changed rule.now) self.old }
     {
         if let Some((_, row)) = places(&self.rows, &self.index, ticket) {
-            self.oldest = change_one(&mut self.rows[row], &mut self.tables, rule, self.oldest);
+            change_row(&mut self.rows[row], &mut self.tables, rule);
         }
     }
 
@@ -160,14 +154,16 @@ impl Asks {
         ensures { self.new ≡ map (R.changed rule.now) self.old }
     {
         change_rows(&mut self.rows, &mut self.tables, rule);
-        self.oldest = oldest_of(&self.rows);
     }
 
-    /// Whether one times out at this reading. It takes constant time until the bound has passed, and then logarithmic time.
+    /// Whether one times out at this reading. It takes constant time.
     pub fn may_time_out(&self, now: u64) -> bool
-        ensures { result ≡ false → none_times_out now self.now ≡ true }
+        ensures { result ≡ not (none_times_out now self.now) }
     {
-        now.saturating_sub(self.oldest) >= REQUEST_TIME && self.late_ticket(now).is_some()
+        match self.tables.times.all() {
+            [row, ..] => is_late(&row.0, now),
+            [] => false,
+        }
     }
 
     /// Each without a reply whose time has passed at this reading has one. It looks at those alone, each found in logarithmic time,
@@ -178,33 +174,16 @@ impl Asks {
         while let Some(ticket) = self.late_ticket(now) {
             self.change(ticket, &TimeOut { now });
         }
-        self.renew_bound();
     }
 
-    /// The ticket of one that times out at this reading.
-    fn late_ticket(&self, now: u64) -> Option<u64>
+    /// The ticket of one that times out at this reading: of those without a reply the one that was asked first. It takes logarithmic
+    /// time.
+    pub fn late_ticket(&self, now: u64) -> Option<u64>
         ensures { IsLateOf result now self.now }
     {
         match self.oldest_ask() {
             Some(ask) => late_ticket(ask, now),
             None => None,
-        }
-    }
-
-    /// The bound is when the one without a reply was asked that was asked first.
-    fn renew_bound(&mut self)
-        ensures { self.new ≡ self.old }
-    {
-        self.oldest = self.oldest_time();
-    }
-
-    /// The latest reading at or before which none without a reply was asked.
-    fn oldest_time(&self) -> u64
-        ensures { all_since result self.now ≡ true }
-    {
-        match self.oldest_ask() {
-            Some(ask) => ask.asked,
-            None => u64::MAX,
         }
     }
 

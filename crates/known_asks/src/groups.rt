@@ -4,15 +4,14 @@ ghost use Rattle.core_model.specs.Groups.{keeps, is_due_stage, is_out_stage, wai
 ghost use Rattle.read_model.specs.declared.asked.Asked.{Asked as Value};
 ghost use Rattle.known_asks.specs.Changes.{restaged, staged_by};
 ghost use Rattle.known_asks.specs.OneByOne.{Settles, first_of};
-ghost use Rattle.known_asks.specs.RowMarks.{has_key, by_group};
+ghost use Rattle.ask_tables.specs.RowMarks.{has_key, by_group};
 
 use crate::alike::{alike_changes, change_alike};
 use crate::asks::Asks;
 use crate::kin::Kin;
-use crate::marks::GROUP_OUT;
 use crate::restage::Restage;
-use crate::row_marks::{GROUP_DUE, GROUP_NEXT};
 use crate::rule::Rule;
+use ask_tables::{GROUP_DUE, GROUP_NEXT, GROUP_OUT};
 use etcd_types::NoMemory;
 use read_model::Stage;
 use std::alloc::Global;

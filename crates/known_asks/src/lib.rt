@@ -6,19 +6,16 @@ mod alike;
 mod asks;
 mod callers;
 mod groups;
-mod key_marks;
 mod kin;
 mod losses;
-mod marks;
 mod places;
 mod restage;
-mod row_marks;
 mod rule;
 mod stages;
-mod tables;
 mod times;
 mod waiting;
 
+pub use ask_tables::is_replied;
 pub use asks::Asks;
 pub use callers::{Callers, calls_as};
 pub use groups::{change_due_group, change_group, change_next_group, due_group, group_changes};
@@ -26,9 +23,7 @@ pub use losses::{lose_once, refuse_stale};
 pub use read_model::{Asked, Stage, Verdict};
 pub use restage::{Restage, restage_each, set_stages};
 pub use rule::Rule;
-pub use stages::is_replied;
 pub use times::times_out;
 pub use waiting::{
-    change_waiting, change_waiting_at, restage_waiting, restage_waiting_at, waiting_changes,
-    waiting_changes_at,
+    change_waiting, change_waiting_at, restage_waiting, waiting_changes, waiting_changes_at,
 };

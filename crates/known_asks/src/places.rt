@@ -1,16 +1,13 @@
-ghost use Rattle.std.specs.Prelude.{◌≡◌, ◌≤◌, map, None, Some, true, IfSome, IfNone, IsTrue, is_some};
+ghost use Rattle.std.specs.Prelude.{◌≡◌, map, None, Some, true, IfSome, IfNone, IsTrue, is_some};
 ghost use Rattle.numbered_rows.specs.Numbered.{at, is_in_order};
 ghost use Rattle.read_model.specs.PlainRead.{in_stage};
-ghost use Rattle.known_asks.specs.Alike.{is_narrow};
-ghost use Rattle.known_asks.specs.Asks.{is_since, all_since};
+ghost use Rattle.ask_tables.specs.Marks.{is_narrow};
 ghost use Rattle.known_asks.specs.Indexed.{Indexed, IsAt};
-ghost use Rattle.known_asks.specs.Marked.{Marked, HasRow};
-ghost use Rattle.known_asks.specs.RowMarks.{marks_of, moved};
+ghost use Rattle.ask_tables.specs.Marked.{Marked, HasRow};
+ghost use Rattle.ask_tables.specs.RowMarks.{marks_of, moved};
 
-use crate::row_marks::marks_of;
 use crate::rule::Rule;
-use crate::stages::is_replied;
-use crate::tables::Tables;
+use ask_tables::{Tables, marks_of};
 use numbered_rows::place;
 use read_model::{Asked, Stage};
 
@@ -57,40 +54,20 @@ pub(crate) fn change_rows<R: Rule>(rows: &mut Vec<(u64, Asked)>, tables: &mut Ta
     }
 }
 
-/// The row's request is in this stage now; a bound that held of the others holds of all.
-pub(crate) fn set_row(row: &mut (u64, Asked), tables: &mut Tables, stage: Stage, oldest: u64) -> u64
+/// The row's request is in this stage now, and found by its marks as before.
+pub(crate) fn set_row(row: &mut (u64, Asked), tables: &mut Tables, stage: Stage)
     requires { HasRow (marks_of row.old.0 row.old.1) row.old.0 tables.old }
     ensures row { row.new ≡ (row.old.0, in_stage stage row.old.1) }
     ensures tables { tables.new ≡ moved row.old.1 row.new.1 row.old.0 tables.old }
-    ensures all { result ≤ oldest }
-    ensures it { is_since result row.new.1 ≡ true }
     ensures narrow { is_narrow row.new.1 ≡ true }
 {
     let marks = marks_of(&row.1, row.0);
     row.1.stage = stage;
     tables.turn(&marks, &row.1, row.0);
-    bound(oldest, &row.1)
 }
 
-/// The row's request is changed by the rule; a bound that held of the others holds of all.
-pub(crate) fn change_one<R: Rule>(
-    row: &mut (u64, Asked),
-    tables: &mut Tables,
-    rule: &R,
-    oldest: u64,
-) -> u64
-    requires { HasRow (marks_of row.old.0 row.old.1) row.old.0 tables.old }
-    ensures row { row.new ≡ (row.old.0, R.changed rule.now row.old.1) }
-    ensures tables { tables.new ≡ moved row.old.1 row.new.1 row.old.0 tables.old }
-    ensures all { result ≤ oldest }
-    ensures it { is_since result row.new.1 ≡ true }
-    ensures narrow { is_narrow row.new.1 ≡ true }
-{
-    change_row(row, tables, rule);
-    bound(oldest, &row.1)
-}
-
-fn change_row<R: Rule>(row: &mut (u64, Asked), tables: &mut Tables, rule: &R)
+/// The row's request is changed by the rule, and found by its marks as before.
+pub(crate) fn change_row<R: Rule>(row: &mut (u64, Asked), tables: &mut Tables, rule: &R)
     requires { HasRow (marks_of row.old.0 row.old.1) row.old.0 tables.old }
     ensures row { row.new ≡ (row.old.0, R.changed rule.now row.old.1) }
     ensures tables { tables.new ≡ moved row.old.1 row.new.1 row.old.0 tables.old }
@@ -99,27 +76,4 @@ fn change_row<R: Rule>(row: &mut (u64, Asked), tables: &mut Tables, rule: &R)
     let marks = marks_of(&row.1, row.0);
     rule.change(&mut row.1);
     tables.turn(&marks, &row.1, row.0);
-}
-
-/// A reading at or before which none without a reply was asked.
-pub(crate) fn oldest_of(rows: &[(u64, Asked)]) -> u64
-    ensures { all_since result (map (λ r. r.1) rows.now) ≡ true }
-{
-    let mut oldest = u64::MAX;
-    for row in rows {
-        oldest = bound(oldest, &row.1);
-    }
-    oldest
-}
-
-/// The same bound, lowered to where it holds of this one too.
-pub(crate) fn bound(oldest: u64, ask: &Asked) -> u64
-    ensures all { result ≤ oldest }
-    ensures it { is_since result ask.now ≡ true }
-{
-    if is_replied(&ask.stage) || oldest <= ask.asked {
-        oldest
-    } else {
-        ask.asked
-    }
 }

@@ -1,14 +1,8 @@
 ghost use Rattle.std.specs.Prelude.{◌≡◌, if◌then◌else◌, Some, None};
 ghost use Rattle.core_model.specs.ClockWork.{is_replied};
 
-use read_model::{Asked, Stage};
-
-/// Whether a request at this stage has its reply.
-pub fn is_replied(stage: &Stage) -> bool
-    ensures { result ≡ is_replied stage.now }
-{
-    matches!(stage, Stage::Replied(_))
-}
+use ask_tables::is_replied;
+use read_model::Asked;
 
 /// The request's ticket, where its reply stands.
 pub(crate) fn ready_ticket(ask: &Asked) -> Option<u64>

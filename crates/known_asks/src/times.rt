@@ -2,13 +2,15 @@ ghost use Rattle.std.specs.Prelude.{◌≡◌, if◌then◌else◌, Some, None};
 ghost use Rattle.std.specs.Option.{option_copied};
 ghost use Rattle.core_model.specs.ClockWork.{is_replied, times_out, timed_out_ask};
 ghost use Rattle.known_asks.specs.Asks.{timed_out-ticket};
+ghost use Rattle.known_asks.specs.Times.{is_late};
 
 use crate::rule::Rule;
-use crate::stages::is_replied;
+use ask_tables::is_replied;
+use mark_rows::Mark;
 use read_model::{Asked, Stage, Verdict};
 
 /// For so many milliseconds a request waits for its reply.
-pub(crate) const REQUEST_TIME: u64 = 5000;
+const REQUEST_TIME: u64 = 5000;
 
 /// Each request without a reply whose time has passed at this reading has one.
 #[derive(Drop)]
@@ -51,4 +53,11 @@ pub(crate) fn only_unanswered(ask: &Asked) -> Option<&Asked>
     } else {
         Some(ask)
     }
+}
+
+/// Whether the request of this mark has no reply, and its time has passed at this reading.
+pub(crate) fn is_late(mark: &Mark, now: u64) -> bool
+    ensures { result ≡ is_late mark.now now }
+{
+    mark.kind() == 0 && now.saturating_sub(mark.number()) >= REQUEST_TIME
 }

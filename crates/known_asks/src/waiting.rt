@@ -3,15 +3,14 @@ ghost use Rattle.etcd_types.specs.Keys.{same};
 ghost use Rattle.read_model.specs.PlainRead.{ask_key};
 ghost use Rattle.read_model.specs.declared.asked.Asked.{Asked as Value};
 ghost use Rattle.known_asks.specs.Changes.{restaged, staged_by};
-ghost use Rattle.known_asks.specs.Waiting.{waits_at_key};
+ghost use Rattle.ask_tables.specs.Waiting.{waits_at_key};
 
 use crate::alike::{alike_changes, change_alike};
 use crate::asks::Asks;
-use crate::key_marks::key_number;
 use crate::kin::Kin;
-use crate::marks::WAITING;
 use crate::restage::{Restage, set_stages};
 use crate::rule::Rule;
+use ask_tables::{WAITING, key_number};
 use etcd_types::{Bytes, NoMemory};
 use read_model::Stage;
 use std::alloc::Global;
@@ -57,22 +56,6 @@ pub fn change_waiting_at<R: Rule>(asks: &mut Asks, key: &Bytes, rule: &R)
     ensures { asks.new ≡ map (R.changed rule.now) asks.old }
 {
     change_alike(asks, Kin::Key(key_number(key.as_slice())), rule);
-}
-
-/// Each comes into the stage that the rule says, by which all that don't wait at this key stay. Where memory is wanting all is as before.
-pub fn restage_waiting_at<R: Restage>(
-    alloc: Global,
-    asks: &mut Asks,
-    key: &Bytes,
-    rule: &R,
-) -> Result<(), NoMemory>
-    requires { (a : Value) → waits_at_key a.stage && same (ask_key a) key.now ≡ false → R.stage_of rule.now a ≡ None }
-    ensures ok { OnOk result (asks.new ≡ map (staged_by (R.stage_of rule.now)) asks.old) }
-    ensures err { OnErr result (asks.new ≡ asks.old) }
-{
-    let changes = waiting_changes_at(alloc, asks, key, rule)?;
-    set_stages(asks, changes);
-    Ok(())
 }
 
 /// The stages that the rule says, by ticket, to be set by `set_stages`, where by the rule all that don't wait at this key stay; nothing

@@ -1,4 +1,4 @@
-ghost use Rattle.std.specs.Prelude.{◌≡◌, [], ◌∷◌};
+ghost use Rattle.std.specs.Prelude.{◌≡◌, [], ◌∷◌, get_or};
 ghost use Rattle.std.specs.Ordering.{nat_cmp};
 ghost use Rattle.std.specs.Cmp.Lexicographic.{slice_cmp};
 
@@ -32,6 +32,20 @@ impl Mark {
             number,
             ticket,
         }
+    }
+
+    /// Its kind.
+    pub fn kind(&self) -> u64
+        ensures { result ≡ get_or self.now 0 0 }
+    {
+        self.kind
+    }
+
+    /// Its number within the kind.
+    pub fn number(&self) -> u64
+        ensures { result ≡ get_or self.now 1 0 }
+    {
+        self.number
     }
 
     /// Which of the two comes first.

@@ -36,6 +36,14 @@ impl MarkRows {
         }
     }
 
+    /// All of them, in the order of their marks. It takes constant time.
+    pub fn all(&self) -> &[(Mark, u64)]
+        ensures all { result.now ≡ self.now }
+        ensures in_order { IsTrue (is_in_order self.now) }
+    {
+        &self.rows
+    }
+
     /// Those at this mark and behind it, in the order of their marks.
     pub fn from(&self, mark: &Mark) -> &[(Mark, u64)]
         ensures all { result.now ≡ rows_from mark.now self.now }

@@ -1,9 +1,9 @@
 -- Requests that end without an answer: where none passes nothing changes, and where one does by its ticket, what ends is its own.
 use Rattle.std.proofs.Common.{◌≡◌, ℕ, Bool, true, false, not, cond, ◌&&◌, ◌||◌, ◌==◌, List, [], ◌∷◌, map, None, Some, refl, sym, ◌∙◌, ap, arith}
-use Rattle.std.specs.List.{list_any}
+use Rattle.std.specs.List.{list_any, list_all}
 use Rattle.std.proofs.lemmas.Bool.Decides.{nat_tests}
 use Rattle.etcd_types.specs.Keys.{same}
-use Rattle.etcd_types.proofs.Bools.{and_first, and_second, or_first, or_second}
+use Rattle.etcd_types.proofs.Bools.{and_first, and_second, and_both, or_first, or_second}
 use Rattle.proxy_model.specs.Keyed.{at}
 use Rattle.wait_model.specs.Endings.{forgotten}
 use Rattle.wait_model.specs.State.{Ownership}
@@ -13,7 +13,7 @@ use Rattle.read_model.specs.declared.asked.Verdict.TheVariants as verdict
 use Rattle.read_model.specs.Acquires.{is_acquiring, acquires_at}
 use Rattle.read_model.specs.Fits.{AllStand}
 use Rattle.read_model.specs.PlainRead.{ask_key, in_stage}
-use Rattle.read_model.specs.Release.{released}
+use Rattle.read_model.specs.Release.{ask_stands, released}
 use Rattle.read_model.specs.SessionEnd.{is_due_acquire, dropped}
 use Rattle.read_model.specs.State.{Reads, Moment, Ground, ground_of, on}
 use Rattle.read_model.specs.TakingOff.{is_writes, forgotten_all, falls, taken_off}
@@ -25,9 +25,13 @@ use Rattle.read_steps.specs.Over.{forgot, falls_with, ended, ended_with}
 use Rattle.read_steps.proofs.Standing.{none_released, fewer_stand}
 use Rattle.read_steps.proofs.Without.{without_none, without_same}
 
-not_true : (b : Bool) → not b ≡ true → b ≡ false
+pub not_true : (b : Bool) → not b ≡ true → b ≡ false
 not_true true e = sym e
 not_true false e = refl
+
+pub not_false : (b : Bool) → not b ≡ false → b ≡ true
+not_false true e = refl
+not_false false e = sym e
 
 -- none passes
 abbrev pub NonePass : (Asked → Bool) → List Asked → Type 0
@@ -60,7 +64,7 @@ none_ended p r h =
 
 -- None is late.
 
-none_pass : (now : ℕ) (xs : List Asked) → none_times_out now xs ≡ true → NonePass (times_out now) xs
+pub none_pass : (now : ℕ) (xs : List Asked) → none_times_out now xs ≡ true → NonePass (times_out now) xs
 none_pass now [] h = tt
 none_pass now (a ∷ rest) h =
     (not_true (times_out now a) (and_first (not (times_out now a)) (none_times_out now rest) h), none_pass now rest (and_second (not (times_out now a)) (none_times_out now rest) h))
@@ -76,7 +80,7 @@ none_late m r h s =
 
 -- One leaves.
 
-others_pass : (t u : ℕ) (xs : List Asked) → (u == t) ≡ true → has_number (ask_tickets xs) u ≡ false → NonePass (has_ticket t) xs
+pub others_pass : (t u : ℕ) (xs : List Asked) → (u == t) ≡ true → has_number (ask_tickets xs) u ≡ false → NonePass (has_ticket t) xs
 others_pass t u [] e h = tt
 others_pass t u (a ∷ rest) e h = (other (a.ticket == u) (has_number (ask_tickets rest) u) h, others_pass t u rest e (later (a.ticket == u) (has_number (ask_tickets rest) u) h))
   where
@@ -160,3 +164,22 @@ just_left m t r s n =
     ap (λ (g : Ground). on g (without_ask t r.asks)) n
     ∙ sym (none_released m (ground_of r) (without_ask t r.asks) (fewer_stand (ground_of r) (λ b. not (has_ticket t b)) r.asks s))
     ∙ ap (λ (g : Ground). released false m (on g (without_ask t r.asks))) (sym n)
+
+-- where nothing ended but the rows of those that are late, each has its reply, and that is all
+timed_out_stands : (now : ℕ) (g : Ground) (a : Asked) → ask_stands g a ≡ true → ask_stands g (timed_out_ask now a) ≡ true
+timed_out_stands now g a h = one (times_out now a)
+  where
+    one : (b : Bool) → ask_stands g (cond b (in_stage (stage.Replied verdict.TimedOut) a) a) ≡ true
+    one true = refl
+    one false = h
+
+timed_out_stand : (now : ℕ) (g : Ground) (xs : List Asked) → AllStand g xs → AllStand g (map (timed_out_ask now) xs)
+timed_out_stand now g [] h = refl
+timed_out_stand now g (a ∷ xs) h =
+    and_both (ask_stands g (timed_out_ask now a)) (list_all (ask_stands g) (map (timed_out_ask now) xs)) (timed_out_stands now g a (and_first (ask_stands g a) (list_all (ask_stands g) xs) h)) (timed_out_stand now g xs (and_second (ask_stands g a) (list_all (ask_stands g) xs) h))
+
+pub just_late : (m : Moment) (r : Reads) → AllStand (ground_of r) r.asks → ended (times_out m.now) r ≡ ground_of r → on (ended (times_out m.now) r) (map (timed_out_ask m.now) r.asks) ≡ taken_off m (times_out m.now) (map (timed_out_ask m.now) r.asks) r
+just_late m r s n =
+    ap (λ (g : Ground). on g (map (timed_out_ask m.now) r.asks)) n
+    ∙ sym (none_released m (ground_of r) (map (timed_out_ask m.now) r.asks) (timed_out_stand m.now (ground_of r) r.asks s))
+    ∙ ap (λ (g : Ground). released false m (on g (map (timed_out_ask m.now) r.asks))) (sym n)

@@ -1,19 +1,17 @@
 -- Due acquires that fall with the requests that they are for.
-use Rattle.std.proofs.Common.{◌≡◌, ℕ, Bool, true, false, cond, ◌&&◌, ◌||◌, List, [], ◌∷◌, Option, None, refl, sym, ◌∙◌, ap, subst}
-use Rattle.std.specs.List.{list_any}
+use Rattle.std.proofs.Common.{◌≡◌, ℕ, Bool, true, false, ◌&&◌, List, None, refl, sym, ◌∙◌, ap, subst}
 use Rattle.etcd_types.specs.Keys.{same}
 use Rattle.etcd_types.proofs.Bools.{and_first, and_second}
 use Rattle.etcd_types.proofs.KeyOrder.{same-equal}
 use Rattle.proxy_model.specs.Keyed.{Keyed, at, with_at}
 use Rattle.wait_model.specs.Edits.{without}
-use Rattle.wait_model.proofs.Tables.{at-without}
 use Rattle.read_model.specs.declared.acquire.Acquire.{Acquire}
 use Rattle.read_model.specs.declared.asked.Asked.{Asked}
-use Rattle.read_model.specs.Acquires.{is_acquiring, acquires_at}
+use Rattle.read_model.specs.Acquires.{is_acquiring}
 use Rattle.read_model.specs.PlainRead.{ask_key}
 use Rattle.read_model.specs.SessionEnd.{is_due_acquire}
-use Rattle.read_steps.specs.Over.{falls_if, falls_in, falls_with}
-use Rattle.read_steps.proofs.Without.{without_same, without_none, without_twice}
+use Rattle.read_steps.specs.Over.{falls_with}
+use Rattle.read_steps.proofs.Without.{without_same, without_none}
 
 both : (b c : Bool) → b ≡ true → c ≡ true → b && c ≡ true
 both true true e f = refl
@@ -48,30 +46,3 @@ none_falls a acquires es n = sym (without_none (falls_with a acquires) es none)
 
     none : (k : List ℕ) → falls_with a acquires k ≡ false
     none k = of_tests (is_acquiring a.stage) (same (ask_key a) k) true k (λ t. same-equal (ask_key a) k t) n
-
--- one that doesn't pass
-pub passed_by : {A : Type 0} (b : Bool) (a : Asked) (acquires : Keyed Acquire) (es : Keyed A) → b ≡ false → es ≡ without (falls_if b a acquires) es
-passed_by b a acquires es f = sym (without_none (falls_if b a acquires) es (λ k. ap (λ c. (c && acquires_at k a) && is_due_acquire (at acquires k)) f))
-
--- One request more.
-
-one_more : (p : Asked → Bool) (a : Asked) (rest : List Asked) (acquires : Keyed Acquire) (k : List ℕ) → falls_if (p a) a acquires k || falls_in p rest (without (falls_if (p a) a acquires) acquires) k ≡ falls_in p (a ∷ rest) acquires k
-one_more p a rest acquires k =
-    ap (λ (o : Option Acquire). falls_if (p a) a acquires k || (list_any (λ b. p b && acquires_at k b) rest && is_due_acquire o)) (at-without (falls_if (p a) a acquires) acquires k)
-    ∙ of_tests (p a && acquires_at k a) (list_any (λ b. p b && acquires_at k b) rest) (at acquires k)
-  where
-    of_tests : (b c : Bool) (o : Option Acquire) → (b && is_due_acquire o) || (c && is_due_acquire (cond (b && is_due_acquire o) None o)) ≡ (b || c) && is_due_acquire o
-    of_tests false c o = refl
-    of_tests true c o = of_due (is_due_acquire o) refl
-      where
-        of_due : (d : Bool) → is_due_acquire o ≡ d → d || (c && is_due_acquire (cond d None o)) ≡ d
-        of_due true e = refl
-        of_due false e = ap (λ b. c && b) e ∙ neither c
-
-pub falls_more : {A : Type 0} (p : Asked → Bool) (a : Asked) (rest : List Asked) (acquires : Keyed Acquire) (es : Keyed A) → without (falls_in p rest (without (falls_if (p a) a acquires) acquires)) (without (falls_if (p a) a acquires) es) ≡ without (falls_in p (a ∷ rest) acquires) es
-falls_more p a rest acquires es =
-    without_twice (falls_if (p a) a acquires) (falls_in p rest (without (falls_if (p a) a acquires) acquires)) es
-    ∙ without_same (λ k. falls_if (p a) a acquires k || falls_in p rest (without (falls_if (p a) a acquires) acquires) k) (falls_in p (a ∷ rest) acquires) es (one_more p a rest acquires)
-
-pub falls_done : {A : Type 0} (p : Asked → Bool) (acquires : Keyed Acquire) (es : Keyed A) → without (falls_in p [] acquires) es ≡ es
-falls_done p acquires es = without_none (falls_in p [] acquires) es (λ k. refl)

@@ -6,3 +6,5 @@ pub mod Winning
 pub mod Rests
 pub mod TakenBack
 pub mod Elsewhere
+pub mod Forgetting
+pub mod Late

@@ -1,14 +1,18 @@
-ghost use Rattle.std.specs.Prelude.{◌≡◌, ◌&&◌, ◌||◌, false, map};
-ghost use Rattle.core_model.specs.ClockWork.{times_out};
-ghost use Rattle.core_model.specs.Lookups.{has_ticket};
+ghost use Rattle.std.specs.Prelude.{◌≡◌, ◌&&◌, ◌||◌, true, false, map, Some};
+ghost use Rattle.std.specs.List.{list_all};
+ghost use Rattle.std.specs.Option.{option_map};
+ghost use Rattle.core_model.specs.ClockWork.{times_out, timed_out_ask};
+ghost use Rattle.core_model.specs.Lookups.{has_ticket, ask_at};
+ghost use Rattle.known_asks.specs.Asks.{one_changed};
 ghost use Rattle.proxy_model.specs.Keyed.{at};
 ghost use Rattle.read_model.specs.Acquires.{is_acquiring};
 ghost use Rattle.read_model.specs.SessionEnd.{is_due_acquire, session_over};
-ghost use Rattle.read_model.specs.TakingOff.{forgotten_all, is_writes};
+ghost use Rattle.read_model.specs.TakingOff.{is_writes};
 ghost use Rattle.wait_model.specs.Edits.{without};
 ghost use Rattle.wait_model.specs.State.{owned};
 ghost use Rattle.read_model.specs.PlainRead.{ask_key};
-ghost use Rattle.read_steps.specs.Over.{forgot_if, forgot, falls_if, falls_in, falls_with, ended, ended_with};
+ghost use Rattle.read_core.specs.Falls.{stands_on, stand_elsewhere, fallen};
+ghost use Rattle.read_steps.specs.Over.{OneOwner, forgot, falls_with, ended, ended_with};
 ghost use Rattle.read_steps.specs.Parts.{ground, reads};
 ghost use Rattle.read_steps.specs.Steps.{FitTogether, timed_out, left_by};
 
@@ -17,46 +21,48 @@ use crate::reads::Reads;
 use acquire_rows::Acquires;
 use etcd_types::Bytes;
 use keyed_rows::RowTest;
-use known_asks::{Asked, Asks, Stage, times_out};
+use known_asks::{Asked, Asks, Stage, Verdict};
 use lease_table::LeaseTable;
-use read_core::{key_of, release};
+use read_core::{key_of, release, release_at};
 use revoke_core::Waits;
 use std::alloc::Global;
 
 impl Reads {
     /// Each request that waited five seconds has a reply, all at once, and what stood on them falls. Where none did it takes constant
-    /// time. It takes no memory.
+    /// time; else it looks at those that did, and where one of them acquired or wrote at the reads that wait. It takes no memory.
     pub fn time_out(&mut self, m: &Moment)
         requires { FitTogether self.old }
         ensures { self.new ≡ timed_out m.entry.now self.old }
     {
         if self.asks.may_time_out(m.now) {
-            end_late(
+            let ended = end_late(
                 self.alloc,
                 m.now,
-                &self.asks,
+                &mut self.asks,
                 &mut self.waits,
                 &mut self.table,
                 &mut self.acquires,
             );
-            self.asks.time_out(m.now);
-            release(
-                self.alloc,
-                &mut self.asks,
-                &self.table,
-                &self.acquires,
-                self.waits.step(),
-            );
+            if ended {
+                release(
+                    self.alloc,
+                    &mut self.asks,
+                    &self.table,
+                    &self.acquires,
+                    self.waits.step(),
+                );
+            }
         }
     }
 
-    /// The client of this request left, where it is known, and what stood on the request falls. One that neither writes nor acquires
-    /// leaves nothing else to be looked at. It takes no memory.
+    /// The client of this request left, where it is known, and what stood on the request falls. Where it acquired it looks at the reads of
+    /// its key alone, where it wrote at those that wait, and else at no others. It takes no memory.
     pub fn leave(&mut self, m: &Moment, ticket: u64)
         requires { FitTogether self.old }
         ensures { self.new ≡ left_by m.entry.now ticket self.old }
     {
-        let ended = end_by_ticket(
+        let _rows = self.asks.rows();
+        end_by_ticket(
             self.alloc,
             ticket,
             &self.asks,
@@ -64,15 +70,16 @@ impl Reads {
             &mut self.table,
             &mut self.acquires,
         );
-        drop(self.asks.remove(ticket));
-        if ended {
-            release(
+        match self.asks.remove(ticket) {
+            Some(left) => release_left(
                 self.alloc,
+                left,
                 &mut self.asks,
                 &self.table,
                 &self.acquires,
                 self.waits.step(),
-            );
+            ),
+            None => {}
         }
     }
 
@@ -92,41 +99,53 @@ impl Reads {
     }
 }
 
-/// What ends with the requests whose time has passed at this reading: the writes among them are forgotten, and the due acquires of the
-/// others fall.
+/// Each request whose time has passed at this reading has its reply, the one that was asked first before the others, and what stood on it
+/// ends; whether there may be more than the requests themselves. It looks at these alone.
 fn end_late(
     alloc: Global,
     now: u64,
-    asks: &Asks,
+    asks: &mut Asks,
     waits: &mut Waits,
     table: &mut LeaseTable,
     acquires: &mut Acquires,
-)
-    ensures waits { waits.new ≡ (ended (times_out now) (reads table.old.entries waits.old acquires.old asks.now)).own.waits }
-    ensures entries { table.new.entries ≡ (ended (times_out now) (reads table.old.entries waits.old acquires.old asks.now)).own.entries }
-    ensures acquires { acquires.new ≡ (ended (times_out now) (reads table.old.entries waits.old acquires.old asks.now)).acquires }
+) -> bool
+    requires { OneOwner (owned table.old.entries waits.old) }
+    ensures asks { asks.new ≡ map (timed_out_ask now) asks.old }
+    ensures waits { waits.new ≡ (ended (times_out now) (reads table.old.entries waits.old acquires.old asks.old)).own.waits }
+    ensures entries { table.new.entries ≡ (ended (times_out now) (reads table.old.entries waits.old acquires.old asks.old)).own.entries }
+    ensures acquires { acquires.new ≡ (ended (times_out now) (reads table.old.entries waits.old acquires.old asks.old)).acquires }
+    ensures nothing { result ≡ false → ended (times_out now) (reads table.old.entries waits.old acquires.old asks.old) ≡ ground table.old.entries waits.old acquires.old }
 {
-    forget_late(now, asks.rows(), waits, table);
-    drop_late(alloc, now, asks.rows(), waits, acquires);
+    let mut more = false;
+    while let Some(ticket) = asks.late_ticket(now) {
+        let ended = end_one(alloc, now, ticket, asks, waits, table, acquires);
+        more = more || ended;
+    }
+    more
 }
 
-/// The writes among the requests whose time has passed are forgotten.
-fn forget_late(now: u64, rows: &[(u64, Asked)], waits: &mut Waits, table: &mut LeaseTable)
-    ensures waits { waits.new ≡ (forgotten_all (times_out now) (map (λ r. r.1) rows.now) (owned table.old.entries waits.old)).waits }
-    ensures entries { table.new.entries ≡ (forgotten_all (times_out now) (map (λ r. r.1) rows.now) (owned table.old.entries waits.old)).entries }
+/// The request of this ticket, whose time has passed at this reading, has its reply, and what stood on it ends; whether there may be more
+/// than the request itself. What ends with all whose time has passed stays the same.
+fn end_one(
+    alloc: Global,
+    now: u64,
+    ticket: u64,
+    asks: &mut Asks,
+    waits: &mut Waits,
+    table: &mut LeaseTable,
+    acquires: &mut Acquires,
+) -> bool
+    requires late { option_map (times_out now) (ask_at ticket asks.old) ≡ Some true }
+    requires one { OneOwner (owned table.old.entries waits.old) }
+    ensures asks { asks.new ≡ one_changed ticket (timed_out_ask now) asks.old }
+    ensures one { OneOwner (owned table.new.entries waits.new) }
+    ensures same { ended (times_out now) (reads table.new.entries waits.new acquires.new asks.new) ≡ ended (times_out now) (reads table.old.entries waits.old acquires.old asks.old) }
+    ensures nothing { result ≡ false → ground table.new.entries waits.new acquires.new ≡ ground table.old.entries waits.old acquires.old }
 {
-    for row in rows {
-        forget_if_late(now, &row.1, waits, table);
-    }
-}
-
-fn forget_if_late(now: u64, ask: &Asked, waits: &mut Waits, table: &mut LeaseTable)
-    ensures waits { waits.new ≡ (forgot_if (times_out now ask.now) ask.now (owned table.old.entries waits.old)).waits }
-    ensures entries { table.new.entries ≡ (forgot_if (times_out now ask.now) ask.now (owned table.old.entries waits.old)).entries }
-{
-    if times_out(ask, now) && is_writes(&ask.stage) {
-        waits.forget(ask.ticket, table);
-    }
+    let _rows = asks.rows();
+    let more = end_by_ticket(alloc, ticket, asks, waits, table, acquires);
+    asks.set_stage(ticket, Stage::Replied(Verdict::TimedOut));
+    more
 }
 
 /// The request's write is forgotten, where it is one.
@@ -136,31 +155,6 @@ fn forget(ask: &Asked, waits: &mut Waits, table: &mut LeaseTable)
 {
     if is_writes(&ask.stage) {
         waits.forget(ask.ticket, table);
-    }
-}
-
-/// The due acquires of the requests whose time has passed fall.
-fn drop_late(
-    alloc: Global,
-    now: u64,
-    rows: &[(u64, Asked)],
-    waits: &mut Waits,
-    acquires: &mut Acquires,
-)
-    ensures waits { waits.new ≡ record waits.old { spoiled = without (falls_in (times_out now) (map (λ r. r.1) rows.now) acquires.old) waits.old.spoiled } }
-    ensures acquires { acquires.new ≡ without (falls_in (times_out now) (map (λ r. r.1) rows.now) acquires.old) acquires.old }
-{
-    for row in rows {
-        drop_if_late(alloc, now, &row.1, waits, acquires);
-    }
-}
-
-fn drop_if_late(alloc: Global, now: u64, ask: &Asked, waits: &mut Waits, acquires: &mut Acquires)
-    ensures waits { waits.new ≡ record waits.old { spoiled = without (falls_if (times_out now ask.now) ask.now acquires.old) waits.old.spoiled } }
-    ensures acquires { acquires.new ≡ without (falls_if (times_out now ask.now) ask.now acquires.old) acquires.old }
-{
-    if times_out(ask, now) {
-        drop_due(alloc, ask, waits, acquires);
     }
 }
 
@@ -183,6 +177,47 @@ fn acquires_due(ask: &Asked, key: &Bytes, acquires: &Acquires) -> bool
     ensures { result ≡ (is_acquiring ask.now.stage && is_due_acquire (at acquires.now (ask_key ask.now))) }
 {
     is_acquiring(&ask.stage) && acquires.is_due(key)
+}
+
+/// Each read becomes a call whose acquire or owner write was over with this request, which left. Where it neither acquired nor wrote all
+/// that they wait for stands, and where it acquired all but what waits at its key.
+fn release_after(
+    alloc: Global,
+    left: &Asked,
+    asks: &mut Asks,
+    table: &LeaseTable,
+    acquires: &Acquires,
+    step: u64,
+)
+    requires acquired { is_acquiring left.now.stage ≡ true → stand_elsewhere (ask_key left.now) table.now.entries acquires.now asks.old ≡ true }
+    requires neither { is_acquiring left.now.stage || is_writes left.now.stage ≡ false → list_all (stands_on table.now.entries acquires.now) asks.old ≡ true }
+    ensures { asks.new ≡ map (fallen step table.now.entries acquires.now) asks.old }
+{
+    match left.stage {
+        Stage::Acquiring => {
+            let empty = Bytes::new(alloc);
+            let key = key_of(&left.request, &empty);
+            release_at(alloc, asks, key, table, acquires, step);
+        }
+        Stage::Writes => release(alloc, asks, table, acquires, step),
+        _ => {}
+    }
+}
+
+/// The same of a request that is known no more.
+fn release_left(
+    alloc: Global,
+    left: Asked,
+    asks: &mut Asks,
+    table: &LeaseTable,
+    acquires: &Acquires,
+    step: u64,
+)
+    requires acquired { is_acquiring left.stage ≡ true → stand_elsewhere (ask_key left) table.now.entries acquires.now asks.old ≡ true }
+    requires neither { is_acquiring left.stage || is_writes left.stage ≡ false → list_all (stands_on table.now.entries acquires.now) asks.old ≡ true }
+    ensures { asks.new ≡ map (fallen step table.now.entries acquires.now) asks.old }
+{
+    release_after(alloc, &left, asks, table, acquires, step);
 }
 
 /// What ends with the request of this ticket; whether there may be more than the request itself.

@@ -2,7 +2,7 @@
 use Rattle.std.proofs.Common.{◌<◌, List, map, ap, sym, subst, ◌∙◌}
 use Rattle.read_model.specs.declared.asked.Asked.{Asked}
 use Rattle.known_asks.specs.OneByOne.{how_many}
-use Rattle.known_asks.specs.RowMarks.{has_key, by_group}
+use Rattle.ask_tables.specs.RowMarks.{has_key, by_group}
 use Rattle.known_asks.proofs.OneByOne.{settled, settled-one, fewer_ticket, no_ticket}
 use Rattle.known_asks.proofs.groups.change_grouped.Goals as goal
 

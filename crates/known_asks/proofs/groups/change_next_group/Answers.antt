@@ -1,7 +1,7 @@
 -- They have one kind and one key.
 use Rattle.std.proofs.Common.{◌&&◌}
 use Rattle.core_model.specs.Groups.{keeps, waits_next}
-use Rattle.known_asks.specs.RowMarks.{has_key, by_group}
+use Rattle.ask_tables.specs.RowMarks.{has_key, by_group}
 use Rattle.known_asks.proofs.OneByOne.{settles_too}
 use Rattle.known_asks.proofs.GroupMarks.{next_is}
 use Rattle.known_asks.proofs.groups.change_next_group.Goals as goal

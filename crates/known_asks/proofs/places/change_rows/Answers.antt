@@ -2,8 +2,8 @@
 use Rattle.std.proofs.Common.{◌≡◌, ◌<◌, ℕ, length, get_or, sym, ap, subst, ◌∙◌}
 use Rattle.std.proofs.lemmas.List.Edits.{map_over_more}
 use Rattle.read_model.specs.declared.asked.Asked.{Asked}
-use Rattle.known_asks.specs.Marked.{HasRow}
-use Rattle.known_asks.specs.RowMarks.{marks_of, moved}
+use Rattle.ask_tables.specs.Marked.{HasRow}
+use Rattle.ask_tables.specs.RowMarks.{marks_of, moved}
 use Rattle.known_asks.proofs.Moves.{marked-set, marks_stand, in_order-set}
 use Rattle.known_asks.proofs.places.change_rows.Goals as goal
 

@@ -1,7 +1,7 @@
 -- The rows so far are done, and the others as they were; each is found by its mark.
 use Rattle.std.proofs.Common.{◌≡◌, ◌++◌, map, take, drop, IsTrue}
 use Rattle.numbered_rows.specs.Numbered.{is_in_order}
-use Rattle.known_asks.specs.Marked.{Marked}
+use Rattle.ask_tables.specs.Marked.{Marked}
 use Rattle.known_asks.proofs.places.change_rows.Given as goal
 
 abbrev pub invariant-loop-row : goal.invariant-loop-row

@@ -1,7 +1,7 @@
 -- They have the key's number.
 use Rattle.std.proofs.Common.{◌≡◌, ℕ, List, false, ap, subst, ◌∙◌}
-use Rattle.known_asks.specs.KeyMarks.{by_key, key_number}
-use Rattle.known_asks.specs.RowMarks.{has_key}
+use Rattle.ask_tables.specs.KeyMarks.{by_key, key_number}
+use Rattle.ask_tables.specs.RowMarks.{has_key}
 use Rattle.known_asks.proofs.KeyWaits.{elsewhere}
 use Rattle.known_asks.proofs.waiting.change_waiting_at.Goals as goal
 

@@ -4,7 +4,7 @@ use Rattle.std.specs.List.{list_all}
 use Rattle.etcd_types.specs.Keys.{before}
 use Rattle.read_model.specs.declared.asked.Asked.{Asked}
 use Rattle.known_asks.specs.Alike.{all_narrow}
-use Rattle.known_asks.specs.KeyMarks.{by_key, ticket_mark}
+use Rattle.ask_tables.specs.KeyMarks.{by_key, ticket_mark}
 use Rattle.known_asks.specs.Firsts.{IsNextBy}
 use Rattle.known_asks.proofs.Firsts.{next_is, none_is, first_row, no_row, row_stands}
 use Rattle.known_asks.proofs.asks.Asks.first_at_key.Goals as goal

@@ -2,7 +2,7 @@
 use Rattle.std.proofs.Common.{◌≡◌, List, true, subst}
 use Rattle.read_model.specs.declared.asked.Asked.{Asked}
 use Rattle.known_asks.specs.Alike.{all_narrow}
-use Rattle.known_asks.specs.Marks.{mark_of}
+use Rattle.ask_tables.specs.Marks.{mark_of}
 use Rattle.known_asks.specs.Firsts.{all_before, IsNext}
 use Rattle.known_asks.proofs.Firsts.{next_is, none_is, first_row, no_row, row_stands}
 use Rattle.known_asks.proofs.asks.Asks.first_from.Goals as goal

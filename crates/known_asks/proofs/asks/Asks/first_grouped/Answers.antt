@@ -2,7 +2,7 @@
 use Rattle.std.proofs.Common.{[], ◌∷◌, List, ap, ◌∙◌}
 use Rattle.read_model.specs.declared.asked.Asked.{Asked}
 use Rattle.known_asks.specs.OneByOne.{first_of}
-use Rattle.known_asks.specs.RowMarks.{row_mark, has_key, by_group}
+use Rattle.ask_tables.specs.RowMarks.{row_mark, has_key, by_group}
 use Rattle.known_asks.proofs.Firsts.{first_row, no_row, row_stands}
 use Rattle.known_asks.proofs.RowFirsts.{first_is, none_first}
 use Rattle.known_asks.proofs.asks.Asks.first_grouped.Goals as goal

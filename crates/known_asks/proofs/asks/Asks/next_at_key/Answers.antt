@@ -2,8 +2,8 @@
 use Rattle.std.proofs.Common.{Option, subst, sym}
 use Rattle.read_model.specs.declared.asked.Asked.{Asked}
 use Rattle.known_asks.specs.Alike.{IsNextAlikeOf}
-use Rattle.known_asks.specs.KeyMarks.{by_key}
-use Rattle.known_asks.specs.RowMarks.{has_key}
+use Rattle.ask_tables.specs.KeyMarks.{by_key}
+use Rattle.ask_tables.specs.RowMarks.{has_key}
 use Rattle.known_asks.proofs.SideBySide.{next_found, none_is_left}
 use Rattle.known_asks.proofs.asks.Asks.next_at_key.Goals as goal
 

@@ -1,8 +1,9 @@
 -- By the first one from the mark on.
 use Rattle.std.proofs.Common.{Option, subst, sym}
 use Rattle.read_model.specs.declared.asked.Asked.{Asked}
-use Rattle.known_asks.specs.Alike.{IsNextAlikeOf, is_alike}
-use Rattle.known_asks.specs.KeyMarks.{by_wait}
+use Rattle.known_asks.specs.Alike.{IsNextAlikeOf}
+use Rattle.ask_tables.specs.Marks.{is_alike}
+use Rattle.ask_tables.specs.KeyMarks.{by_wait}
 use Rattle.known_asks.proofs.SideBySide.{next_found, none_is_left}
 use Rattle.known_asks.proofs.asks.Asks.next_by_stage.Goals as goal
 

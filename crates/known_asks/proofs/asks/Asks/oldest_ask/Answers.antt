@@ -3,7 +3,7 @@ use Rattle.std.proofs.Common.{[], ◌∷◌, ◌≡◌, List, Option, None, Some
 use Rattle.std.specs.List.{list_all}
 use Rattle.read_model.specs.declared.asked.Asked.{Asked}
 use Rattle.core_model.specs.ClockWork.{is_replied}
-use Rattle.known_asks.specs.RowMarks.{row_mark, by_time}
+use Rattle.ask_tables.specs.RowMarks.{row_mark, by_time}
 use Rattle.known_asks.specs.Times.{IsOldestOf}
 use Rattle.known_asks.proofs.Firsts.{first_row, no_row, row_stands}
 use Rattle.known_asks.proofs.RowFirsts.{oldest_is, none_oldest}

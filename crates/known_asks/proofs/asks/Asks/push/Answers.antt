@@ -4,11 +4,9 @@ use Rattle.numbered_rows.specs.Places.{IsPlace, IsGap}
 use Rattle.numbered_rows.proofs.Places.{at-place}
 use Rattle.read_model.specs.declared.asked.Asked.{Asked}
 use Rattle.core_model.specs.Lookups.{ask_at}
-use Rattle.known_asks.specs.Alike.{is_narrow}
-use Rattle.known_asks.specs.Asks.{is_since}
-use Rattle.known_asks.proofs.Tickets.{asks, new_ticket, fits-added}
+use Rattle.ask_tables.specs.Marks.{is_narrow}
+use Rattle.known_asks.proofs.Tickets.{new_ticket, fits-added}
 use Rattle.known_asks.proofs.Moves.{marked-added, marks_free}
-use Rattle.known_asks.proofs.Since.{all_lower}
 use Rattle.known_asks.proofs.Alls.{all-append}
 use Rattle.known_asks.proofs.asks.Asks.push.Goals as goal
 
@@ -36,6 +34,5 @@ invariant_of-self-in-Err c =
     rw (rows, index) (record {
       marked = rw c.in_ok-put.ensures.ok (marked-added c.self.inside.rows.items c.self.inside.index.items c.self.inside.next c.self.inside.tables c.args.ask c.self.invariant.fits none c.self.invariant.marked);
       fits = fits-added _ _ c.self.inside.next _ c.args.ask c.self.invariant.fits none gap;
-      since = all-append (is_since c.bound-self-inside.result) c.self.inside.rows.items c.self.inside.next c.args.ask (all_lower c.bound-self-inside.result c.self.inside.oldest (asks c.self.inside.rows.items) c.bound-self-inside.ensures.all c.self.invariant.since) c.bound-self-inside.ensures.it;
       narrow = all-append is_narrow c.self.inside.rows.items c.self.inside.next c.args.ask c.self.invariant.narrow c.in_ok-put.ensures.narrow;
     })

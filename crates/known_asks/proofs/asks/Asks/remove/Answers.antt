@@ -2,8 +2,7 @@
 use Rattle.std.proofs.Common.{◌≡◌, sym, ap, subst, ◌∙◌, List}
 use Rattle.read_model.specs.declared.asked.Asked.{Asked}
 use Rattle.core_model.specs.Lookups.{ask_at, without_ask}
-use Rattle.known_asks.specs.Alike.{is_narrow}
-use Rattle.known_asks.specs.Asks.{is_since}
+use Rattle.ask_tables.specs.Marks.{is_narrow}
 use Rattle.known_asks.proofs.Tickets.{fits-taken, taken, none_taken, found_row, found_none}
 use Rattle.known_asks.proofs.Moves.{marked-taken}
 use Rattle.known_asks.proofs.Alls.{all-remove}
@@ -15,7 +14,6 @@ invariant_of-self c =
     rw (c.remove.ensures.items, c.remove-taken.ensures.items) (record {
       marked = rw c.remove-in-Some.ensures (marked-taken c.self.inside.rows.items c.self.inside.tables c.in-Some.row c.remove-taken.result c.self.invariant.marked c.self.invariant.fits.indexed.rows_rise at.rows_bound c.remove-taken.ensures.value);
       fits = fits-taken _ _ _ c.args.ticket _ _ c.self.invariant.fits at;
-      since = all-remove (is_since c.self.inside.oldest) c.self.inside.rows.items c.in-Some.row c.self.invariant.since;
       narrow = all-remove is_narrow c.self.inside.rows.items c.in-Some.row c.self.invariant.narrow;
     })
 

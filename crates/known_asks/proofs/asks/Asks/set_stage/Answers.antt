@@ -2,11 +2,10 @@
 use Rattle.std.proofs.Common.{◌≡◌, ap, subst, refl, ◌∙◌, List}
 use Rattle.read_model.specs.declared.asked.Asked.{Asked}
 use Rattle.read_model.specs.PlainRead.{in_stage}
-use Rattle.known_asks.specs.Alike.{is_narrow}
-use Rattle.known_asks.specs.Asks.{one_changed, is_since}
-use Rattle.known_asks.proofs.Tickets.{asks, fits-one_changed, its_change, no_change}
+use Rattle.ask_tables.specs.Marks.{is_narrow}
+use Rattle.known_asks.specs.Asks.{one_changed}
+use Rattle.known_asks.proofs.Tickets.{fits-one_changed, its_change, no_change}
 use Rattle.known_asks.proofs.Moves.{marked-set, marks_stand}
-use Rattle.known_asks.proofs.Since.{all_lower}
 use Rattle.known_asks.proofs.Alls.{all-set}
 use Rattle.known_asks.proofs.asks.Asks.set_stage.Goals as goal
 
@@ -14,19 +13,18 @@ pub invariant_of-self : goal.invariant_of-self
 invariant_of-self c =
     let at = rw (c.deref.ensures.value, c.deref-2.ensures.value) at c.in-Some.ensures.found in
     record {
-      marked = rw (c.set_row-self-inside.ensures.tables, c.set_row-self-inside.ensures.row) (marked-set c.self.inside.rows.items c.self.inside.tables c.in-Some.row c.index_mut.result.now (in_stage c.args.stage) (λ a. refl) c.self.invariant.marked c.self.invariant.fits.indexed.rows_rise at.rows_bound c.index_mut.ensures.value);
-      fits = rw c.set_row-self-inside.ensures.row (fits-one_changed _ _ _ c.args.ticket _ _ (in_stage c.args.stage) c.index_mut.result.now (λ a. refl) c.self.invariant.fits at c.index_mut.ensures.value);
-      since = all-set (is_since c.set_row-self-inside.result) c.self.inside.rows.items c.in-Some.row c.set_row-self-inside.new.row.0 c.set_row-self-inside.new.row.1 (all_lower c.set_row-self-inside.result c.self.inside.oldest (asks c.self.inside.rows.items) c.set_row-self-inside.ensures.all c.self.invariant.since) c.set_row-self-inside.ensures.it;
-      narrow = all-set is_narrow c.self.inside.rows.items c.in-Some.row c.set_row-self-inside.new.row.0 c.set_row-self-inside.new.row.1 c.self.invariant.narrow c.set_row-self-inside.ensures.narrow;
+      marked = rw (c.set_row.ensures.tables, c.set_row.ensures.row) (marked-set c.self.inside.rows.items c.self.inside.tables c.in-Some.row c.index_mut.result.now (in_stage c.args.stage) (λ a. refl) c.self.invariant.marked c.self.invariant.fits.indexed.rows_rise at.rows_bound c.index_mut.ensures.value);
+      fits = rw c.set_row.ensures.row (fits-one_changed _ _ _ c.args.ticket _ _ (in_stage c.args.stage) c.index_mut.result.now (λ a. refl) c.self.invariant.fits at c.index_mut.ensures.value);
+      narrow = all-set is_narrow c.self.inside.rows.items c.in-Some.row c.set_row.new.row.0 c.set_row.new.row.1 c.self.invariant.narrow c.set_row.ensures.narrow;
     }
 
 pub returns-in-Some : goal.returns-in-Some
 returns-in-Some c =
     let at = rw (c.deref.ensures.value, c.deref-2.ensures.value) at c.in-Some.ensures.found in
-    rw c.set_row-self-inside.ensures.row (its_change _ _ c.args.ticket _ _ (in_stage c.args.stage) c.index_mut.result.now c.self.invariant.fits.indexed at c.index_mut.ensures.value ∙ ap (λ (s : List Asked). one_changed c.args.ticket (in_stage c.args.stage) s) c.self.view_is)
+    rw c.set_row.ensures.row (its_change _ _ c.args.ticket _ _ (in_stage c.args.stage) c.index_mut.result.now c.self.invariant.fits.indexed at c.index_mut.ensures.value ∙ ap (λ (s : List Asked). one_changed c.args.ticket (in_stage c.args.stage) s) c.self.view_is)
 
-pub set_row-self-inside-requires : goal.set_row-self-inside-requires
-set_row-self-inside-requires c =
+pub set_row-requires : goal.set_row-requires
+set_row-requires c =
     let at = rw (c.deref.ensures.value, c.deref-2.ensures.value) at c.in-Some.ensures.found in
     marks_stand c.self.inside.rows.items c.self.inside.tables c.in-Some.row c.index_mut.result.now c.self.invariant.marked c.self.invariant.fits.indexed.rows_rise at.rows_bound c.index_mut.ensures.value
 

@@ -18,4 +18,4 @@ loop-ticket-preserved c =
 
 pub returns : goal.returns
 returns c =
-    c.renew_bound.ensures ∙ settled (times_out c.args.now) (timed_out_ask c.args.now) c.loop-ticket.self (times_out-Settles c.args.now) c.in_default.ensures ∙ c.loop-ticket.invariant
+    settled (times_out c.args.now) (timed_out_ask c.args.now) c.loop-ticket.self (times_out-Settles c.args.now) c.in_default.ensures ∙ c.loop-ticket.invariant

@@ -1,0 +1,5 @@
+pub mod KeyMarks
+pub mod Marked
+pub mod Marks
+pub mod RowMarks
+pub mod Waiting
