@@ -1,8 +1,7 @@
 //! The machine of one proxy: each event is handled as its definition says, and takes all memory before it changes anything.
 #![tactic(auto)]
 
-// A function that is never inlined here has its frame only while it runs: what a thread's stack once reached stays in memory as long as the
-// thread, and one into which others are inlined holds the frames of all of them at once.
+// What is never inlined here keeps a thread's stack small: docs/DECISIONS.md.
 
 mod asking;
 mod calls;

@@ -106,7 +106,7 @@ impl Machine for Core {
         let told = told_by(&self.kept, &event);
         let taker = taker_of(&event);
         let answer = step(&mut self.kept, event, now);
-        self.woken = woken_by(&self.kept, told, taker, &answer);
+        self.woken = woken_by(&self.kept, self.woken.is_due(), told, taker, &answer);
         answer
     }
 

@@ -2,8 +2,7 @@
 //! stands in `part_model`.
 #![tactic(auto)]
 
-// A function that is never inlined here has its frame only while it runs: what a thread's stack once reached stays in memory as long as the
-// thread, and one into which others are inlined holds the frames of all of them at once.
+// What is never inlined here keeps a thread's stack small: docs/DECISIONS.md.
 
 mod place;
 mod run;

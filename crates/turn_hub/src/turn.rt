@@ -96,6 +96,7 @@ pub(crate) fn take_turn<R: Wait, M: Machine>(
     }
     'parks: for _ in rt.forever() {
         if try_often(board, seat) {
+            waiting.turn_is_had();
             return take_out(board, seat);
         }
         waiting.await_turn(rt, board);
@@ -146,7 +147,7 @@ pub(crate) fn give_back<M: Machine>(
 {
     let _ = board.exchange(seat, MACHINE, Stowed::Machine(machine));
     board.store::<Gives>(seat, TURN, 0);
-    waiting.turn_is_free(board);
+    waiting.turn_is_free();
 }
 
 // Reads the count, and sees no more than before. It tells that the histories named before begin what was seen.

@@ -15,18 +15,22 @@ use std::time::Duration;
 /// and no hang.
 pub const LONGEST_REST: u64 = 10;
 
-// How often a lot was roused, and how many passes rest in it.
+// How often a lot was roused, and how many passes came to rest in it. In a lot whose passes all wake these are counted from
+// the last time that it was roused, so that a lot whose passes were woken, and didn't run yet, isn't woken again.
 #[derive(Drop)]
 struct Lot {
     changes: AtomicU64,
     sleepers: AtomicU64,
 }
 
-// The threads that wait for the turn, and the passes that wait for something to take. `everybody` counts how often all
-// were roused, and `resting` how many rest in all.
+// The threads that wait for the turn, and the passes that wait for something to take. `sleepers` counts the threads that
+// park for the turn, `frees` how often one of them was called, and `called` is 1 while one that was called looks for the
+// turn. `everybody` counts how often all passes were roused, and `resting` how many rest in all.
 #[derive(Drop)]
 pub(crate) struct Waiting {
     sleepers: AtomicU64,
+    frees: AtomicU64,
+    called: AtomicU64,
     everybody: AtomicU64,
     resting: AtomicU64,
     lots: Vec<Lot>,
@@ -86,28 +90,41 @@ impl Waiting {
         }
         Ok(Waiting {
             sleepers: AtomicU64::new(0),
+            frees: AtomicU64::new(0),
+            called: AtomicU64::new(0),
             everybody: AtomicU64::new(0),
             resting: AtomicU64::new(0),
             lots,
         })
     }
 
-    // Parks until the turn is given back, or not at all where it is free. A thread counts itself among the sleepers
-    // before the kernel looks at the turn, and the turn is free before its giver reads the count: so one sees the other.
+    // Parks until it is called, or not at all where the turn is free. A thread counts itself among the sleepers before it looks at
+    // the turn, and the turn is free before its giver reads the count: so one sees the other. It takes back a call that it can't
+    // have heard before it parks, so that who gives the turn back next calls again.
     pub(crate) fn await_turn<R: Wait, M: Machine>(&self, rt: &R, board: &Board<M>)
         requires { board.now.table_id.words ≡ 2 }
     {
         self.sleepers.fetch_add(1, SeqCst);
-        board.park_timeout(rt, TURN, 1, Duration::from_secs(LONGEST_REST));
+        let seen = (self.frees.load(SeqCst) % (1 << 32)) as u32;
+        self.called.store(0, SeqCst);
+        if board.peek(TURN) != 0 {
+            self.frees
+                .park_timeout(rt, seen, Duration::from_secs(LONGEST_REST));
+        }
         self.sleepers.fetch_sub(1, SeqCst);
     }
 
-    // Wakes one thread that parks for the turn. Where none does, it costs no system call.
-    pub(crate) fn turn_is_free<M: Machine>(&self, board: &Board<M>)
-        requires { board.now.table_id.words ≡ 2 }
-    {
-        if self.sleepers.load(SeqCst) != 0 {
-            board.wake_one(TURN);
+    // Notes that a thread that had to look for the turn has it.
+    pub(crate) fn turn_is_had(&self) {
+        self.called.store(0, SeqCst);
+    }
+
+    // Calls one thread that parks for the turn, unless one that was called is still on its way: more would only find that the
+    // turn is taken. Where none parks, it costs no system call.
+    pub(crate) fn turn_is_free(&self) {
+        if self.sleepers.load(SeqCst) != 0 && self.called.swap(1, SeqCst) == 0 {
+            self.frees.fetch_add(1, SeqCst);
+            self.frees.wake_one();
         }
     }
 
@@ -133,7 +150,9 @@ impl Waiting {
                 .park_timeout(rt, seen, Duration::from_secs(LONGEST_REST));
         }
         self.resting.fetch_sub(1, SeqCst);
-        lot.sleepers.fetch_sub(1, SeqCst);
+        if rest.lot >= CREWS {
+            lot.sleepers.fetch_sub(1, SeqCst);
+        }
     }
 
     // Rouses those that the machine named.
@@ -175,18 +194,19 @@ impl Waiting {
         }
     }
 
-    // Wakes the passes of the lot, or one of them where it is a crew's.
+    // Wakes the passes of the lot, or one of them where it is a crew's. The lot is changed before its count is read, and a pass
+    // counts itself before it looks whether the lot changed: so one sees the other.
     fn rouse_lot(&self, number: usize) {
-        if let Some(lot) = self.lots.get(number) {
-            lot.changes.fetch_add(1, SeqCst);
-            if lot.sleepers.load(SeqCst) == 0 {
-                return;
-            }
-            if number < CREWS as usize {
-                lot.changes.wake_all();
-            } else {
+        let Some(lot) = self.lots.get(number) else {
+            return;
+        };
+        lot.changes.fetch_add(1, SeqCst);
+        if number >= CREWS as usize {
+            if lot.sleepers.load(SeqCst) != 0 {
                 lot.changes.wake_one();
             }
+        } else if lot.sleepers.swap(0, SeqCst) != 0 {
+            lot.changes.wake_all();
         }
     }
 }
