@@ -18,12 +18,14 @@ no_feed (b ∷ bs) none = by_test (b == line_feed) refl (no_feed bs (λ k h. non
 pub unfinished : (bs : List ℕ) → IsFirstByte (is_byte line_feed) bs None → IsTrue (is_unfinished bs)
 unfinished bs none = ap not (no_feed bs (λ k h e. none k (omega arith) h e))
 
+-- no line feed stands before the first one
+pub front_unfinished : (bs : List ℕ) (k : ℕ) → IsFirstByte (is_byte line_feed) bs (Some k) → IsTrue (is_unfinished (take k bs))
+front_unfinished bs k found = ap not (no_feed (take k bs) (λ j h e.
+    let below : j < k = omega (arith, h, length-take k bs) in
+    found.0.before j (omega arith) below (ap (λ (b : ℕ). b == line_feed) (sym (get_or-take k bs j 0 below)) ∙ e)))
+
 pub first_line : (bs : List ℕ) (k : ℕ) → IsFirstByte (is_byte line_feed) bs (Some k) → (k < length bs) × IsLine (take (k + 1) bs)
 first_line bs k found =
     let inside : k < length bs = found.0.high in
     let byte : get_or bs k 0 ≡ line_feed = eqb-true (get_or bs k 0) line_feed found.1 in
-    let front : list_any (λ b. b == line_feed) (take k bs) ≡ false =
-    no_feed (take k bs) (λ j h e.
-    let below : j < k = omega (arith, h, length-take k bs) in
-    found.0.before j (omega arith) below (ap (λ (b : ℕ). b == line_feed) (sym (get_or-take k bs j 0 below)) ∙ e)) in
-    (inside, (take k bs, take_more bs k 0 inside ∙ ap (λ (b : ℕ). take k bs ++ b ∷ []) byte, ap not front))
+    (inside, (take k bs, take_more bs k 0 inside ∙ ap (λ (b : ℕ). take k bs ++ b ∷ []) byte, front_unfinished bs k found))

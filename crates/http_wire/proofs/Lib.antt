@@ -8,6 +8,7 @@ pub mod LineScans
 pub mod LineTurns
 pub mod Ranges
 pub mod Reading
+pub mod Scanning
 pub mod SizeLines
 pub mod Sizes
 pub mod Tokens

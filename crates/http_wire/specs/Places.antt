@@ -1,9 +1,11 @@
 -- A scan for an end, which may be cut anywhere.
-use Rattle.std.specs.Prelude.{◌≡◌, ℕ, ◌≤◌, List, [], ◌∷◌, ◌++◌, length, drop, ⊤, Option, None, Some, if◌then◌else◌, ◌==◌}
+use Rattle.std.specs.Prelude.{◌≡◌, ℕ, ◌<◌, ◌≤◌, List, [], ◌∷◌, ◌++◌, length, drop, ⊤, Option, None, Some, if◌then◌else◌, ◌==◌}
 use Rattle.std.specs.Io.KnownBytes.{IsAtEnd}
 use Rattle.httparse.specs.Ascii.{line_feed}
 use Rattle.http_wire.specs.declared.scan.Place.{Place}
 use Rattle.http_wire.specs.declared.scan.Place.TheVariants.{Line, Inside, Start, Return}
+use Rattle.http_wire.specs.declared.scan.Feed.{Feed}
+use Rattle.http_wire.specs.declared.scan.Feed.TheVariants.{Last, Ended, Open}
 use Rattle.http_wire.specs.declared.scan.Scan.{Scan}
 use Rattle.http_wire.specs.declared.scan.Scan.TheVariants.{Found, More}
 use Rattle.http_wire.specs.declared.scan.Ending.{Ending}
@@ -30,10 +32,17 @@ abbrev pub Scans : Place → List ℕ → Scan → Type 0
 Scans place bytes (Found n) = (n ≤ length bytes) × ((rest : List ℕ) → length_from place (bytes ++ rest) ≡ Some n)
 Scans place bytes (More next) = (rest : List ℕ) → length_from place (bytes ++ rest) ≡ later (length bytes) (length_from next rest)
 
--- the byte ends it there, or leads to the next place
-abbrev pub Steps : ℕ → Place → Option Place → Type 0
-Steps b place None = (bs : List ℕ) → length_from place (b ∷ bs) ≡ Some 1
-Steps b place (Some next) = (bs : List ℕ) → length_from place (b ∷ bs) ≡ later 1 (length_from next bs)
+-- the end isn't among these bytes, and is looked for behind them from the next place on
+abbrev pub IsBehind : List ℕ → Place → Place → Type 0
+IsBehind bytes place next = (rest : List ℕ) → length_from place (bytes ++ rest) ≡ later (length bytes) (length_from next rest)
+
+-- the next line feed is the end; or another line begins behind it; or none is among the bytes
+abbrev pub Feeds : Place → List ℕ → Feed → Type 0
+Feeds place bytes (Last n) = (n ≤ length bytes) × ((rest : List ℕ) → length_from place (bytes ++ rest) ≡ Some n)
+Feeds place bytes (Ended n) =
+    (0 < n) × (n ≤ length bytes)
+    × ((rest : List ℕ) → length_from place (bytes ++ rest) ≡ later n (length_from Start (drop n bytes ++ rest)))
+Feeds place bytes (Open next) = IsBehind bytes place next
 
 -- an end that was found lies within the held bytes, and nothing follows where none is found
 abbrev pub EndsWithin : List ℕ → Option (List ℕ) → Ending → Type 0

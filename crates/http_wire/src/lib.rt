@@ -10,6 +10,7 @@ mod buffer;
 mod ends;
 mod fault;
 mod head;
+mod head_scan;
 mod heads;
 mod limits;
 mod lines;
@@ -21,6 +22,7 @@ mod wire;
 mod written;
 
 pub use fault::WireFault;
+pub use head_scan::HeadScan;
 pub use limits::{BODY_LIMIT, FIELD_LIMIT, HEAD_LIMIT, LINE_LIMIT, limits_are_stated};
 pub use message::{Framing, Head};
 pub use wire::Wire;

@@ -1,8 +1,11 @@
-ghost use Rattle.http_wire.specs.Places.{Scans, Steps};
+ghost use Rattle.std.specs.Prelude.{◌≡◌, [], ◌∷◌, IsTrue, ◌↔◌};
+ghost use Rattle.httparse.specs.Ascii.{carriage_return};
+ghost use Rattle.http_wire.specs.Bodies.{is_unfinished};
+ghost use Rattle.http_wire.specs.Places.{Scans, Feeds, IsBehind};
+
+use memchr::memchr;
 
 const LINE_FEED: u8 = b'\n';
-
-const CARRIAGE_RETURN: u8 = b'\r';
 
 /// Where a head, a trailer or a size line ends.
 #[derive(Clone, Copy, Debug, PartialEq, Eq)]
@@ -37,19 +40,55 @@ pub(crate) enum Scan {
     More(Place),
 }
 
-/// The place after a byte, or none where the byte is the last.
-#[inline(always)]
-fn after(byte: u8, place: Place) -> Option<Place>
-    ensures { Steps byte place result }
+/// What the next line feed comes to.
+#[derive(Clone, Copy, Debug, PartialEq, Eq)]
+enum Feed {
+    /// It is the end, after so many bytes.
+    Last(usize),
+    /// After so many bytes the next line begins.
+    Ended(usize),
+    /// None comes; the next piece begins there.
+    Open(Place),
+}
+
+/// Whether a line has just a carriage return before its line feed.
+fn is_return(line: &[u8]) -> bool
+    ensures { IsTrue result ↔ (line.now ≡ carriage_return ∷ []) }
 {
-    let is_feed = byte == LINE_FEED;
+    line == b"\r".as_slice()
+}
+
+/// The place behind bytes of a line, without its line feed.
+fn behind(line: &[u8], place: Place) -> Place
+    requires { IsTrue (is_unfinished line.now) }
+    ensures { IsBehind line.now place result }
+{
+    if line.is_empty() {
+        return place;
+    }
     match place {
-        Place::Inside if is_feed => Some(Place::Start),
-        Place::Inside => Some(Place::Inside),
-        _ if is_feed => None,
-        Place::Line => Some(Place::Line),
-        Place::Start if byte == CARRIAGE_RETURN => Some(Place::Return),
-        Place::Start | Place::Return => Some(Place::Inside),
+        Place::Line => Place::Line,
+        Place::Start => {
+            if is_return(line) {
+                Place::Return
+            } else {
+                Place::Inside
+            }
+        }
+        _ => Place::Inside,
+    }
+}
+
+/// Looks for the next line feed.
+fn next_feed(bytes: &[u8], place: Place) -> Feed
+    ensures { Feeds place bytes.now result }
+{
+    let Some(count) = memchr(LINE_FEED, bytes) else {
+        return Feed::Open(behind(bytes, place));
+    };
+    match behind(&bytes[..count], place) {
+        Place::Inside => Feed::Ended(count + 1),
+        _ => Feed::Last(count + 1),
     }
 }
 
@@ -58,11 +97,15 @@ pub(crate) fn scan_piece(bytes: &[u8], first: Place) -> Scan
     ensures { Scans first bytes.now result }
 {
     let mut place = first;
-    for (index, byte) in bytes.iter().enumerate() {
-        match after(*byte, place) {
-            Some(next) => place = next,
-            None => return Scan::Found(index + 1),
+    let mut seen = 0;
+    loop {
+        match next_feed(&bytes[seen..], place) {
+            Feed::Last(count) => return Scan::Found(seen + count),
+            Feed::Ended(count) => {
+                place = Place::Start;
+                seen += count;
+            }
+            Feed::Open(next) => return Scan::More(next),
         }
     }
-    Scan::More(place)
 }
