@@ -51,6 +51,8 @@ fn number(digits: &[u8], radix: u32) -> Option<usize>
 /// What the fields of a head say of where its answer ends.
 #[derive(Clone, Copy, Debug, Default, PartialEq, Eq)]
 struct Fields {
+    // its status has no body
+    is_bodiless: bool,
     length: Option<usize>,
     is_chunked: bool,
     // something isn't plain, or the connection is closed behind the answer
@@ -102,20 +104,24 @@ impl Fields {
 
     /// Where the answer stands whose head ends there.
     fn place(self, at: usize) -> Place {
-        match (self.is_open, self.length, self.is_chunked) {
-            (false, Some(length), false) => Place::End(at.saturating_add(length)),
-            (false, None, true) => Place::Chunk(at),
+        match (self.length, self.is_chunked) {
+            _ if self.is_open => Place::Open,
+            (_, false) if self.is_bodiless => Place::End(at),
+            (Some(length), false) => Place::End(at.saturating_add(length)),
+            (None, true) if !self.is_bodiless => Place::Chunk(at),
             _ => Place::Open,
         }
     }
 }
 
-/// Whether the first line of an answer is one of HTTP/1.1 whose status may come with a body, and is the last one.
+/// Whether the first line of an answer is one of HTTP/1.1 whose status is the last one of its call.
 fn is_plain(line: &[u8]) -> bool {
-    line.starts_with(b"HTTP/1.1 ")
-        && !line.starts_with(b"HTTP/1.1 1")
-        && !line.starts_with(b"HTTP/1.1 204")
-        && !line.starts_with(b"HTTP/1.1 304")
+    line.starts_with(b"HTTP/1.1 ") && !line.starts_with(b"HTTP/1.1 1")
+}
+
+/// Whether an answer with this first line has no body, whatever its fields say (RFC 9112, section 6.3).
+fn is_bodiless(line: &[u8]) -> bool {
+    line.starts_with(b"HTTP/1.1 204") || line.starts_with(b"HTTP/1.1 304")
 }
 
 impl Place {
@@ -138,6 +144,7 @@ impl Place {
             };
             if count == 0 {
                 fields.is_open = !is_plain(line);
+                fields.is_bodiless = is_bodiless(line);
             } else if line.is_empty() {
                 return fields.place(next);
             } else {

@@ -1,4 +1,5 @@
-use crate::head_end::HeadEnd;
+ghost use Rattle.std.specs.Prelude.{◌≡◌, IfOk};
+
 use crate::limits::ConnectionLimits;
 use crate::permits::Permits;
 use crate::sink::SocketSink;
@@ -69,8 +70,12 @@ pub fn ends_of<R: Drop + Copy>(
     rt: R,
     stream: TcpStream,
     permits: Arc<Permits, Global>,
-) -> Result<(SocketSource<R>, SocketSink<R>), NoMemory> {
-    ends_within(alloc, rt, stream, permits, ConnectionLimits::default())
+) -> Result<(SocketSource<R>, SocketSink<R>), NoMemory>
+    ensures source { IfOk result (λ ends. ends.0 ≡ record { inner = rt; faults = 0 }) }
+    ensures sink { IfOk result (λ ends. ends.1 ≡ record { inner = rt; faults = 0 }) }
+{
+    let limits = ConnectionLimits::default();
+    Ok(ends_within(alloc, rt, stream, permits, limits)?)
 }
 
 /// The two ends of a connection, without a failure yet, with limits of its own.
@@ -80,7 +85,10 @@ pub fn ends_within<R: Drop + Copy>(
     stream: TcpStream,
     permits: Arc<Permits, Global>,
     limits: ConnectionLimits,
-) -> Result<(SocketSource<R>, SocketSink<R>), NoMemory> {
+) -> Result<(SocketSource<R>, SocketSink<R>), NoMemory>
+    ensures source { IfOk result (λ ends. ends.0 ≡ record { inner = rt; faults = 0 }) }
+    ensures sink { IfOk result (λ ends. ends.1 ≡ record { inner = rt; faults = 0 }) }
+{
     let shared = Shared {
         stream,
         limits,
@@ -94,7 +102,7 @@ pub fn ends_within<R: Drop + Copy>(
     let source = SocketSource {
         rt,
         shared,
-        head: HeadEnd::Within,
+        head: None,
         limit: Duration::ZERO,
         faults: 0,
     };

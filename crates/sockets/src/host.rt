@@ -1,8 +1,9 @@
-ghost use Rattle.std.specs.Prelude.{None};
+ghost use Rattle.std.specs.Prelude.{◌≡◌, None};
 
 use etcd_types::Bytes;
 use outside::{Failed, Host};
 use std::io::ErrorKind;
+use std::marker::Model;
 use std::net::{Net, TcpListener, TcpStream};
 use std::rt::Clock as Times;
 use std::sync::Wait;
@@ -21,9 +22,19 @@ pub struct SocketHost<R: Drop> {
     pub(crate) faults: u64,
 }
 
+impl<R: Drop> Model for SocketHost<R> {
+    ghost use Rattle.outside.specs.Faults.{Counted};
+
+    ghost Value = { Counted R };
+
+    ghost view = { λ h. record { inner = h.rt; faults = h.faults } };
+}
+
 impl<R: Drop> SocketHost<R> {
-    /// A host that doesn't listen yet.
-    pub fn new(rt: R) -> SocketHost<R> {
+    /// A host that doesn't listen yet, with no failure.
+    pub fn new(rt: R) -> SocketHost<R>
+        ensures { result ≡ record { inner = rt; faults = 0 } }
+    {
         SocketHost {
             rt,
             listener: None,

@@ -9,7 +9,6 @@ mod answer;
 mod answer_end;
 mod answer_stream;
 mod connection;
-mod head_end;
 mod host;
 mod idle;
 mod lasting;

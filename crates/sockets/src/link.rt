@@ -1,4 +1,4 @@
-ghost use Rattle.std.specs.Prelude.{None};
+ghost use Rattle.std.specs.Prelude.{◌≡◌, None};
 
 use crate::answer_stream::AnswerStream;
 use crate::limits::LinkLimits;
@@ -10,6 +10,7 @@ use outside::{Link, LinkFault};
 use std::alloc::Global;
 use std::io;
 use std::io::ErrorKind;
+use std::marker::Model;
 use std::net::{Net, TcpStream};
 use std::rt::Clock as Times;
 use std::sync::{Arc, Wait};
@@ -25,9 +26,19 @@ pub struct SocketLink<R: Drop> {
     pub(crate) faults: u64,
 }
 
+impl<R: Drop> Model for SocketLink<R> {
+    ghost use Rattle.outside.specs.Faults.{Counted};
+
+    ghost Value = { Counted R };
+
+    ghost view = { λ l. record { inner = l.rt; faults = l.faults } };
+}
+
 impl<R: Drop> SocketLink<R> {
-    /// A link to these members.
-    pub fn new(rt: R, members: Arc<Members, Global>, limits: LinkLimits) -> SocketLink<R> {
+    /// A link to these members, with no failure yet.
+    pub fn new(rt: R, members: Arc<Members, Global>, limits: LinkLimits) -> SocketLink<R>
+        ensures { result ≡ record { inner = rt; faults = 0 } }
+    {
         SocketLink {
             rt,
             members,

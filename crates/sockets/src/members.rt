@@ -1,3 +1,5 @@
+ghost use Rattle.std.specs.Prelude.{◌≡◌, length, IfOk};
+
 use crate::limits::LinkLimits;
 use crate::member::{Asked, Member};
 use crate::times::{Until, time};
@@ -5,6 +7,7 @@ use etcd_types::{Bytes, List, NoMemory};
 use std::alloc::Global;
 use std::io;
 use std::io::ErrorKind;
+use std::marker::Model;
 use std::net::{Net, TcpStream};
 use std::rt::Clock as Times;
 use std::sync::Wait;
@@ -25,10 +28,21 @@ pub struct Members {
     told: AtomicU64,
 }
 
+/// It is seen as how many members there are.
+impl Model for Members {
+    ghost use Rattle.std.specs.Prelude.{ℕ, vec_len};
+
+    ghost Value = { ℕ };
+
+    ghost view = { λ m. vec_len m.all };
+}
+
 impl Members {
     /// The members at these hosts, `host:port` each, member 1 first. Names are looked up here, and again where a member takes no
     /// connection. A host that isn't such a text is a member that doesn't answer.
-    pub fn new<R: Net>(rt: &R, alloc: Global, hosts: &List<Bytes>) -> Result<Members, NoMemory> {
+    pub fn new<R: Net>(rt: &R, alloc: Global, hosts: &List<Bytes>) -> Result<Members, NoMemory>
+        ensures { IfOk result (λ members. members ≡ length hosts.now) }
+    {
         let mut all = Vec::new(alloc);
         let mut number: u32 = 0;
         for host in hosts.as_slice() {

@@ -6,6 +6,7 @@ use outside::{Failed, Sink};
 use std::alloc::Global;
 use std::io;
 use std::io::{ErrorKind, Write};
+use std::marker::Model;
 use std::rt::Clock as Times;
 use std::sync::Arc;
 use std::time::Duration;
@@ -23,6 +24,14 @@ pub struct SocketSink<R: Drop> {
     /// An earlier write was taken in part alone.
     pub(crate) broken: bool,
     pub(crate) faults: u64,
+}
+
+impl<R: Drop> Model for SocketSink<R> {
+    ghost use Rattle.outside.specs.Faults.{Counted};
+
+    ghost Value = { Counted R };
+
+    ghost view = { λ s. record { inner = s.rt; faults = s.faults } };
 }
 
 impl<R: Times + Drop> SocketSink<R> {

@@ -1,14 +1,16 @@
 ghost use Rattle.std.specs.Prelude.{◌≡◌, None};
 ghost use Rattle.std.specs.Io.{ReadsAtMost};
+ghost use Rattle.sockets.specs.Heads.{HeadLooks};
 
 use crate::connection::Shared;
-use crate::head_end::HeadEnd;
 use crate::times::{TRIES, Until};
 use crate::transfer::glance;
+use http_wire::HeadScan;
 use outside::{Failed, Source};
 use std::alloc::Global;
 use std::io;
 use std::io::{ErrorKind, Read};
+use std::marker::Model;
 use std::rt::Clock as Times;
 use std::sync::atomic::Ordering::SeqCst;
 use std::sync::{Arc, Wait};
@@ -24,10 +26,35 @@ const LARGE: u64 = 65_536;
 pub struct SocketSource<R: Drop> {
     pub(crate) rt: R,
     pub(crate) shared: Arc<Shared, Global>,
-    pub(crate) head: HeadEnd,
+    /// Looks for the end of the head that is read, where it hasn't come.
+    pub(crate) head: Option<HeadScan>,
     /// The limit of time that the socket has for a read; zero where none was set.
     pub(crate) limit: Duration,
     pub(crate) faults: u64,
+}
+
+/// Whether a head ends with these bytes. Behind its end nothing is looked for.
+fn ends_head(head: &mut Option<HeadScan>, bytes: &[u8]) -> bool
+    ensures { HeadLooks head.old bytes.now head.new result }
+{
+    let Some(scan) = head else {
+        return false;
+    };
+    match scan.look(bytes) {
+        Some(_) => {
+            *head = None;
+            true
+        }
+        None => false,
+    }
+}
+
+impl<R: Drop> Model for SocketSource<R> {
+    ghost use Rattle.outside.specs.Faults.{Counted};
+
+    ghost Value = { Counted R };
+
+    ghost view = { λ s. record { inner = s.rt; faults = s.faults } };
 }
 
 impl<R: Wait + Times + Drop> SocketSource<R> {
@@ -39,22 +66,31 @@ impl<R: Wait + Times + Drop> SocketSource<R> {
         }
     }
 
+    // Notes that these bytes came. Where they begin a request or end its head, the rest of that part has its own limit of time.
+    fn follow(&mut self, bytes: &[u8]) -> io::Result<()>
+        ensures { self.new.faults ≡ self.old.faults }
+    {
+        let is_first = self.shared.until.load(SeqCst) == 0;
+        if is_first {
+            self.head = Some(HeadScan::new());
+        }
+        let limit = if ends_head(&mut self.head, bytes) {
+            self.shared.limits.body
+        } else if is_first {
+            self.shared.limits.head
+        } else {
+            return Ok(());
+        };
+        let until = Until::after(&self.rt, limit)?;
+        self.shared.until.store(until.end, SeqCst);
+        Ok(())
+    }
+
     // Notes that these bytes came, and takes a permit where one is needed.
     fn note(&mut self, bytes: &[u8]) -> io::Result<()>
         ensures { self.new.faults ≡ self.old.faults }
     {
-        if self.shared.until.load(SeqCst) == 0 {
-            self.head = HeadEnd::Within;
-            let until = Until::after(&self.rt, self.shared.limits.head)?;
-            self.shared.until.store(until.end, SeqCst);
-        }
-        if self.head != HeadEnd::Passed {
-            self.head = self.head.after(bytes);
-            if self.head == HeadEnd::Passed {
-                let until = Until::after(&self.rt, self.shared.limits.body)?;
-                self.shared.until.store(until.end, SeqCst);
-            }
-        }
+        self.follow(bytes)?;
         let came = self
             .shared
             .came

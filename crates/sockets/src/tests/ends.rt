@@ -9,6 +9,7 @@ use std::rt::Clock as Times;
 use std::sync::atomic::Ordering::SeqCst;
 use std::sync::{Arc, Wait};
 use std::test::Fail;
+use std::thread::Threads;
 use std::time::Duration;
 use std::{str, thread};
 
@@ -49,26 +50,46 @@ fn connected<
     })
 }
 
+/// Whether the next bytes that come from there are these.
+fn gives<S: Source>(source: &mut S, bytes: &[u8]) -> bool {
+    let mut room = [0u8; 8];
+    match source.read(&mut room) {
+        Ok(count) => room.get(..count) == Some(bytes),
+        Err(_) => false,
+    }
+}
+
+/// Whether a client hears these bytes next.
+fn hears(client: &mut TcpStream, bytes: &[u8]) -> bool {
+    let mut room = [0u8; 8];
+    match client.read(&mut room) {
+        Ok(count) => room.get(..count) == Some(bytes),
+        Err(_) => false,
+    }
+}
+
 #[test]
 fn an_accepted_connection_carries_bytes_both_ways(rt: HostRuntime) -> Result<(), Fail> {
-    let alloc: Global = rt.alloc();
-    let connection = connected(rt, alloc, LIMITS, 1)?;
+    let connection = connected(rt, rt.alloc(), LIMITS, 1)?;
     let (mut client, mut source, mut sink) = (
         connection.client,
         connection.source,
         connection.sink,
     );
-    let mut room = [0u8; 8];
+    client.write_all(b"ask")?;
+    assert!(rt; source.check().is_ok() && gives(&mut source, b"ask"));
+    assert!(rt; sink.write(b"reply") == Ok(5) && hears(&mut client, b"reply"));
+    assert_eq!(rt; (source.faults, sink.faults), (0, 0));
+    Ok(())
+}
+
+#[test]
+fn a_client_that_went_away_is_seen(rt: HostRuntime) -> Result<(), Fail> {
+    let connection = connected(rt, rt.alloc(), LIMITS, 1)?;
+    let (mut source, sink) = (connection.source, connection.sink);
     assert!(rt; source.check().is_ok());
-    assert_eq!(rt; client.write(b"ask")?, 3);
-    assert_eq!(rt; source.read(&mut room), Ok(3));
-    assert_eq!(rt; &room[..3], b"ask".as_slice());
-    assert_eq!(rt; sink.write(b"reply"), Ok(5));
-    assert_eq!(rt; client.read(&mut room)?, 5);
-    assert_eq!(rt; &room[..5], b"reply".as_slice());
-    drop(client);
-    assert!(rt; source.check().is_err());
-    assert_eq!(rt; source.read(&mut room), Ok(0));
+    drop(connection.client);
+    assert!(rt; source.check().is_err() && gives(&mut source, b""));
     assert_eq!(rt; (source.faults, sink.faults), (1, 0));
     // the ends may go to another thread
     let handle = thread::spawn(&rt, move || -> bool {
@@ -110,38 +131,73 @@ const SLOW_HEAD: &[u8] = b"GET /an/address/that/comes/slowly HTTP/1.1\r\n\r\n";
 
 const SLOW_BODY: &[u8] = b"\n\na body that comes as slowly as that";
 
-#[test]
-fn a_client_has_a_limit_for_each_part_of_a_request(rt: HostRuntime) -> Result<(), Fail> {
-    let alloc: Global = rt.alloc();
-    let short = |first_byte, head, body| ConnectionLimits {
+/// How many bytes come from a client that writes these slowly, and how often a read fails. A client that writes nothing stays.
+fn came<
+    R: Net<Listener = TcpListener, Stream = TcpStream>
+        + Wait
+        + Times
+        + Eprint
+        + Threads
+        + Drop
+        + Copy
+        + Send
+        + 'static,
+>(
+    rt: R,
+    alloc: Global,
+    bytes: &'static [u8],
+    limits: ConnectionLimits,
+) -> Result<(usize, u64), Fail> {
+    let connection = connected(rt, alloc, limits, 1)?;
+    let (client, mut source) = (connection.client, connection.source);
+    if bytes.is_empty() {
+        let read = read_on(&mut source);
+        drop(client);
+        return Ok(read);
+    }
+    let handle = thread::spawn(&rt, move || -> usize { trickle(rt, client, bytes) })?;
+    let read = read_on(&mut source);
+    drop(source);
+    drop(connection.sink);
+    let _ = handle.join(&rt);
+    Ok(read)
+}
+
+/// Limits of so many milliseconds for each part of a request.
+fn short(first_byte: u64, head: u64, body: u64) -> ConnectionLimits {
+    ConnectionLimits {
         first_byte,
         head,
         body,
         ..LIMITS
-    };
-    // what the client writes, the limits, and whether all of it comes
-    let rows = [
-        (b"".as_slice(), short(100, 20_000, 20_000), false),
-        (SLOW_HEAD, short(20_000, 400, 20_000), false),
-        (SLOW_BODY, short(20_000, 20_000, 400), false),
-        (b"\r\n\nin time".as_slice(), LIMITS, true),
-    ];
-    for (bytes, limits, comes) in rows {
-        let connection = connected(rt, alloc, limits, 1)?;
-        let (client, mut source) = (connection.client, connection.source);
-        if bytes.is_empty() {
-            assert_eq!(rt; read_on(&mut source), (0, 1));
-            drop(client);
-        } else {
-            let handle = thread::spawn(&rt, move || -> usize { trickle(rt, client, bytes) })?;
-            let (came, faults) = read_on(&mut source);
-            assert_eq!(rt; came == bytes.len(), comes, "{came}");
-            assert_eq!(rt; faults, u64::from(!comes), "{came}");
-            drop(source);
-            drop(connection.sink);
-            let _ = handle.join(&rt);
-        }
     }
+}
+
+#[test]
+fn a_client_has_a_limit_for_a_first_byte(rt: HostRuntime) -> Result<(), Fail> {
+    assert_eq!(rt;
+        came(rt, rt.alloc(), b"", short(100, 20_000, 20_000))?,
+        (0, 1)
+    );
+    Ok(())
+}
+
+#[test]
+fn a_client_has_a_limit_for_a_head_and_for_a_body(rt: HostRuntime) -> Result<(), Fail> {
+    let rows = [
+        (SLOW_HEAD, short(20_000, 400, 20_000)),
+        (SLOW_BODY, short(20_000, 20_000, 400)),
+    ];
+    for (bytes, limits) in rows {
+        let (count, faults) = came(rt, rt.alloc(), bytes, limits)?;
+        assert!(rt; count < bytes.len() && faults == 1, "{count}");
+    }
+    Ok(())
+}
+
+#[test]
+fn a_client_that_is_in_time_is_heard_to_its_end(rt: HostRuntime) -> Result<(), Fail> {
+    assert_eq!(rt; came(rt, rt.alloc(), b"\r\n\nin time", LIMITS)?, (10, 0));
     Ok(())
 }
 
@@ -166,42 +222,60 @@ fn a_write_has_a_limit(rt: HostRuntime) -> Result<(), Fail> {
     Ok(())
 }
 
+/// How many bytes are read of so many, or before a read fails.
+fn read_all<S: Source>(source: &mut S, alloc: Global, count: usize) -> Result<usize, Fail> {
+    let mut room = Vec::from_elem(alloc, 0u8, 65_537)?;
+    let mut came = 0usize;
+    for _ in 0..count {
+        match source.read(&mut room) {
+            Ok(count) => came = came.saturating_add(count),
+            Err(_) => break,
+        }
+        if came >= count {
+            break;
+        }
+    }
+    Ok(came)
+}
+
+/// Writes a piece, and says whether it was taken, how many permits are free then, and whether the next byte is a request's first.
+fn written<R: Times + Drop>(
+    sink: &mut SocketSink<R>,
+    permits: &Permits,
+    piece: &[u8],
+) -> (bool, u64, bool) {
+    let is_taken = sink.write(piece) == Ok(piece.len());
+    let is_anew = sink.shared.until.load(SeqCst) == 0;
+    (is_taken, permits.free.load(SeqCst), is_anew)
+}
+
 #[test]
 fn a_large_request_has_a_permit_up_to_its_reply(rt: HostRuntime) -> Result<(), Fail> {
     let alloc: Global = rt.alloc();
-    let limits = ConnectionLimits {
-        head: 300,
-        ..LIMITS
-    };
     let request = Vec::from_elem(alloc, b'x', 65_537)?;
     for permits in [1, 0] {
-        let connection = connected(rt, alloc, limits, permits)?;
+        let connection = connected(rt, alloc, short(20_000, 300, 20_000), permits)?;
         let (mut client, mut source, mut sink) = (
             connection.client,
             connection.source,
             connection.sink,
         );
         client.write_all(request.as_slice())?;
-        let mut room = Vec::from_elem(alloc, 0u8, 65_537)?;
-        let mut came = 0usize;
-        for _ in 0..65_537u32 {
-            match source.read(&mut room) {
-                Ok(count) => came = came.saturating_add(count),
-                Err(_) => break,
-            }
-            if came >= request.len() {
-                break;
-            }
-        }
-        assert_eq!(rt; source.faults, u64::from(permits == 0));
+        let came = read_all(&mut source, alloc, request.len())?;
+        assert_eq!(rt;
+            (came == request.len(), source.faults),
+            (permits == 1, u64::from(permits == 0))
+        );
         assert_eq!(rt; connection.permits.free.load(SeqCst), 0);
         // what asks for the body gives nothing back, and doesn't begin anew
-        assert!(rt; sink.write(b"HTTP/1.1 100 Continue\r\n\r\n").is_ok());
-        assert_eq!(rt; connection.permits.free.load(SeqCst), 0);
-        assert!(rt; source.shared.until.load(SeqCst) > 0);
-        assert!(rt; sink.write(b"HTTP/1.1 200 OK\r\n\r\n").is_ok());
-        assert_eq!(rt; connection.permits.free.load(SeqCst), permits);
-        assert_eq!(rt; source.shared.until.load(SeqCst), 0);
+        let asked = written(
+            &mut sink,
+            &connection.permits,
+            b"HTTP/1.1 100 Continue\r\n\r\n",
+        );
+        assert_eq!(rt; asked, (true, 0, false));
+        let replied = written(&mut sink, &connection.permits, b"HTTP/1.1 200 OK\r\n\r\n");
+        assert_eq!(rt; replied, (true, permits, true));
     }
     Ok(())
 }
@@ -217,15 +291,15 @@ fn an_end_fails_where_the_clock_does(rt: HostRuntime) -> Result<(), Fail> {
         connection.sink,
     );
     let mut room = [0u8; 8];
-    for reading in 1..4 {
-        assert!(rt; client.write(b"a\n\n")? == 3);
+    for reading in 1..3 {
+        client.write_all(b"a\n\n")?;
         system.refuse(reading);
-        // one reading begins the head, one the body, and one the write
+        // one reading notes what came, and one begins the write
         let read = source.read(&mut room);
         let written = sink.write(b"reply");
         assert_eq!(rt;
             (read.is_ok(), written.is_ok()),
-            (reading == 3, reading != 3),
+            (reading == 2, reading == 1),
             "{reading}"
         );
     }

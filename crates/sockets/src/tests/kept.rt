@@ -13,6 +13,7 @@ use std::rt::Clock as Times;
 use std::sync::Wait;
 use std::test::Fail;
 use std::thread;
+use std::thread::Threads;
 use std::time::Duration;
 
 /// Limits that no member of a test comes near.
@@ -37,6 +38,12 @@ enum Act {
     Rest,
 }
 
+/// The acts of a member, one lot for each connection.
+#[derive(Clone, Copy)]
+struct Story {
+    lots: &'static [&'static [Act]],
+}
+
 const CALL: &[u8] =
     b"POST /v3/kv/put HTTP/1.1\r\nHost: a\r\nConnection: close\r\nContent-Length: 2\r\n\r\n{}";
 
@@ -49,32 +56,48 @@ const TWO: &[u8] =
 
 const CLOSING: &[u8] = b"HTTP/1.1 200 OK\r\nConnection: close\r\nContent-Length: 3\r\n\r\nend";
 
-/// A member that does these acts, one lot for each connection, which it then closes; and how many it did before one failed.
+/// Does one act on a connection, and says whether it went so.
+fn does<R: Times>(rt: &R, stream: &mut TcpStream, act: Act) -> bool {
+    match act {
+        Act::Hear(call) => hears(stream, call),
+        Act::Say(bytes) => stream.write(bytes).is_ok(),
+        Act::Gone => hears(stream, b""),
+        Act::Rest => {
+            thread::sleep(rt, Duration::from_millis(100));
+            true
+        }
+    }
+}
+
+/// Does these acts on a connection, and says how many it did before one failed.
+fn does_all<R: Times>(rt: &R, stream: TcpStream, acts: &[Act]) -> usize {
+    let mut stream = stream;
+    let mut done = 0usize;
+    for act in acts {
+        if !does(rt, &mut stream, *act) {
+            break;
+        }
+        done = done.saturating_add(1);
+    }
+    done
+}
+
+/// A member that does these acts, and closes each connection behind its lot; and how many it did before one failed.
 fn play<R: Net<Listener = TcpListener, Stream = TcpStream> + Wait + Times + Eprint + Drop + Copy>(
     rt: R,
     host: SocketHost<R>,
-    lots: &'static [&'static [Act]],
+    story: Story,
 ) -> usize {
     let mut host = host;
     let mut done = 0usize;
-    for lot in lots {
-        let Ok(mut stream) = host.accept() else {
-            return done;
+    for lot in story.lots {
+        let Ok(stream) = host.accept() else {
+            break;
         };
-        for act in *lot {
-            let is_done = match act {
-                Act::Hear(call) => hears(&mut stream, call),
-                Act::Say(bytes) => stream.write(bytes).is_ok(),
-                Act::Gone => hears(&mut stream, b""),
-                Act::Rest => {
-                    thread::sleep(&rt, Duration::from_millis(100));
-                    true
-                }
-            };
-            if !is_done {
-                return done;
-            }
-            done = done.saturating_add(1);
+        let count = does_all(&rt, stream, lot);
+        done = done.saturating_add(count);
+        if count < lot.len() {
+            break;
         }
     }
     done
@@ -120,115 +143,121 @@ fn is_wanted(answer: &Result<Bytes, LinkFault>, want: Wanted) -> bool {
     }
 }
 
-const THREE_CALLS: &[&[Act]] = &[&[
-    Act::Hear(HEARD),
-    Act::Say(ONE),
-    Act::Hear(HEARD),
-    Act::Say(b"HTTP/1.1 200 OK\r\nTransfer-Encoding: chunked\r\n\r\n2\r"),
-    Act::Rest,
-    Act::Say(b"\ntw\r\n1\r\no\r\n0\r\n\r\n"),
-    Act::Hear(HEARD),
-    Act::Say(ONE),
-]];
+/// A member that does these acts while calls are made to it: how many calls came to what was wanted, how often the link failed,
+/// and how many acts were done.
+fn played<
+    R: Net<Listener = TcpListener, Stream = TcpStream>
+        + Wait
+        + Times
+        + Eprint
+        + Threads
+        + Drop
+        + Copy
+        + Send
+        + 'static,
+>(rt: R, alloc: Global, story: Story, wanted: &[Wanted]) -> Result<(usize, u64, usize), Fail> {
+    let (host, address) = listening(rt, alloc)?;
+    let handle = thread::spawn(&rt, move || -> usize { play(rt, host, story) })?;
+    let (came, faults) = called(rt, alloc, &address, wanted)?;
+    Ok((came, faults, handle.join(&rt)))
+}
+
+const THREE_CALLS: Story = Story {
+    lots: &[&[
+        Act::Hear(HEARD),
+        Act::Say(ONE),
+        Act::Hear(HEARD),
+        Act::Say(b"HTTP/1.1 200 OK\r\nTransfer-Encoding: chunked\r\n\r\n2\r"),
+        Act::Rest,
+        Act::Say(b"\ntw\r\n1\r\no\r\n0\r\n\r\n"),
+        Act::Hear(HEARD),
+        Act::Say(ONE),
+    ]],
+};
 
 #[test]
 fn calls_use_one_connection(rt: HostRuntime) -> Result<(), Fail> {
-    let alloc: Global = rt.alloc();
-    let (host, address) = listening(rt, alloc)?;
-    let handle = thread::spawn(&rt, move || -> usize { play(rt, host, THREE_CALLS) })?;
-    let wanted = &[Some(ONE), Some(TWO), Some(ONE)];
-    assert_eq!(rt; called(rt, alloc, &address, wanted)?, (3, 0));
-    assert_eq!(rt; handle.join(&rt), 8);
+    let wanted = [Some(ONE), Some(TWO), Some(ONE)];
+    assert_eq!(rt; played(rt, rt.alloc(), THREE_CALLS, &wanted)?, (3, 0, 8));
     Ok(())
 }
 
-const CLOSED: &[&[Act]] = &[
-    &[Act::Hear(HEARD), Act::Say(ONE)],
-    &[Act::Hear(HEARD), Act::Say(TWO)],
-];
+const CLOSED: Story = Story {
+    lots: &[
+        &[Act::Hear(HEARD), Act::Say(ONE)],
+        &[Act::Hear(HEARD), Act::Say(TWO)],
+    ],
+};
 
 #[test]
 fn a_connection_that_was_closed_is_not_used(rt: HostRuntime) -> Result<(), Fail> {
-    let alloc: Global = rt.alloc();
-    let (host, address) = listening(rt, alloc)?;
-    let handle = thread::spawn(&rt, move || -> usize { play(rt, host, CLOSED) })?;
-    let wanted = &[Some(ONE), Some(TWO)];
-    assert_eq!(rt; called(rt, alloc, &address, wanted)?, (2, 0));
-    assert_eq!(rt; handle.join(&rt), 4);
+    let wanted = [Some(ONE), Some(TWO)];
+    assert_eq!(rt; played(rt, rt.alloc(), CLOSED, &wanted)?, (2, 0, 4));
     Ok(())
 }
 
+const LONGER: &[u8] = b"HTTP/1.1 200 OK\r\nContent-Length: 2\r\n\r\none";
+
 /// It talks behind the answer, and with it.
-const TALKING: &[&[Act]] = &[
-    &[
-        Act::Hear(HEARD),
-        Act::Say(ONE),
-        Act::Rest,
-        Act::Say(ONE),
-        Act::Gone,
+const TALKING: Story = Story {
+    lots: &[
+        &[
+            Act::Hear(HEARD),
+            Act::Say(ONE),
+            Act::Rest,
+            Act::Say(ONE),
+            Act::Gone,
+        ],
+        &[Act::Hear(HEARD), Act::Say(LONGER), Act::Gone],
+        &[Act::Hear(HEARD), Act::Say(TWO)],
     ],
-    &[
-        Act::Hear(HEARD),
-        Act::Say(b"HTTP/1.1 200 OK\r\nContent-Length: 2\r\n\r\none"),
-        Act::Gone,
-    ],
-    &[Act::Hear(HEARD), Act::Say(TWO)],
-];
+};
 
 #[test]
 fn a_connection_that_says_more_than_was_asked_is_not_used(rt: HostRuntime) -> Result<(), Fail> {
-    let alloc: Global = rt.alloc();
-    let longer: Wanted = Some(b"HTTP/1.1 200 OK\r\nContent-Length: 2\r\n\r\none");
-    let (host, address) = listening(rt, alloc)?;
-    let handle = thread::spawn(&rt, move || -> usize { play(rt, host, TALKING) })?;
-    let wanted = &[Some(ONE), longer, Some(TWO)];
-    assert_eq!(rt; called(rt, alloc, &address, wanted)?, (3, 0));
-    assert_eq!(rt; handle.join(&rt), 10);
+    let wanted = [Some(ONE), Some(LONGER), Some(TWO)];
+    assert_eq!(rt; played(rt, rt.alloc(), TALKING, &wanted)?, (3, 0, 10));
     Ok(())
 }
 
-const CLOSING_OR_CUT: &[&[Act]] = &[
-    &[Act::Hear(HEARD), Act::Say(CLOSING)],
-    &[
-        Act::Hear(HEARD),
-        Act::Say(b"HTTP/1.1 200 OK\r\nContent-Length: 4\r\n\r\ncut"),
+const CUT: &[u8] = b"HTTP/1.1 200 OK\r\nContent-Length: 4\r\n\r\ncut";
+
+const CLOSING_OR_CUT: Story = Story {
+    lots: &[
+        &[Act::Hear(HEARD), Act::Say(CLOSING)],
+        &[Act::Hear(HEARD), Act::Say(CUT)],
+        &[Act::Hear(HEARD), Act::Say(ONE)],
     ],
-    &[Act::Hear(HEARD), Act::Say(ONE)],
-];
+};
 
 #[test]
 fn a_connection_is_dropped_that_is_to_be_closed_or_broke(rt: HostRuntime) -> Result<(), Fail> {
-    let alloc: Global = rt.alloc();
-    let cut: Wanted = Some(b"HTTP/1.1 200 OK\r\nContent-Length: 4\r\n\r\ncut");
-    let (host, address) = listening(rt, alloc)?;
-    let handle = thread::spawn(&rt, move || -> usize { play(rt, host, CLOSING_OR_CUT) })?;
-    let wanted = &[Some(CLOSING), cut, Some(ONE)];
-    assert_eq!(rt; called(rt, alloc, &address, wanted)?, (3, 0));
-    assert_eq!(rt; handle.join(&rt), 6);
+    let wanted = [Some(CLOSING), Some(CUT), Some(ONE)];
+    assert_eq!(rt; played(rt, rt.alloc(), CLOSING_OR_CUT, &wanted)?, (3, 0, 6));
     Ok(())
 }
 
-const FAILING: &[&[Act]] = &[
-    &[Act::Hear(HEARD), Act::Say(ONE), Act::Hear(HEARD)],
-    &[Act::Hear(HEARD), Act::Say(TWO)],
-];
+const FAILING: Story = Story {
+    lots: &[
+        &[Act::Hear(HEARD), Act::Say(ONE), Act::Hear(HEARD)],
+        &[Act::Hear(HEARD), Act::Say(TWO)],
+    ],
+};
 
 #[test]
 fn a_call_that_failed_is_not_sent_again(rt: HostRuntime) -> Result<(), Fail> {
-    let alloc: Global = rt.alloc();
     // the second call came, and its connection was closed without an answer: a call that is sent again would have the third's
-    let (host, address) = listening(rt, alloc)?;
-    let handle = thread::spawn(&rt, move || -> usize { play(rt, host, FAILING) })?;
-    let wanted = &[Some(ONE), None, Some(TWO)];
-    assert_eq!(rt; called(rt, alloc, &address, wanted)?, (3, 1));
-    assert_eq!(rt; handle.join(&rt), 5);
+    let wanted = [Some(ONE), None, Some(TWO)];
+    assert_eq!(rt; played(rt, rt.alloc(), FAILING, &wanted)?, (3, 1, 5));
     Ok(())
 }
 
-const RESTING: &[&[Act]] = &[
-    &[Act::Hear(HEARD), Act::Say(ONE), Act::Gone],
-    &[Act::Hear(HEARD), Act::Say(TWO)],
-];
+const RESTING: Story = Story {
+    lots: &[
+        &[Act::Hear(HEARD), Act::Say(ONE), Act::Gone],
+        &[Act::Hear(HEARD), Act::Say(TWO)],
+    ],
+};
 
 #[test]
 fn a_connection_that_rested_too_long_is_not_used(rt: HostRuntime) -> Result<(), Fail> {
@@ -244,71 +273,95 @@ fn a_connection_that_rested_too_long_is_not_used(rt: HostRuntime) -> Result<(), 
     Ok(())
 }
 
+/// An answer, and how many of its bytes it has, where that is told.
+const ENDS: &[(&[u8], Option<usize>)] = &[
+    (ONE, Some(41)),
+    (TWO, Some(65)),
+    (b"HTTP/1.1 500 no\r\ncontent-length:0\r\n\r\nmore", Some(37)),
+    (
+        b"HTTP/1.1 200 OK\nContent-Length: 1\nConnection: Keep-Alive\n\n1",
+        Some(59),
+    ),
+    (
+        b"HTTP/1.1 200 OK\r\nTransfer-Encoding: chunked\r\n\r\nA;x=y\r\n0123456789\r\n0\r\nT: a\r\n\r\n",
+        Some(77),
+    ),
+    (CLOSING, None),
+    (b"HTTP/1.0 200 OK\r\nContent-Length: 0\r\n\r\n", None),
+    (b"HTTP/1.1 100 Continue\r\nContent-Length: 0\r\n\r\n", None),
+    (b"HTTP/1.1 204 No Content\r\n\r\n", Some(27)),
+    (
+        b"HTTP/1.1 204 No Content\r\nContent-Length: 0\r\n\r\n",
+        Some(46),
+    ),
+    (
+        b"HTTP/1.1 304 Not Modified\r\nContent-Length: 5\r\n\r\n",
+        Some(48),
+    ),
+    (
+        b"HTTP/1.1 204 No Content\r\nConnection: close\r\n\r\n",
+        None,
+    ),
+    (
+        b"HTTP/1.1 204 No Content\r\nTransfer-Encoding: chunked\r\n\r\n",
+        None,
+    ),
+    (b"HTTP/1.1 200 OK\r\n\r\n", None),
+    (b"HTTP/1.1 200 OK\r\nContent-Length: +1\r\n\r\n1", None),
+    (
+        b"HTTP/1.1 200 OK\r\nContent-Length: 1\r\nContent-Length: 1\r\n\r\n1",
+        None,
+    ),
+    (
+        b"HTTP/1.1 200 OK\r\nContent-Length: 1\r\nTransfer-Encoding: chunked\r\n\r\n0\r\n\r\n",
+        None,
+    ),
+    (
+        b"HTTP/1.1 200 OK\r\nTransfer-Encoding: gzip, chunked\r\n\r\n0\r\n\r\n",
+        None,
+    ),
+    (
+        b"HTTP/1.1 200 OK\r\nContent-Length: 1\r\n folded\r\n\r\n1",
+        None,
+    ),
+    (
+        b"HTTP/1.1 200 OK\r\nTransfer-Encoding: chunked\r\n\r\n1\r\n1xx0\r\n\r\n",
+        None,
+    ),
+    (
+        b"HTTP/1.1 200 OK\r\nTransfer-Encoding: chunked\r\n\r\n-1\r\n0\r\n\r\n",
+        None,
+    ),
+    (
+        b"HTTP/1.1 200 OK\r\nTransfer-Encoding: chunked\r\n\r\n0\r\nT: a\r\n",
+        None,
+    ),
+];
+
+/// Where an answer with these bytes ends, where that is told.
+fn end_of(bytes: &[u8]) -> Option<usize> {
+    match Place::Head.behind(bytes) {
+        Place::End(end) => Some(end),
+        _ => None,
+    }
+}
+
+/// Whether an answer ends there too where it comes in two pieces, wherever the first one ends.
+fn ends_so_in_pieces(bytes: &[u8]) -> bool {
+    let all = Place::Head.behind(bytes);
+    for count in 0..bytes.len() {
+        if Place::Head.behind(&bytes[..count]).behind(bytes) != all {
+            return false;
+        }
+    }
+    true
+}
+
 #[test]
 fn an_answer_ends_where_it_says(rt: HostRuntime) -> Result<(), Fail> {
-    // an answer, and how many of its bytes it has, where that is told
-    let rows: [(&[u8], Option<usize>); 18] = [
-        (ONE, Some(ONE.len())),
-        (TWO, Some(TWO.len())),
-        (b"HTTP/1.1 500 no\r\ncontent-length:0\r\n\r\nmore", Some(37)),
-        (
-            b"HTTP/1.1 200 OK\nContent-Length: 1\nConnection: Keep-Alive\n\n1",
-            Some(59),
-        ),
-        (
-            b"HTTP/1.1 200 OK\r\nTransfer-Encoding: chunked\r\n\r\nA;x=y\r\n0123456789\r\n0\r\nT: a\r\n\r\n",
-            Some(77),
-        ),
-        (CLOSING, None),
-        (b"HTTP/1.0 200 OK\r\nContent-Length: 0\r\n\r\n", None),
-        (b"HTTP/1.1 100 Continue\r\nContent-Length: 0\r\n\r\n", None),
-        (
-            b"HTTP/1.1 204 No Content\r\nContent-Length: 0\r\n\r\n",
-            None,
-        ),
-        (b"HTTP/1.1 200 OK\r\n\r\n", None),
-        (b"HTTP/1.1 200 OK\r\nContent-Length: +1\r\n\r\n1", None),
-        (
-            b"HTTP/1.1 200 OK\r\nContent-Length: 1\r\nContent-Length: 1\r\n\r\n1",
-            None,
-        ),
-        (
-            b"HTTP/1.1 200 OK\r\nContent-Length: 1\r\nTransfer-Encoding: chunked\r\n\r\n0\r\n\r\n",
-            None,
-        ),
-        (
-            b"HTTP/1.1 200 OK\r\nTransfer-Encoding: gzip, chunked\r\n\r\n0\r\n\r\n",
-            None,
-        ),
-        (
-            b"HTTP/1.1 200 OK\r\nContent-Length: 1\r\n folded\r\n\r\n1",
-            None,
-        ),
-        (
-            b"HTTP/1.1 200 OK\r\nTransfer-Encoding: chunked\r\n\r\n1\r\n1xx0\r\n\r\n",
-            None,
-        ),
-        (
-            b"HTTP/1.1 200 OK\r\nTransfer-Encoding: chunked\r\n\r\n-1\r\n0\r\n\r\n",
-            None,
-        ),
-        (
-            b"HTTP/1.1 200 OK\r\nTransfer-Encoding: chunked\r\n\r\n0\r\nT: a\r\n",
-            None,
-        ),
-    ];
-    for (row, (bytes, ends)) in rows.iter().enumerate() {
-        let all = Place::Head.behind(bytes);
-        let end = match all {
-            Place::End(end) => Some(end),
-            _ => None,
-        };
-        assert_eq!(rt; end, *ends, "{row}");
-        // wherever the pieces end that it comes in
-        for count in 0..bytes.len() {
-            let place = Place::Head.behind(&bytes[..count]);
-            assert_eq!(rt; place.behind(bytes), all, "{row} {count}");
-        }
+    for (row, (bytes, end)) in ENDS.iter().enumerate() {
+        assert_eq!(rt; end_of(bytes), *end, "{row}");
+        assert!(rt; ends_so_in_pieces(bytes), "{row}");
     }
     Ok(())
 }

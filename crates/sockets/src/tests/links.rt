@@ -46,6 +46,38 @@ const TWICE: &[Act] = &[
     },
 ];
 
+/// Calls the member of this number: whether that comes to this answer, or to a failure where none is given, and how often the
+/// link failed so far.
+fn tried<R: Net<Stream = TcpStream> + Times + Wait + Eprint + Drop + Copy>(
+    alloc: Global,
+    link: &mut SocketLink<R>,
+    member: u32,
+    wanted: Option<&[u8]>,
+) -> (bool, u64) {
+    let answer = link.call(alloc, member, b"call");
+    let is_wanted = match wanted {
+        Some(bytes) => is_answer(&answer, bytes),
+        None => has_failed(&answer),
+    };
+    (is_wanted, link.faults)
+}
+
+/// Calls, each with how many milliseconds are waited before it, its member and its answer, and how many failures and lines
+/// there are then.
+const TOLD: &[(u64, u32, Option<&[u8]>, u64, u64)] = &[
+    (0, 1, Some(b"first"), 0, 0),
+    // a connection that is closed without an answer
+    (0, 1, None, 1, 1),
+    // another failure within the same second is not told, and then it is, once
+    (0, 2, None, 2, 1),
+    (1_100, 2, None, 3, 2),
+    (1_100, 2, None, 4, 2),
+    // the first one is back
+    (0, 1, Some(b"second"), 4, 3),
+    // there is no third one
+    (0, 3, None, 5, 3),
+];
+
 #[test]
 fn a_link_calls_members_and_tells_of_failures_and_recoveries(rt: HostRuntime) -> Result<(), Fail> {
     let alloc: Global = rt.alloc();
@@ -56,25 +88,15 @@ fn a_link_calls_members_and_tells_of_failures_and_recoveries(rt: HostRuntime) ->
     let system = Watched::new(&rt);
     let members = members_at(&rt, alloc, &[&address, &gone])?;
     let mut link = SocketLink::new(&system, members, LIMITS);
-    assert!(rt; is_answer(&link.call(alloc, 1, b"call"), b"first"));
-    assert_eq!(rt; system.lines(), 0);
-    // a connection that is closed without an answer
-    assert!(rt; has_failed(&link.call(alloc, 1, b"call")));
-    assert_eq!(rt; (link.faults, system.lines()), (1, 1));
-    // another failure within the same second is not told, and then it is, once
-    assert!(rt; has_failed(&link.call(alloc, 2, b"call")));
-    thread::sleep(&rt, Duration::from_millis(1_100));
-    assert!(rt; has_failed(&link.call(alloc, 2, b"call")));
-    assert_eq!(rt; (link.faults, system.lines()), (3, 2));
-    thread::sleep(&rt, Duration::from_millis(1_100));
-    assert!(rt; has_failed(&link.call(alloc, 2, b"call")));
-    assert_eq!(rt; system.lines(), 2);
-    // the first one is back
-    assert!(rt; is_answer(&link.call(alloc, 1, b"call"), b"second"));
-    assert_eq!(rt; system.lines(), 3);
-    // there is no third one
-    assert!(rt; has_failed(&link.call(alloc, 3, b"call")));
-    assert_eq!(rt; (link.faults, system.lines()), (5, 3));
+    for (pause, member, wanted, faults, lines) in TOLD {
+        thread::sleep(&rt, Duration::from_millis(*pause));
+        let (is_wanted, failed) = tried(alloc, &mut link, *member, *wanted);
+        assert_eq!(rt;
+            (is_wanted, failed, system.lines()),
+            (true, *faults, *lines),
+            "{member}"
+        );
+    }
     assert_eq!(rt; handle.join(&rt), 3);
     Ok(())
 }
