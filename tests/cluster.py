@@ -675,7 +675,7 @@ def clients(world):
     body = json.dumps({"key": text64("c/0")}).encode()
     whole = head(b"Content-Length: %d" % len(body)) + body
     last = head(b"Connection: close", b"Content-Length: %d" % len(body)) + body
-    answer = exchanged(proxy.port, last, False).split(b"\r\n\r\n", 1)[1]
+    kvs = json.loads(exchanged(proxy.port, last, False).split(b"\r\n\r\n", 1)[1])["kvs"]
     for stop in range(len(whole)):
         told = exchanged(proxy.port, whole[:stop])
         check(told == b"" if stop == 0 else told.startswith(b"HTTP/1.1 400 ") and told.endswith(BAD), f"stopped at byte {stop}: {told}")
@@ -685,7 +685,7 @@ def clients(world):
         check(told.startswith(b"HTTP/1.1 %d " % status) and told.split(b"\r\n\r\n", 1)[1] == said, f"{sent}: {told}")
     chunked = head(b"Connection: close", b"Transfer-Encoding: chunked", b"Expect: 100-continue") + b"%x;x=1\r\n%s\r\n0\r\nA: b\r\n\r\n" % (len(body), body)
     told = exchanged(proxy.port, chunked, False)
-    check(told.startswith(b"HTTP/1.1 100 Continue\r\n\r\nHTTP/1.1 200 OK\r\n") and told.endswith(answer), f"chunked: {told}")
+    check(told.startswith(b"HTTP/1.1 100 Continue\r\n\r\nHTTP/1.1 200 OK\r\n") and json.loads(told.rsplit(b"\r\n", 1)[1])["kvs"] == kvs, f"chunked: {told}")
     count, times = (100, 20) if world.short else (1000, 100)
     open_ones, refused = [socket.create_connection(("127.0.0.1", proxy.port), 30 * PATIENCE) for _ in range(count)], 0
     for _ in range(times):
@@ -694,7 +694,7 @@ def clients(world):
         for one in open_ones:
             status, told = next_reply(one)
             refused += status != 200
-            check(status in (503, 504) or json.loads(told)["kvs"] == json.loads(answer)["kvs"], f"a reply was {status} {told}")
+            check(status in (503, 504) or json.loads(told)["kvs"] == kvs, f"a reply was {status} {told}")
     check(refused <= count * times // 100, f"{refused} of {count * times} requests were refused")
     for one in open_ones:
         one.close()
