@@ -1,11 +1,8 @@
 -- The requests that a proxy knows, in order of asking: one of them changed, and a bound of when those without a reply were asked.
-use Rattle.std.specs.Prelude.{◌≡◌, ℕ, Bool, true, false, not, ◌||◌, nat_le, cond, if◌then◌else◌, List, map, refl}
+use Rattle.std.specs.Prelude.{ℕ, Bool, not, ◌||◌, nat_le, if◌then◌else◌, List, map}
 use Rattle.std.specs.List.{list_all}
 use Rattle.read_model.specs.declared.asked.Asked.{Asked}
-use Rattle.read_model.specs.declared.asked.Stage.TheVariants as stage
-use Rattle.read_model.specs.declared.asked.Verdict.TheVariants as verdict
-use Rattle.read_model.specs.PlainRead.{in_stage}
-use Rattle.core_model.specs.ClockWork.{is_replied, times_out, timed_out_ask}
+use Rattle.core_model.specs.ClockWork.{is_replied, times_out}
 use Rattle.core_model.specs.Lookups.{has_ticket}
 
 -- the one of this ticket is changed
@@ -21,8 +18,3 @@ all_since oldest asks = list_all (is_since oldest) asks
 
 abbrev pub none_times_out : ℕ → List Asked → Bool
 none_times_out now asks = list_all (λ a. not (times_out now a)) asks
-
--- one that timed out has the ticket that it had
-pub timed_out-ticket : (now : ℕ) (a : Asked) → (timed_out_ask now a).ticket ≡ a.ticket
-timed_out-ticket now a =
-    elim (times_out now a) as (λ b. (cond b (in_stage (stage.Replied verdict.TimedOut) a) a).ticket ≡ a.ticket) [ true ↦ refl | false ↦ refl ]

@@ -1,6 +1,5 @@
 ghost use Rattle.std.specs.Prelude.{◌≡◌, ◌++◌, ◌∷◌, [], map, filter, nat_le, not, true, None, OnOk, OnErr};
 ghost use Rattle.std.specs.Option.{option_copied};
-ghost use Rattle.core_model.specs.ClockWork.{timed_out_ask};
 ghost use Rattle.core_model.specs.Fits.{once};
 ghost use Rattle.core_model.specs.Lookups.{ask_at, without_ask};
 ghost use Rattle.core_model.specs.Takes.{least_ready};
@@ -20,7 +19,7 @@ use crate::kin::Kin;
 use crate::places::{change_row, change_rows, places, row_of, set_row};
 use crate::rule::Rule;
 use crate::stages::ready_ticket;
-use crate::times::{TimeOut, is_late, late_ticket, only_unanswered};
+use crate::times::{is_late, late_ticket, only_unanswered};
 use ask_tables::{CALL_OUT, DUE, REPLIED, Tables, only_alike, only_at_key, only_keyed};
 use etcd_types::NoMemory;
 use mark_rows::Mark;
@@ -163,16 +162,6 @@ impl Asks {
         match self.tables.times.all() {
             [row, ..] => is_late(&row.0, now),
             [] => false,
-        }
-    }
-
-    /// Each without a reply whose time has passed at this reading has one. It looks at those alone, each found in logarithmic time,
-    /// and takes no memory.
-    pub fn time_out(&mut self, now: u64)
-        ensures { self.new ≡ map (timed_out_ask now) self.old }
-    {
-        while let Some(ticket) = self.late_ticket(now) {
-            self.change(ticket, &TimeOut { now });
         }
     }
 

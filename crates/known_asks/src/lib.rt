@@ -23,7 +23,6 @@ pub use losses::{lose_once, refuse_stale};
 pub use read_model::{Asked, Stage, Verdict};
 pub use restage::{Restage, restage_each, set_stages};
 pub use rule::Rule;
-pub use times::times_out;
 pub use waiting::{
     change_waiting, change_waiting_at, restage_waiting, waiting_changes, waiting_changes_at,
 };

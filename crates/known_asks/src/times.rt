@@ -1,37 +1,17 @@
 ghost use Rattle.std.specs.Prelude.{◌≡◌, if◌then◌else◌, Some, None};
 ghost use Rattle.std.specs.Option.{option_copied};
-ghost use Rattle.core_model.specs.ClockWork.{is_replied, times_out, timed_out_ask};
-ghost use Rattle.known_asks.specs.Asks.{timed_out-ticket};
+ghost use Rattle.core_model.specs.ClockWork.{is_replied, times_out};
 ghost use Rattle.known_asks.specs.Times.{is_late};
 
-use crate::rule::Rule;
 use ask_tables::is_replied;
 use mark_rows::Mark;
-use read_model::{Asked, Stage, Verdict};
+use read_model::Asked;
 
 /// For so many milliseconds a request waits for its reply.
 const REQUEST_TIME: u64 = 5000;
 
-/// Each request without a reply whose time has passed at this reading has one.
-#[derive(Drop)]
-pub(crate) struct TimeOut {
-    pub(crate) now: u64,
-}
-
-impl Rule for TimeOut {
-    ghost changed = { λ s. timed_out_ask s.now };
-
-    fn change(&self, ask: &mut Asked) {
-        if times_out(ask, self.now) {
-            ask.stage = Stage::Replied(Verdict::TimedOut);
-        }
-    }
-
-    ghost keeps = { λ s a. timed_out-ticket s.now a };
-}
-
 /// Whether the request has no reply, and its time has passed at this reading.
-pub fn times_out(ask: &Asked, now: u64) -> bool
+fn times_out(ask: &Asked, now: u64) -> bool
     ensures { result ≡ times_out now ask.now }
 {
     !is_replied(&ask.stage) && now.saturating_sub(ask.asked) >= REQUEST_TIME
