@@ -43,6 +43,13 @@ impl Lefts {
         self.items
     }
 
+    /// All of them, in order.
+    pub fn as_slice(&self) -> &[Left]
+        ensures { result.now ≡ self.now }
+    {
+        self.items.as_slice()
+    }
+
     /// The first one that is of this key.
     pub fn find(&self, key: &Bytes) -> Option<&Left>
         ensures { option_copied result ≡ left_at key.now self.now }

@@ -1,16 +1,14 @@
 -- What stands once what was read of an answer is taken is what the definition leaves, with the release in place.
-use Rattle.std.proofs.Common.{◌≡◌, ℕ, Bool, true, false, cond, ◌==◌, List, [], ◌∷◌, map, Option, None, Some, Result, Ok, Err, refl, sym, ◌∙◌, ap, subst}
+use Rattle.std.proofs.Common.{◌≡◌, ℕ, Bool, true, false, cond, ◌==◌, List, [], ◌∷◌, map, Option, None, Some, Result, Err, refl, sym, ◌∙◌, ap, subst}
 use Rattle.etcd_types.specs.declared.answer.Answer.{Answer}
 use Rattle.etcd_types.specs.declared.record.Header.{Header}
 use Rattle.known_asks.specs.Changes.{stage_or, staged_by}
 use Rattle.lease_txn.specs.declared.not_shape.NotShape.{NotShape}
 use Rattle.lease_txn.specs.declared.not_shape.NotShape.TheVariants.{Shape, NoMemory}
-use Rattle.proxy_model.specs.declared.lease.Entry.{Entry}
-use Rattle.proxy_model.specs.Keyed.{Keyed, at}
+use Rattle.proxy_model.specs.Keyed.{at}
 use Rattle.read_core.specs.Falls.{again_stage}
 use Rattle.read_laws.specs.InPlace.{placed_by}
 use Rattle.read_laws.proofs.InPlace.{answers_in_place}
-use Rattle.read_model.specs.declared.acquire.Acquire.{Acquire}
 use Rattle.read_model.specs.declared.asked.Asked.{Asked}
 use Rattle.read_model.specs.declared.asked.Stage.{Stage}
 use Rattle.read_model.specs.declared.asked.Stage.TheVariants as stage
@@ -19,7 +17,7 @@ use Rattle.read_model.specs.declared.asked.Verdict.TheVariants as verdict
 use Rattle.read_model.specs.Fits.{ReadsOk}
 use Rattle.read_model.specs.PlainRead.{ask_key, in_stage, read_turn}
 use Rattle.read_model.specs.Release.{ask_stands, in_place}
-use Rattle.read_model.specs.State.{Reads, Moment, Ground, ground_of}
+use Rattle.read_model.specs.State.{Reads, Moment, Ground}
 use Rattle.read_model.specs.WriteAnswers.{settled_ask, wait_answered}
 use Rattle.revoke_core.specs.declared.answers.ReadAnswer.{ReadAnswer}
 use Rattle.revoke_core.specs.Readings.{IsRead, taken}
@@ -27,9 +25,8 @@ use Rattle.wait_model.specs.Endings.{answered}
 use Rattle.wait_model.specs.GuardedAnswers.{Ending}
 use Rattle.wait_model.specs.declared.wait.Settled.{Settled}
 use Rattle.wait_model.specs.declared.wait.Settled.TheVariants as settled
-use Rattle.wait_model.specs.State.{Waits, Ownership, owned}
 use Rattle.write_answers.specs.declared.steps.When.{When}
-use Rattle.write_answers.specs.Answered.{parts, moment, stage_after, after_asks, Leaves}
+use Rattle.write_answers.specs.Answered.{parts, moment, after_asks, Leaves}
 
 -- One request.
 

@@ -35,7 +35,7 @@ use Rattle.wait_model.specs.GuardedAnswers.{owns, owns_at, is_shown, is_gone, ke
 use Rattle.wait_model.specs.Phases.{if_written, is_of, is_session, own_entry}
 use Rattle.wait_model.specs.Stages.{is_owner}
 use Rattle.wait_model.proofs.Tables.{at-each, at-without}
-use Rattle.write_answers.specs.Seen.{What, what_in, what_of, neither, what_back, is_lost, is_written, waits, stands_by, stage_by, seen_stage}
+use Rattle.write_answers.specs.Seen.{What, what_in, what_of, neither, what_back, is_lost, is_written, waits, stands_by, seen_stage}
 
 -- What becomes of a read by it.
 
@@ -76,7 +76,7 @@ stands_so : (es : Keyed Entry) (acquires : Keyed Acquire) (a : Asked) (k : List 
 stands_so es acquires a k w claim b e f g t =
     sym (t ∙ (λ i. stands_by a.ticket (f i).sight (g i) a.stage) ∙ ap (λ (j : List ℕ). stands_by a.ticket (what_of (at es j)).sight (at acquires j) a.stage) e ∙ stands_is a.ticket (at es (ask_key a)) (at acquires (ask_key a)) a.stage)
 
-stays_if : (h : Header) (step : ℕ) (es : Keyed Entry) (acquires : Keyed Acquire) (a : Asked) → stands_on es acquires a ≡ true → None ≡ again_stage h step es acquires a
+pub stays_if : (h : Header) (step : ℕ) (es : Keyed Entry) (acquires : Keyed Acquire) (a : Asked) → stands_on es acquires a ≡ true → None ≡ again_stage h step es acquires a
 stays_if h step es acquires a t = sym (ap (λ b. cond b None (Some (read_turn h step (at es (ask_key a)) false None).stage)) t)
 
 pub idle_stays : (h : Header) (step : ℕ) (es : Keyed Entry) (acquires : Keyed Acquire) (a : Asked) → waits a.stage ≡ false → None ≡ again_stage h step es acquires a

@@ -1,11 +1,12 @@
 -- A proxy's reads and writes by their parts, and what an answer leaves of them.
-use Rattle.std.specs.Prelude.{◌≡◌, ℕ, Bool, List, Option, None, Some, Result, Ok, Err, map}
+use Rattle.std.specs.Prelude.{◌≡◌, ℕ, Bool, true, List, Option, None, Some, Result, Ok, Err, map}
+use Rattle.std.specs.List.{list_all}
 use Rattle.lease_txn.specs.declared.not_shape.NotShape.{NotShape}
 use Rattle.lease_txn.specs.declared.not_shape.NotShape.TheVariants.{Shape, NoMemory}
 use Rattle.known_asks.specs.Changes.{staged_by}
 use Rattle.proxy_model.specs.declared.lease.Entry.{Entry}
 use Rattle.proxy_model.specs.Keyed.{Keyed}
-use Rattle.read_core.specs.Falls.{again_stage}
+use Rattle.read_core.specs.Falls.{stands_on, again_stage}
 use Rattle.read_model.specs.declared.acquire.Acquire.{Acquire}
 use Rattle.read_model.specs.declared.asked.Asked.{Asked}
 use Rattle.read_model.specs.declared.asked.Stage.{Stage}
@@ -21,6 +22,10 @@ parts es waits acquires asks = record { own = owned es waits; acquires = acquire
 
 abbrev pub moment : Bool → When → Moment
 moment created w = record { now = w.now; session = w.session; created = created; header = w.header }
+
+-- each waiting read has what it waits for
+abbrev pub AllWait : Keyed Entry → Keyed Acquire → List Asked → Type 0
+AllWait es acquires asks = list_all (stands_on es acquires) asks ≡ true
 
 -- the stage that a request comes into once what was read of the answer is taken, before what is settled is replied
 abbrev pub stage_after : When → ℕ → ReadAnswer → Ownership → Keyed Acquire → Asked → Option Stage

@@ -1,2 +1,3 @@
 pub mod Seen
+pub mod Reach
 pub mod Answered

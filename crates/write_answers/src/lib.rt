@@ -1,6 +1,7 @@
 //! Answers to the calls of waiting writes, with the reads that they release. All memory is taken before anything changes.
 #![tactic(auto)]
 
+mod reach;
 mod release;
 mod seen;
 mod steps;

@@ -4,6 +4,7 @@ ghost use Rattle.read_core.specs.Falls.{again_stage};
 ghost use Rattle.read_model.specs.PlainRead.{ask_key};
 ghost use Rattle.read_model.specs.Release.{names};
 ghost use Rattle.revoke_core.specs.Readings.{read_entries};
+ghost use Rattle.write_answers.specs.Reach.{at_key};
 ghost use Rattle.write_answers.specs.Seen.{what, seen_stage, is_written, waits, stands_by};
 
 use crate::seen::{Seen, Sight, seen_after};
@@ -55,6 +56,26 @@ impl<'a> After<'a> {
             return Ok(None);
         }
         Ok(Some(seen_stage(alloc, self.header, self.step, seen)?))
+    }
+}
+
+/// The same of the reads of one key alone.
+#[derive(Drop)]
+pub(crate) struct AfterAt<'a> {
+    pub(crate) key: &'a Bytes,
+    pub(crate) after: After<'a>,
+}
+
+impl<'a> Restage for AfterAt<'a> {
+    ghost stage_of = { λ s. at_key s.key.now (again_stage s.after.header s.after.step (read_entries s.after.session s.after.read.now (option_copied s.after.write) s.after.table.now.entries) s.after.acquires.now) };
+
+    fn stage(&self, alloc: Global, ask: &Asked) -> Result<Option<Stage>, NoMemory> {
+        let empty = Bytes::new(alloc);
+        let own = key_of(&ask.request, &empty);
+        if own != self.key {
+            return Ok(None);
+        }
+        Ok(self.after.stage_at(alloc, ask, own)?)
     }
 }
 

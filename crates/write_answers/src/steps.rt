@@ -6,12 +6,13 @@ ghost use Rattle.read_model.specs.WriteAnswers.{settled_ask, wait_answered};
 ghost use Rattle.wait_model.specs.Endings.{answered};
 ghost use Rattle.wait_model.specs.State.{owned};
 ghost use Rattle.revoke_core.specs.Readings.{taken};
-ghost use Rattle.write_answers.specs.Answered.{parts, moment, stage_after, after_asks, Leaves};
+ghost use Rattle.write_answers.specs.Answered.{parts, moment, AllWait, stage_after, after_asks, Leaves};
 
-use crate::release::After;
+use crate::reach::{Reach, reach_of};
+use crate::release::{After, AfterAt};
 use acquire_rows::Acquires;
 use etcd_types::{Answer, Header, NoMemory};
-use known_asks::{Asks, Stage, Verdict, set_stages, waiting_changes};
+use known_asks::{Asks, Stage, Verdict, set_stages, waiting_changes, waiting_changes_at};
 use lease_table::LeaseTable;
 use revoke_core::{NotShape, ReadAnswer, Settled, Waits};
 use std::alloc::Global;
@@ -39,7 +40,9 @@ pub struct When {
 
 /// A call of a waiting write, a revoke call or a rescind is answered: what it settles is replied, and each read that waited for an
 /// owner write that is over is decided again. `Shape` comes exactly where the answer can't be one to the call, which then counts as
-/// lost; then, and where memory was wanting, all is as before.
+/// lost; then, and where memory was wanting, all is as before. What each read waits for stands before the answer. So of those that wait it
+/// looks at none where the answer changes no entry; at those of one key, and of keys that have the same number, where it is about the
+/// entry of that key alone, as for a write of one key; and else at all.
 pub fn answer_call(
     alloc: Global,
     told: Told,
@@ -49,6 +52,7 @@ pub fn answer_call(
     acquires: &Acquires,
 ) -> Result<(), NotShape>
     requires step { told.when.step ≡ waits.old.step }
+    requires stand { AllWait table.old.entries acquires.now asks.old }
     ensures answered { (standing created : Bool) → ReadsOk standing (parts table.old.entries waits.old acquires.now asks.old) → Leaves result (parts table.new.entries waits.new acquires.now asks.new) (wait_answered (moment created told.when) told.call told.answer (parts table.old.entries waits.old acquires.now asks.old)) }
     ensures in_place { (created : Bool) → Leaves result (parts table.new.entries waits.new acquires.now asks.new) (placed_by (moment created told.when) (answered told.call told.answer told.when.session told.when.now (owned table.old.entries waits.old)) (parts table.old.entries waits.old acquires.now asks.old)) }
     ensures err_asks { OnErr result (asks.new ≡ asks.old) }
@@ -76,6 +80,7 @@ fn take(
     table: &mut LeaseTable,
     acquires: &Acquires,
 ) -> Result<(), NoMemory>
+    requires { AllWait table.old.entries acquires.now asks.old }
     ensures asks { OnOk result (asks.new ≡ after_asks when call read (parts table.old.entries waits.old acquires.now asks.old)) }
     ensures waits { OnOk result (waits.new ≡ (taken call read when.session when.now (owned table.old.entries waits.old)).own.waits) }
     ensures entries { OnOk result (table.new.entries ≡ (taken call read when.session when.now (owned table.old.entries waits.old)).own.entries) }
@@ -90,7 +95,8 @@ fn take(
     Ok(())
 }
 
-/// The stages that reads come into once what was read is taken, by ticket. Nothing is changed yet.
+/// The stages that reads come into once what was read is taken, by ticket. Nothing is changed yet. What each waits for stands before, and
+/// so it does after where its key isn't reached.
 fn changes_after(
     alloc: Global,
     call: u64,
@@ -101,18 +107,27 @@ fn changes_after(
     table: &LeaseTable,
     acquires: &Acquires,
 ) -> Result<Vec<(u64, Stage)>, NoMemory>
+    requires { AllWait table.now.entries acquires.now asks.now }
     ensures { IfOk result (λ changes. restaged changes.items asks.now ≡ map (staged_by (stage_after when call read.now (owned table.now.entries waits.now) acquires.now)) asks.now) }
 {
+    let write = waits.sender(call);
     let rule = After {
         header: when.header,
         step: when.step,
         session: when.session,
         read,
-        write: waits.sender(call),
+        write,
         table,
         acquires,
     };
-    Ok(waiting_changes(alloc, asks, &rule)?)
+    match reach_of(read, write) {
+        Reach::Nowhere => Ok(Vec::new(alloc)),
+        Reach::At(key) => {
+            let rule = AfterAt { key, after: rule };
+            Ok(waiting_changes_at(alloc, asks, key, &rule)?)
+        }
+        Reach::Anywhere => Ok(waiting_changes(alloc, asks, &rule)?),
+    }
 }
 
 /// What is settled is replied. It takes no memory.

@@ -1,5 +1,5 @@
 -- The entry is gone, or what is there of one that is held again.
-use Rattle.std.proofs.Common.{sym, ◌∙◌, ap}
+use Rattle.std.proofs.Common.{sym, ◌∙◌}
 use Rattle.write_answers.proofs.Views.{lost_what, stays_what}
 use Rattle.write_answers.proofs.seen.seen_failed.Goals as goal
 

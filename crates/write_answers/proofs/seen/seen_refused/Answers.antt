@@ -1,5 +1,5 @@
 -- The entries of the write are held again.
-use Rattle.std.proofs.Common.{Option, sym, ◌∙◌, ap}
+use Rattle.std.proofs.Common.{sym, ◌∙◌, ap}
 use Rattle.std.specs.Option.{option_copied}
 use Rattle.proxy_model.specs.Keyed.{at}
 use Rattle.revoke_calls.specs.declared.entries.Fate.TheVariants.{Back}

@@ -1,4 +1,4 @@
--- What is left of the parts is left of the whole.
+-- Each waiting read has what it waits for; what is left of the parts is left of the whole.
 use Rattle.std.proofs.Common.{◌≡◌, Result, Ok, Err, OnErr, sym, subst, ◌∙◌}
 use Rattle.lease_txn.specs.declared.not_shape.NotShape.{NotShape}
 use Rattle.read_model.specs.Fits.{ReadsOk}
@@ -7,6 +7,11 @@ use Rattle.read_model.specs.WriteAnswers.{wait_answered}
 use Rattle.read_steps.specs.Parts.{reads}
 use Rattle.read_steps.specs.Steps.{GivesWrite}
 use Rattle.read_steps.proofs.reads.Reads.answer_write.Goals as goal
+
+pub answer_call-requires-clause-stand : goal.answer_call-requires-clause-stand
+answer_call-requires-clause-stand c =
+    let fit = subst (λ (x : Reads). ReadsOk c.requires.0 x) (sym c.self.view_is) c.requires.1 in
+    fit.asks
 
 pub returns-clause-after : goal.returns-clause-after
 returns-clause-after c =

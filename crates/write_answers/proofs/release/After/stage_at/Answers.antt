@@ -2,7 +2,7 @@
 use Rattle.std.proofs.Common.{Some, sym, ◌∙◌, ap}
 use Rattle.std.specs.Option.{option_copied}
 use Rattle.revoke_core.specs.Readings.{read_entries}
-use Rattle.write_answers.specs.Seen.{what, stands_by}
+use Rattle.write_answers.specs.Seen.{what}
 use Rattle.write_answers.proofs.Views.{idle_stays, seen_stays, seen_comes}
 use Rattle.write_answers.proofs.release.After.stage_at.Goals as goal
 
