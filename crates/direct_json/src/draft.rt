@@ -1,14 +1,9 @@
 //! A JSON text while it is written, without spaces.
-ghost use Rattle.std.specs.Prelude.{◌≡◌, ◌++◌, ◌≤◌, List, ℕ, Bool, [], false, length, IfOk, OnOk};
-ghost use Rattle.base64.specs.Engines.{standard};
-ghost use Rattle.base64.specs.GeneralPurpose.{encode_of};
-ghost use Rattle.json.specs.Print.{escape};
+ghost use Rattle.std.specs.Prelude.{◌≡◌, ◌++◌, ◌≤◌, [], false, length, IfOk, OnOk};
 ghost use Rattle.direct_json.specs.Drafts as spec;
 
-use base64::encoded_len;
-use base64::engine::general_purpose::STANDARD;
+use crate::sheet::Sheet;
 use etcd_types::{Bytes, NoMemory};
-use itoa::Buffer;
 use std::alloc::Global;
 use std::marker::Model;
 
@@ -18,7 +13,7 @@ use std::marker::Model;
 /// member, and the quotation mark or bracket that begins the value. Its comma is left out where nothing stands before.
 #[derive(Debug, Drop)]
 pub(crate) struct Draft {
-    text: Vec<u8>,
+    text: Sheet,
     later: bool,
 }
 
@@ -27,33 +22,15 @@ impl Model for Draft {
 
     ghost Value = { List ℕ × Bool };
 
-    ghost view = { λ d. (d.text.items, d.later) };
-}
-
-/// Adds the base64 text of the bytes, which needs no escape.
-fn push_base64(text: &mut Vec<u8>, bytes: &[u8]) -> Result<(), NoMemory>
-    ensures { OnOk result (text.new.items ≡ text.old.items ++ escape (encode_of standard bytes.now)) }
-{
-    let start = text.len();
-    let Some(more) = encoded_len(bytes.len(), true) else {
-        return Err(NoMemory);
-    };
-    let Some(end) = start.checked_add(more) else {
-        return Err(NoMemory);
-    };
-    text.resize(end, 0)?;
-    match STANDARD.encode_slice(bytes, &mut text.as_mut_slice()[start..]) {
-        Ok(_) => Ok(()),
-        Err(_) => Err(NoMemory),
-    }
+    ghost view = { λ d. (d.text, d.later) };
 }
 
 impl Draft {
-    /// No text yet, with room for so many bytes.
-    pub(crate) fn with_capacity(alloc: Global, room: usize) -> Result<Draft, NoMemory>
+    /// No text yet.
+    pub(crate) fn new(alloc: Global) -> Result<Draft, NoMemory>
         ensures { IfOk result (λ draft. draft ≡ ([], false)) }
     {
-        let text = Vec::with_capacity(alloc, room)?;
+        let text = Sheet::new(alloc)?;
         Ok(Draft { text, later: false })
     }
 
@@ -61,19 +38,22 @@ impl Draft {
     pub(crate) fn into_bytes(self) -> Bytes
         ensures { result ≡ self.0 }
     {
-        Bytes::from_vec(self.text)
+        self.text.into_bytes()
     }
 
+    #[inline(always)]
     fn open(&mut self, opening: &[u8]) -> Result<(), NoMemory>
         requires { 1 ≤ length opening.now }
         ensures { OnOk result (self.new ≡ (self.old.0 ++ spec.after self.old.1 opening.now, self.old.1)) }
     {
-        let opening = if self.later { opening } else { &opening[1..] };
-        self.text.extend_from_slice(opening)?;
-        Ok(())
+        if self.later {
+            return Ok(self.text.put(opening)?);
+        }
+        Ok(self.text.put(&opening[1..])?)
     }
 
     /// Begins an object or an array: nothing stands in it yet.
+    #[inline(always)]
     pub(crate) fn begin(&mut self, opening: &[u8]) -> Result<(), NoMemory>
         requires { 1 ≤ length opening.now }
         ensures { OnOk result (self.new ≡ spec.begun opening.now self.old) }
@@ -84,15 +64,17 @@ impl Draft {
     }
 
     /// Ends what was begun, or the line.
+    #[inline(always)]
     pub(crate) fn end(&mut self, closing: u8) -> Result<(), NoMemory>
         ensures { OnOk result (self.new ≡ spec.ended closing self.old) }
     {
-        self.text.push(closing)?;
+        self.text.put(&[closing])?;
         self.later = true;
         Ok(())
     }
 
     /// An opening with its value.
+    #[inline(always)]
     pub(crate) fn whole(&mut self, member: &[u8]) -> Result<(), NoMemory>
         requires { 1 ≤ length member.now }
         ensures { OnOk result (self.new ≡ spec.with_whole member.now self.old) }
@@ -103,6 +85,7 @@ impl Draft {
     }
 
     /// An opening with its value where it is true, and nothing where it is false.
+    #[inline(always)]
     pub(crate) fn flag(&mut self, member: &[u8], value: bool) -> Result<(), NoMemory>
         requires { 1 ≤ length member.now }
         ensures { OnOk result (self.new ≡ spec.with_flag member.now value self.old) }
@@ -114,6 +97,7 @@ impl Draft {
     }
 
     /// A number as text, and nothing of 0.
+    #[inline(always)]
     pub(crate) fn number(&mut self, opening: &[u8], value: u64) -> Result<(), NoMemory>
         requires { 1 ≤ length opening.now }
         ensures { OnOk result (self.new ≡ spec.with_number opening.now value self.old) }
@@ -122,13 +106,13 @@ impl Draft {
             return Ok(());
         }
         self.open(opening)?;
-        let mut digits = Buffer::new();
-        self.text
-            .extend_from_slice(digits.format(value).as_bytes())?;
-        Ok(self.end(b'"')?)
+        self.text.put_number(value)?;
+        self.later = true;
+        Ok(())
     }
 
     /// Bytes as base64 text in the standard alphabet, with padding, and nothing of no bytes.
+    #[inline(always)]
     pub(crate) fn bytes(&mut self, opening: &[u8], value: &Bytes) -> Result<(), NoMemory>
         requires { 1 ≤ length opening.now }
         ensures { OnOk result (self.new ≡ spec.with_bytes opening.now value.now self.old) }
@@ -137,7 +121,7 @@ impl Draft {
             return Ok(());
         }
         self.open(opening)?;
-        push_base64(&mut self.text, value.as_slice())?;
+        self.text.put_base64(value.as_slice())?;
         Ok(self.end(b'"')?)
     }
 }

@@ -5,6 +5,7 @@
 mod draft;
 mod messages;
 mod replies;
+mod sheet;
 
 pub use messages::item_text;
 pub use replies::range_text;

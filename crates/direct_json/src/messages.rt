@@ -6,7 +6,7 @@ ghost use Rattle.json_model.specs.WrittenReplies as spec;
 ghost use Rattle.direct_json.specs.Drafts.{begun, ended, with_field, with_member, with_item, with_items};
 
 use crate::draft::Draft;
-use crate::replies::{ROOM, draft_header, draft_kv, draft_prev};
+use crate::replies::{draft_header, draft_kv, draft_prev};
 use etcd_types::{Bytes, Change, Event, Header, Kv, List, NoMemory, WatchItem};
 use std::alloc::Global;
 
@@ -127,7 +127,7 @@ fn draft_line(draft: &mut Draft, item: &WatchItem) -> Result<(), NoMemory>
 pub fn item_text(alloc: Global, item: &WatchItem) -> Result<Bytes, NoMemory>
     ensures { IfOk result (λ b. b ≡ spec.item_text item.now) }
 {
-    let mut draft = Draft::with_capacity(alloc, ROOM)?;
+    let mut draft = Draft::new(alloc)?;
     draft_line(&mut draft, item)?;
     Ok(draft.into_bytes())
 }

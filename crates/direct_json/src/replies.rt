@@ -12,9 +12,6 @@ use crate::draft::Draft;
 use etcd_types::{Bytes, Header, Kv, List, NoMemory};
 use std::alloc::Global;
 
-/// Room for the names and numbers of a reply with one record.
-pub(crate) const ROOM: usize = 512;
-
 /// The header, also where all its numbers are 0.
 pub(crate) fn draft_header(draft: &mut Draft, header: &Header) -> Result<(), NoMemory>
     ensures { OnOk result (draft.new ≡ with_field (spec.header_field header.now) draft.old) }
@@ -113,7 +110,7 @@ pub fn range_text(
 ) -> Result<Bytes, NoMemory>
     ensures { IfOk result (λ b. b ≡ compact_text (object_of (spec.header_field header.now ∷ spec.range_fields_of count more kvs.now))) }
 {
-    let mut draft = Draft::with_capacity(alloc, ROOM)?;
+    let mut draft = Draft::new(alloc)?;
     draft_range(&mut draft, header, count, more, kvs)?;
     Ok(draft.into_bytes())
 }

@@ -8,6 +8,6 @@ use Rattle.direct_json.proofs.draft.Draft.bytes.Goals as goal
 
 pub returns : goal.returns
 returns c =
-    let value = ap (λ (b : List ℕ). c.self.inside.text.items ++ escape (encode_of standard b)) c.as_slice.ensures in
-    bytes_written c.args.opening.now c.args.value.now c.push_base64.new.text.items c.self.inside.text.items c.self.inside.later c.args.self.now c.open.new.self c.end.new.self
-    (sym c.if-is_empty.ensures) c.in_ok-open.ensures (sym c.self.view_is) (c.in_ok-push_base64.ensures ∙ value) c.in_ok-end.ensures
+    let value = ap (λ (b : List ℕ). c.self.inside.text ++ escape (encode_of standard b)) c.as_slice.ensures in
+    bytes_written c.args.opening.now c.args.value.now c.put_base64.new.self c.self.inside.text c.self.inside.later c.args.self.now c.open.new.self c.end.new.self
+    (sym c.if-is_empty.ensures) c.in_ok-open.ensures (sym c.self.view_is) (c.in_ok-put_base64.ensures ∙ value) c.in_ok-end.ensures
