@@ -2,7 +2,7 @@
 """What bench/core.sh measures."""
 import random, re, resource, subprocess, sys, tempfile
 
-PROGRAM, PART = sys.argv[1], int(sys.argv[2])
+PROGRAM, PART, UNIT = sys.argv[1], int(sys.argv[2]), sys.argv[3]
 FIRST = ["chrt", "-f", "1"] if subprocess.run(["chrt", "-f", "1", "true"], capture_output=True).returncode == 0 else []
 VALUE = "v" * 100
 TRIES = 3
@@ -15,6 +15,13 @@ def key(number):
 def processor_time():
     used = resource.getrusage(resource.RUSAGE_CHILDREN)
     return used.ru_utime + used.ru_stime
+
+
+def instructions(script):
+    script.seek(0)
+    told = subprocess.run(["valgrind", "--tool=callgrind", "--callgrind-out-file=/dev/null", PROGRAM], stdin=script, stdout=subprocess.DEVNULL,
+                          stderr=subprocess.PIPE, text=True, check=True).stderr
+    return int(re.search(r"Collected : (\d+)", told)[1])
 
 
 class Proxy:
@@ -78,30 +85,32 @@ class Proxy:
     def passing(self):
         return [f"ask 1 0 range {self.some_key()} z 0 0 -", "work", f"answer {self.call()} ok 1.1.{self.revision}.1 range 0 - 0", "take 1"]
 
-    def seconds(self, lines):
-        """The program's processor time over what stands and these lines, the least of several tries."""
+    def cost(self, lines):
+        """What the program takes over what stands and these lines: its processor time in ns, the least of several tries, or its instructions."""
         with tempfile.TemporaryFile("w+") as script:
             script.write("".join(line + "\n" for line in self.lines + lines))
+            if UNIT == "instructions":
+                return instructions(script)
             took = []
             for _ in range(TRIES):
                 script.seek(0)
                 before = processor_time()
                 subprocess.run([*FIRST, PROGRAM], stdin=script, stdout=subprocess.DEVNULL, check=True)
                 took.append(processor_time() - before)
-        return min(took)
+        return min(took) * 1e9
 
-    def timed(self, events, rounds):
-        """The nanoseconds of a round of these events, over what reading the same lines takes."""
+    def each(self, events, rounds):
+        """What a round of these events takes over what reading the same lines takes."""
         lines = [line for _ in range(rounds) for line in events()]
-        done = self.seconds(["do " + line for line in lines])
-        return round((done - self.seconds(["read " + line for line in lines])) / rounds * 1e9)
+        done = self.cost(["do " + line for line in lines])
+        return round((done - self.cost(["read " + line for line in lines])) / rounds)
 
     def told(self, beside, rounds):
-        """A cached read of keys at random, once all is told."""
-        read = self.timed(self.reading, 10 * rounds)
-        print(f"{beside}: a cached read of one key {self.timed(self.reading_one, 10 * rounds)} ns, of keys at random {read} ns, a write through "
-              f"{self.timed(self.writing, rounds)} ns, a range passed on {self.timed(self.passing, rounds)} ns, a read that takes its key "
-              f"{self.timed(self.holding, rounds)} ns", flush=True)
+        """A cached read of one key, once all is told."""
+        read = self.each(self.reading_one, 10 * rounds)
+        print(f"{beside}: a cached read of one key {read} {UNIT}, of keys at random {self.each(self.reading, 10 * rounds)} {UNIT}, a write through "
+              f"{self.each(self.writing, rounds)} {UNIT}, a range passed on {self.each(self.passing, rounds)} {UNIT}, a read that takes its key "
+              f"{self.each(self.holding, rounds)} {UNIT}", flush=True)
         return read
 
     def memory(self):
@@ -116,7 +125,7 @@ class Proxy:
                 return int(re.search(r"VmRSS:\s+(\d+)", told.read())[1]) * 1024
 
 
-def each(proxy, add, count):
+def bytes_each(proxy, add, count):
     before = proxy.memory()
     add(count)
     return (proxy.memory() - before) // count
@@ -128,7 +137,7 @@ MISSED = []
 
 
 def mark(what, value, most):
-    print(f"  mark: {what} {value} ns, at most {most}: {'met' if value <= most else 'missed'}", flush=True)
+    print(f"  mark: {what} {value} {UNIT}, at most {most}: {'met' if value <= most else 'missed'}", flush=True)
     if value > most:
         MISSED.append(what)
 
@@ -136,16 +145,17 @@ def mark(what, value, most):
 proxy = Proxy()
 proxy.hold(1)
 alone = proxy.told("alone", ROUNDS)
-mark("a cached read", alone, 500)
-asked = each(proxy, proxy.wait, 10 * WAITING)
+if UNIT == "ns":
+    mark("a cached read", alone, 500)
+asked = bytes_each(proxy, proxy.wait, 10 * WAITING)
 
 proxy = Proxy()
 proxy.hold(RANGES)
-watched = each(proxy, lambda count: proxy.watch(count, RANGES), WATCHES)
+watched = bytes_each(proxy, lambda count: proxy.watch(count, RANGES), WATCHES)
 mark("a cached read beside watches", proxy.told(f"beside {WATCHES} watches of {RANGES} keys", ROUNDS), 2 * alone)
 
 proxy = Proxy()
-held = each(proxy, proxy.hold, HELD)
+held = bytes_each(proxy, proxy.hold, HELD)
 proxy.wait(WAITING)
 mark("a cached read beside held keys", proxy.told(f"beside {HELD} held keys and {WAITING} waiting requests", ROUNDS), 2 * alone)
 print(f"a held key takes {held} bytes, an unanswered request {asked}, a watch {watched}")
