@@ -1,13 +1,17 @@
--- What is written from left to right for a header, a record, a reply of a range or a message is the text of its fields.
-use Rattle.std.proofs.Common.{◌≡◌, ℕ, ◌==◌, Bool, true, false, List, [], ◌∷◌, ◌++◌, length, codes, Option, Some, refl, ap}
+-- What is written from left to right for a header, a record, a reply, a message or a request is the text of its fields.
+use Rattle.std.proofs.Common.{◌≡◌, ℕ, ◌==◌, Bool, true, false, List, [], ◌∷◌, ◌++◌, length, codes, Option, Some, refl, sym, ap, ◌∙◌}
 use Rattle.json.specs.Print.{escape_byte}
 use Rattle.serde_json.specs.Data.{Data, boolean, string}
 use Rattle.etcd_types.specs.declared.record.Header.{Header}
 use Rattle.etcd_types.specs.declared.record.Kv.{Kv}
+use Rattle.etcd_types.specs.declared.operation.PutAsk.{PutAsk}
+use Rattle.etcd_types.specs.declared.operation.RangeAsk.{RangeAsk}
 use Rattle.etcd_types.specs.declared.watch.Event.{Event}
 use Rattle.json_model.specs.FieldNames as names
-use Rattle.json_model.specs.Written.{list_value, object_of, items_of}
-use Rattle.json_model.specs.WrittenReplies.{header_written, header_field, record_written, record_value, prev_value, range_fields_of, put_event_written, deleted_written, delete_event_written, event_value, created_written, events_written, canceled_written, result_text}
+use Rattle.json_model.specs.Tables.{sort_orders, sort_targets}
+use Rattle.json_model.specs.Written.{choice_value, list_value, object_of, items_of}
+use Rattle.json_model.specs.WrittenReplies.{header_written, header_field, record_written, record_value, prev_value, range_fields_of, put_fields_of, put_event_written, deleted_written, delete_event_written, event_value, created_written, events_written, canceled_written, result_text}
+use Rattle.json_model.specs.WrittenRequests.{range_written, put_written}
 use Rattle.direct_json.specs.Drafts.{TextSoFar, begun, ended, with_field, with_member, with_item, with_items}
 use Rattle.direct_json.specs.Parts.{Part, number, bytes, flag, whole, field, with_parts}
 use Rattle.direct_json.specs.RecordParts.{record_parts}
@@ -61,6 +65,66 @@ pub range_item : (h : Header) (count : ℕ) (more : Bool) (kvs : List Kv) (d : T
 unfolding range_fields_of escape_byte
 range_item h count more kvs d =
     parts_item (range_parts h count more kvs) (header_field h ∷ range_fields_of count more kvs) d (record { clean = refl; places = refl; ordered = refl })
+
+-- ---- puts: the reply, and what is asked
+
+abbrev pub put_reply_parts : Header → Option Kv → List Part
+put_reply_parts h prev = header_part h ∷ field names.prev_kv.0 (prev_value prev) ∷ []
+
+pub put_reply_item : (h : Header) (prev : Option Kv) (d : TextSoFar)
+    → ended 125 (with_parts (put_reply_parts h prev) (begun (codes ",{") d)) ≡ with_item (object_of (header_field h ∷ put_fields_of prev)) d
+unfolding put_fields_of escape_byte
+put_reply_item h prev d =
+    parts_item (put_reply_parts h prev) (header_field h ∷ put_fields_of prev) d (record { clean = refl; places = refl; ordered = refl })
+
+abbrev pub put_ask_parts : PutAsk → List Part
+put_ask_parts a =
+    flag names.ignore_lease.0 a.ignore_lease
+    ∷ bytes names.key.0 a.key
+    ∷ number names.lease.0 a.lease
+    ∷ flag names.prev_kv.0 a.prev_kv
+    ∷ bytes names.value.0 a.value
+    ∷ []
+
+pub put_ask_item : (a : PutAsk) (d : TextSoFar) → ended 125 (with_parts (put_ask_parts a) (begun (codes ",{") d)) ≡ with_item (object_of (put_written a)) d
+unfolding put_written escape_byte
+put_ask_item a d = parts_item (put_ask_parts a) (put_written a) d (record { clean = refl; places = refl; ordered = refl })
+
+-- ---- a range that is asked, and isn't to be sorted
+
+abbrev pub unsorted_parts : RangeAsk → List Part
+unsorted_parts a =
+    flag names.count_only.0 a.count_only
+    ∷ bytes names.key.0 a.range.key
+    ∷ flag names.keys_only.0 a.keys_only
+    ∷ number names.limit.0 a.limit
+    ∷ number names.max_create_revision.0 a.sort.max_create
+    ∷ number names.max_mod_revision.0 a.sort.max_mod
+    ∷ number names.min_create_revision.0 a.sort.min_create
+    ∷ number names.min_mod_revision.0 a.sort.min_mod
+    ∷ bytes names.range_end.0 a.range.end
+    ∷ number names.revision.0 a.revision
+    ∷ flag names.serializable.0 a.serializable
+    ∷ []
+
+abbrev range_ask_parts : RangeAsk → List Part
+range_ask_parts a =
+    unsorted_parts a
+    ++ field names.sort_order.0 (choice_value sort_orders a.sort.order)
+    ∷ field names.sort_target.0 (choice_value sort_targets a.sort.target)
+    ∷ []
+
+-- what isn't to be sorted says nothing of sorting
+unsorted : (a : RangeAsk) (d : TextSoFar) → a.sort.order ≡ 0 → a.sort.target ≡ 0 → with_parts (range_ask_parts a) d ≡ with_parts (unsorted_parts a) d
+unsorted a d o t = λ i.
+    with_field (names.sort_target.0, choice_value sort_targets (t i)) (with_field (names.sort_order.0, choice_value sort_orders (o i)) (with_parts (unsorted_parts a) d))
+
+pub range_ask_item : (a : RangeAsk) (d : TextSoFar) → a.sort.order ≡ 0 → a.sort.target ≡ 0
+    → ended 125 (with_parts (unsorted_parts a) (begun (codes ",{") d)) ≡ with_item (object_of (range_written a)) d
+unfolding range_written escape_byte
+range_ask_item a d o t =
+    ap (ended 125) (sym (unsorted a (begun (codes ",{") d) o t))
+    ∙ parts_item (range_ask_parts a) (range_written a) d (record { clean = refl; places = refl; ordered = refl })
 
 -- ---- events
 

@@ -1,4 +1,4 @@
-//! Headers, records and the reply of a range, written from left to right.
+//! Headers, records and the replies of ranges and puts, written from left to right.
 ghost use Rattle.std.specs.Prelude.{◌≡◌, ◌≤◌, ◌∷◌, length, IfOk, OnOk};
 ghost use Rattle.serde_json.specs.Written.{compact_text};
 ghost use Rattle.json_model.specs.FieldNames as names;
@@ -112,5 +112,24 @@ pub fn range_text(
 {
     let mut draft = Draft::new(alloc)?;
     draft_range(&mut draft, header, count, more, kvs)?;
+    Ok(draft.into_bytes())
+}
+
+fn draft_put_reply(draft: &mut Draft, header: &Header, prev: &Option<Kv>) -> Result<(), NoMemory>
+    ensures { OnOk result (draft.new ≡ with_item (object_of (spec.header_field header.now ∷ spec.put_fields_of prev.now)) draft.old) }
+{
+    draft.begin(b",{")?;
+    draft_header(draft, header)?;
+    draft_prev(draft, prev)?;
+    Ok(draft.end(b'}')?)
+}
+
+/// The reply of a put as text, with the record before it where there is one: names in byte order, defaults left out.
+/// `NoMemory` where memory was wanting.
+pub fn put_reply_text(alloc: Global, header: &Header, prev: &Option<Kv>) -> Result<Bytes, NoMemory>
+    ensures { IfOk result (λ b. b ≡ compact_text (object_of (spec.header_field header.now ∷ spec.put_fields_of prev.now))) }
+{
+    let mut draft = Draft::new(alloc)?;
+    draft_put_reply(&mut draft, header, prev)?;
     Ok(draft.into_bytes())
 }
