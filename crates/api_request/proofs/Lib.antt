@@ -1,3 +1,3 @@
 pub mod NoFloats
 pub mod Operations
-pub mod PlainReads
+pub mod PlainRequests

@@ -1,1 +1,1 @@
-pub mod PlainReads
+pub mod PlainRequests

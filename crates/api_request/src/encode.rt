@@ -10,6 +10,7 @@ use crate::fields::{
 };
 use crate::paths::path_text;
 use crate::transactions::txn_fields;
+use direct_json::{put_request_text, range_request_text};
 use etcd_types::{Bytes, NoMemory, Request};
 use json_fields::object_text;
 use json_model::Path;
@@ -52,12 +53,26 @@ fn request_fields(alloc: Global, request: &Request) -> Result<Map<String, Value>
     }
 }
 
+/// A request by its object.
 #[tactic(auto, using(crate::proofs::NoFloats::request_no_float))]
-fn request_text(alloc: Global, request: &Request) -> Result<Bytes, NoMemory>
+fn object_request_text(alloc: Global, request: &Request) -> Result<Bytes, NoMemory>
     ensures { IfOk result (λ text. text ≡ spec.request_text request.now) }
 {
     let fields = request_fields(alloc, request)?;
     Ok(object_text(alloc, fields)?)
+}
+
+/// A put and a range that isn't to be sorted are written without an object, since most of what is passed on is one of them.
+fn request_text(alloc: Global, request: &Request) -> Result<Bytes, NoMemory>
+    ensures { IfOk result (λ text. text ≡ spec.request_text request.now) }
+{
+    match request {
+        Request::Put(ask) => Ok(put_request_text(alloc, ask)?),
+        Request::Range(ask) if ask.sort.order == 0 && ask.sort.target == 0 => {
+            Ok(range_request_text(alloc, ask)?)
+        }
+        _ => Ok(object_request_text(alloc, request)?),
+    }
 }
 
 /// The path and the body of a call that asks for this request.

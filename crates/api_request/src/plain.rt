@@ -1,18 +1,20 @@
-//! The plain read of one key, read without a JSON value where it stands in the form that is written for it.
+//! The plain read of one key and the plain put of one, read without a JSON value where they stand in the form that is written for them.
 ghost use Rattle.std.specs.Prelude.{◌≡◌, ◌++◌, Ok, codes, false, IfSome};
 ghost use Rattle.base64.specs.Engines.{standard};
 ghost use Rattle.base64.specs.GeneralPurpose.{IsBytes, encode_of};
 ghost use Rattle.etcd_types.specs.Keys.{is_empty};
 ghost use Rattle.etcd_types.specs.declared.request.Request.TheVariants as request;
 ghost use Rattle.json_model.specs.declared.extra.Reading.TheVariants.{Client};
+ghost use Rattle.json_model.specs.declared.path.Path.TheVariants as path;
 ghost use Rattle.json_model.specs.Mapping.{request_of};
-ghost use Rattle.json_model.specs.Paths.{is_path};
-ghost use Rattle.api_request.specs.PlainReads.{plain_read};
+ghost use Rattle.json_model.specs.Paths.{path_text};
+ghost use Rattle.api_request.specs.PlainRequests.{plain_read, plain_put};
 
 use crate::paths::is_path;
 use base64::engine::general_purpose::STANDARD;
-use etcd_types::{Bytes, KeyRange, RangeAsk, Request, Sort};
+use etcd_types::{Bytes, KeyRange, PutAsk, RangeAsk, Request, Sort};
 use json_model::Path;
+use memchr::memchr;
 use std::alloc::Global;
 
 /// What stands behind the opening of a body that begins with a key.
@@ -66,16 +68,65 @@ fn read_of(alloc: Global, key: Bytes) -> Request
     })
 }
 
-/// The request of a path and a body that are as a plain read of one key is written.
+fn put_of(key: Bytes, value: Bytes) -> Request
+    ensures { result ≡ request.Put (plain_put key value) }
+{
+    Request::Put(PutAsk {
+        key,
+        value,
+        lease: 0,
+        prev_kv: false,
+        ignore_lease: false,
+    })
+}
+
+/// What stands between the opening and the end.
+fn inner_text(body: &[u8]) -> Option<&[u8]>
+    ensures { IfSome result (λ text. body.now ≡ codes "{\"key\":\"" ++ (text.now ++ codes "\"}")) }
+{
+    let rest = after_opening(body)?;
+    let text = before_end(rest)?;
+    Some(text)
+}
+
+/// The texts of the key and of the value. The first quotation mark ends the key's, since base64 has none.
+fn key_and_value(texts: &[u8]) -> Option<(&[u8], &[u8])>
+    ensures { IfSome result (λ parts. texts.now ≡ parts.0.now ++ (codes "\",\"value\":\"" ++ parts.1.now)) }
+{
+    let end = memchr(b'"', texts)?;
+    let (key, rest) = texts.split_at(end);
+    let value = rest.strip_prefix(b"\",\"value\":\"".as_slice())?;
+    Some((key, value))
+}
+
+fn read_from(alloc: Global, body: &[u8]) -> Option<Request>
+    ensures { IfSome result (λ request. request_of Client (path_text path.Range) body.now ≡ Ok request) }
+{
+    let text = inner_text(body)?;
+    let key = some_bytes(alloc, text)?;
+    Some(read_of(alloc, key))
+}
+
+fn put_from(alloc: Global, body: &[u8]) -> Option<Request>
+    ensures { IfSome result (λ request. request_of Client (path_text path.Put) body.now ≡ Ok request) }
+{
+    let texts = inner_text(body)?;
+    let (key, value) = key_and_value(texts)?;
+    let key = some_bytes(alloc, key)?;
+    let value = some_bytes(alloc, value)?;
+    Some(put_of(key, value))
+}
+
+/// The request of a path and a body that are as a plain read or a plain put is written.
 #[inline(never)]
 pub(crate) fn plain_request(alloc: Global, path: &[u8], body: &[u8]) -> Option<Request>
     ensures { IfSome result (λ request. request_of Client path.now body.now ≡ Ok request) }
 {
-    if !is_path(path, Path::Range) {
-        return None;
+    if is_path(path, Path::Range) {
+        read_from(alloc, body)
+    } else if is_path(path, Path::Put) {
+        put_from(alloc, body)
+    } else {
+        None
     }
-    let rest = after_opening(body)?;
-    let text = before_end(rest)?;
-    let key = some_bytes(alloc, text)?;
-    Some(read_of(alloc, key))
 }
