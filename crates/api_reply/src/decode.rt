@@ -5,6 +5,7 @@ ghost use Rattle.json_model.specs.Texts.{without_line_feed, line_object};
 ghost use Rattle.json_model.specs.Answers as spec;
 ghost use Rattle.json_model.specs.WatchItems as items;
 
+use crate::plain::plain_answer;
 use etcd_types::{Answer, NoMemory, Request, WatchItem};
 use json_fields::object_of;
 use json_model::NotReply;
@@ -54,13 +55,8 @@ fn item_among(alloc: Global, object: &Map<String, Value>) -> Result<WatchItem, N
     }
 }
 
-/// The answer of a member to this request, from the HTTP status and the body: a reply where the status is 200, else a
-/// refusal with a code and a text. A keepalive's reply stands in `result`. Unknown fields are left aside.
-///
-/// `Unreadable` is told exactly where the body isn't one JSON object in the mapping: a field has another kind or range than
-/// the API's, or stands under both its names; a refusal has no code. A watch has no reply with status 200.
 #[tactic(auto, unfolding(json_model::specs::Answers::answer_of))]
-pub fn decode_reply(
+fn answer_by_value(
     alloc: Global,
     request: &Request,
     status: u16,
@@ -70,6 +66,25 @@ pub fn decode_reply(
 {
     let members = line_members(alloc, body)?;
     Ok(answer_among(alloc, request, status, &members)?)
+}
+
+/// The answer of a member to this request, from the HTTP status and the body: a reply where the status is 200, else a
+/// refusal with a code and a text. A keepalive's reply stands in `result`. Unknown fields are left aside.
+///
+/// `Unreadable` is told exactly where the body isn't one JSON object in the mapping: a field has another kind or range than
+/// the API's, or stands under both its names; a refusal has no code. A watch has no reply with status 200.
+pub fn decode_reply(
+    alloc: Global,
+    request: &Request,
+    status: u16,
+    body: &[u8],
+) -> Result<Answer, NotReply>
+    ensures { GivesReply (λ answer. answer) result (spec.answer_of request.now status body.now) }
+{
+    match plain_answer(request, status, body) {
+        Some(answer) => Ok(answer),
+        None => answer_by_value(alloc, request, status, body),
+    }
 }
 
 /// The message of a watch that a line is, with or without its line feed: `{"result":OBJECT}`. One with `canceled` is a

@@ -7,7 +7,7 @@ ghost use Rattle.json_model.specs.WrittenReplies as spec;
 
 use crate::records::put_header;
 use crate::responses::put_body_fields;
-use direct_json::{item_text, range_text};
+use direct_json::{item_text, put_reply_text, range_text};
 use etcd_types::{Answer, Body, Bytes, NoMemory, Refusal, Reply, WatchItem};
 use json_fields::{object_text, put_object, put_value};
 use serde_json::{Map, Value};
@@ -88,7 +88,7 @@ fn object_reply_text(alloc: Global, reply: &Reply) -> Result<Bytes, NoMemory>
     }
 }
 
-/// The reply of a range is written without an object, since cached reads are answered by it.
+/// The replies of ranges and puts are written without an object, since most requests are answered by them.
 fn reply_text(alloc: Global, reply: &Reply) -> Result<Bytes, NoMemory>
     ensures { IfOk result (λ b. b ≡ spec.reply_text reply.now) }
 {
@@ -96,6 +96,7 @@ fn reply_text(alloc: Global, reply: &Reply) -> Result<Bytes, NoMemory>
         Body::Range { count, more, kvs } => {
             Ok(range_text(alloc, &reply.header, *count, *more, kvs)?)
         }
+        Body::Put { prev } => Ok(put_reply_text(alloc, &reply.header, prev)?),
         _ => Ok(object_reply_text(alloc, reply)?),
     }
 }

@@ -7,6 +7,7 @@
 mod bodies;
 mod decode;
 mod encode;
+mod plain;
 mod records;
 mod responses;
 
