@@ -3,6 +3,7 @@
 
 ghost use Rattle.std.specs.Prelude.{◌≤◌};
 
+use memchr::memchr;
 use std::str;
 
 /// A head, a chunk's size line or a line of a trailer that is longer isn't followed to its end.
@@ -31,7 +32,7 @@ pub(crate) enum Place {
 /// The line that begins there, without what ends it, and where the next one begins.
 fn line_at(all: &[u8], at: usize) -> Option<(&[u8], usize)> {
     let rest = all.get(at..)?;
-    let length = rest.iter().position(|byte| *byte == b'\n')?;
+    let length = memchr(b'\n', rest)?;
     let line = rest.get(..length)?;
     let next = at.saturating_add(length).saturating_add(1);
     Some((line.strip_suffix(b"\r").unwrap_or(line), next))
@@ -66,7 +67,7 @@ impl Fields {
             is_open: true,
             ..self
         };
-        let Some(colon) = line.iter().position(|byte| *byte == b':') else {
+        let Some(colon) = memchr(b':', line) else {
             return open;
         };
         let (Some(name), Some(value)) = (line.get(..colon), line.get(colon.saturating_add(1)..))

@@ -129,8 +129,9 @@ pub fn linger<R: Times + Drop>(source: SocketSource<R>, sink: SocketSink<R>) {
         return;
     };
     let mut room = [0u8; LINGER_PIECE];
+    let mut limit = source.limit;
     for _ in 0..LINGER_PIECES {
-        match receive(&source.rt, &shared.stream, &mut room, until) {
+        match receive(&source.rt, &shared.stream, &mut limit, &mut room, until) {
             Ok(0) | Err(_) => return,
             Ok(_) => {}
         }

@@ -1,8 +1,7 @@
 use crate::times::time;
-use crate::transfer::glance;
+use crate::transfer::{Line, glance};
 use std::alloc::Global;
 use std::io::ErrorKind;
-use std::net::TcpStream;
 use std::rt::Clock as Times;
 use std::sync::{Mutex, Wait};
 
@@ -16,7 +15,7 @@ const REST: u64 = 3_000;
 /// A connection that rests.
 #[derive(Drop)]
 struct Resting {
-    stream: TcpStream,
+    line: Line,
     // since when, by `time`
     since: u64,
 }
@@ -28,8 +27,8 @@ pub(crate) struct Idle {
 }
 
 /// Whether the other end neither closed the connection nor sent anything that nobody asked for.
-fn is_quiet(stream: &TcpStream) -> bool {
-    match glance(stream) {
+fn is_quiet(line: &Line) -> bool {
+    match glance(&line.stream) {
         Ok(_) => false,
         Err(error) => error.kind() == ErrorKind::WouldBlock,
     }
@@ -49,27 +48,27 @@ impl Idle {
     }
 
     /// Takes a connection that can carry a call, where one is left. Those that are found to be useless are closed.
-    pub(crate) fn take<R: Times + Wait>(&self, rt: &R) -> Option<TcpStream> {
+    pub(crate) fn take<R: Times + Wait>(&self, rt: &R) -> Option<Line> {
         for _ in 0..MOST {
             let resting = self.last(rt)?;
             let now = time(rt).unwrap_or(u64::MAX);
             let is_fresh = now.saturating_sub(resting.since) < REST;
-            if is_fresh && is_quiet(&resting.stream) {
-                return Some(resting.stream);
+            if is_fresh && is_quiet(&resting.line) {
+                return Some(resting.line);
             }
         }
         None
     }
 
     /// Lets a connection rest whose last answer was read whole, and closes those that rested for too long.
-    pub(crate) fn keep<R: Times + Wait>(&self, rt: &R, stream: TcpStream) {
+    pub(crate) fn keep<R: Times + Wait>(&self, rt: &R, line: Line) {
         let Ok(now) = time(rt) else {
             return;
         };
         let mut all = self.all.lock(rt);
         all.retain(|resting| now.saturating_sub(resting.since) < REST);
         if all.len() < MOST {
-            let _ = all.push(Resting { stream, since: now });
+            let _ = all.push(Resting { line, since: now });
         }
     }
 

@@ -2,28 +2,33 @@
 ghost use Rattle.std.specs.Prelude.{◌≡◌, ◌++◌, IfOk};
 ghost use Rattle.sockets.specs.Lasting.{Around, IsLasting};
 
+use memchr::memchr;
 use std::alloc::{AllocError, Global};
 
 /// The line of a head that asks for the end of its connection, as calls here have it.
 const CLOSING: &[u8] = b"Connection: close\r\n";
 
-/// The end of a head. What follows is the body.
-const HEAD_END: &[u8] = b"\r\n\r\n";
+/// The end of a line, which is all of the last line of a head.
+const LINE_END: &[u8] = b"\r\n";
 
 /// A call in two parts, between which its head has the line that asks for the end of its connection. Where it has none, all of
 /// the call is the first part.
 fn around_closing(call: &[u8]) -> (&[u8], &[u8])
     ensures { Around call.now result.0.now result.1.now }
 {
-    for at in 0..call.len() {
-        let (front, rest) = call.split_at(at);
-        if rest.starts_with(HEAD_END) {
+    let mut at = 0;
+    for _ in 0..call.len() {
+        let Some((front, rest)) = call.split_at_checked(at) else {
             break;
-        }
+        };
         if let Some(behind) = rest.strip_prefix(CLOSING) {
-            if front.ends_with(b"\n") {
-                return (front, behind);
-            }
+            return (front, behind);
+        }
+        match memchr(b'\n', rest) {
+            Some(length) if !rest.starts_with(LINE_END) => at = at
+                .saturating_add(length)
+                .saturating_add(1),
+            _ => break,
         }
     }
     (call, b"")

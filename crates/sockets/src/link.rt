@@ -93,7 +93,8 @@ impl<R: Net<Stream = TcpStream> + Times + Wait + Eprint + Drop + Copy> SocketLin
     // Connects to a member, and sends it a call.
     fn send(&self, member: &Member, call: &[u8]) -> io::Result<TcpStream> {
         let until = Until::after(&self.rt, self.limits.read)?;
-        let stream = member.begin(&self.rt, call, self.limits.connect, until)?;
+        let line = member.begin(&self.rt, call, self.limits.connect, until)?;
+        let stream = line.stream;
         let silence = Duration::from_millis(self.limits.silence.max(1));
         stream.set_read_timeout(Some(silence))?;
         Ok(stream)

@@ -2,7 +2,7 @@ use crate::answer::receive_answer;
 use crate::idle::Idle;
 use crate::lasting::lasting;
 use crate::times::Until;
-use crate::transfer::{receive, send};
+use crate::transfer::Line;
 use etcd_types::{Bytes, NoMemory};
 use std::alloc::Global;
 use std::io::ErrorKind;
@@ -127,10 +127,10 @@ impl Member {
         rt: &R,
         connect: u64,
         until: Until,
-    ) -> io::Result<TcpStream> {
+    ) -> io::Result<Line> {
         let stream = self.connect(rt, until.or_after(rt, connect)?)?;
         let _ = stream.set_nodelay(true);
-        Ok(stream)
+        Ok(Line::new(stream))
     }
 
     /// Connects, which is to take so many milliseconds at most, and sends a call.
@@ -140,10 +140,10 @@ impl Member {
         call: &[u8],
         connect: u64,
         until: Until,
-    ) -> io::Result<TcpStream> {
-        let stream = self.reach(rt, connect, until)?;
-        send(rt, &stream, call, until)?;
-        Ok(stream)
+    ) -> io::Result<Line> {
+        let mut line = self.reach(rt, connect, until)?;
+        line.send(rt, call, until)?;
+        Ok(line)
     }
 
     /// Makes a whole call: on a connection that an earlier one left, or else on a new one, which is to take so many
@@ -157,14 +157,14 @@ impl Member {
         until: Until,
     ) -> io::Result<Vec<u8>> {
         let call = lasting(alloc, call)?;
-        let stream = match self.idle.take(rt) {
-            Some(stream) => stream,
+        let mut line = match self.idle.take(rt) {
+            Some(line) => line,
             None => self.reach(rt, connect, until)?,
         };
-        send(rt, &stream, call.as_slice(), until)?;
-        let (answer, is_whole) = receive_answer(rt, alloc, &stream, until)?;
+        line.send(rt, call.as_slice(), until)?;
+        let (answer, is_whole) = receive_answer(rt, alloc, &mut line, until)?;
         if is_whole {
-            self.idle.keep(rt, stream);
+            self.idle.keep(rt, line);
         }
         Ok(answer)
     }
@@ -176,14 +176,14 @@ impl Member {
         connect: u64,
         until: Until,
     ) -> io::Result<bool> {
-        let stream = self.begin(rt, self.asking.as_bytes(), connect, until)?;
+        let mut line = self.begin(rt, self.asking.as_bytes(), connect, until)?;
         let mut room = [0u8; 13];
         let mut came = 0;
         for _ in 0..room.len() {
             if came >= room.len() {
                 break;
             }
-            let count = receive(rt, &stream, &mut room[came..], until)?;
+            let count = line.receive(rt, &mut room[came..], until)?;
             if count == 0 {
                 break;
             }

@@ -1,3 +1,4 @@
+mod answers;
 mod ends;
 mod kept;
 mod links;

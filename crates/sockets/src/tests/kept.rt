@@ -1,8 +1,6 @@
 //! Calls that use a connection that an earlier one left.
 
 use super::{Watched, listening, members_at};
-use crate::answer_end::Place;
-use crate::lasting::lasting;
 use crate::{LinkLimits, SocketHost, SocketLink};
 use etcd_types::Bytes;
 use outside::{Host, Link, LinkFault};
@@ -34,8 +32,8 @@ enum Act {
     Say(&'static [u8]),
     /// Sees that the connection was closed.
     Gone,
-    /// Waits for a while, so that what was said before comes apart from what is said next.
-    Rest,
+    /// Waits for so many milliseconds, so that what was said before comes apart from what is said next.
+    Rest(u64),
 }
 
 /// The acts of a member, one lot for each connection.
@@ -44,17 +42,20 @@ struct Story {
     lots: &'static [&'static [Act]],
 }
 
-const CALL: &[u8] =
+/// A call that writes, and what comes of it to a member.
+pub(super) const CALL: &[u8] =
     b"POST /v3/kv/put HTTP/1.1\r\nHost: a\r\nConnection: close\r\nContent-Length: 2\r\n\r\n{}";
 
-const HEARD: &[u8] = b"POST /v3/kv/put HTTP/1.1\r\nHost: a\r\nContent-Length: 2\r\n\r\n{}";
+pub(super) const HEARD: &[u8] =
+    b"POST /v3/kv/put HTTP/1.1\r\nHost: a\r\nContent-Length: 2\r\n\r\n{}";
 
-const ONE: &[u8] = b"HTTP/1.1 200 OK\r\nContent-Length: 3\r\n\r\none";
+pub(super) const ONE: &[u8] = b"HTTP/1.1 200 OK\r\nContent-Length: 3\r\n\r\none";
 
-const TWO: &[u8] =
+pub(super) const TWO: &[u8] =
     b"HTTP/1.1 200 OK\r\nTransfer-Encoding: chunked\r\n\r\n2\r\ntw\r\n1\r\no\r\n0\r\n\r\n";
 
-const CLOSING: &[u8] = b"HTTP/1.1 200 OK\r\nConnection: close\r\nContent-Length: 3\r\n\r\nend";
+pub(super) const CLOSING: &[u8] =
+    b"HTTP/1.1 200 OK\r\nConnection: close\r\nContent-Length: 3\r\n\r\nend";
 
 /// Does one act on a connection, and says whether it went so.
 fn does<R: Times>(rt: &R, stream: &mut TcpStream, act: Act) -> bool {
@@ -62,8 +63,8 @@ fn does<R: Times>(rt: &R, stream: &mut TcpStream, act: Act) -> bool {
         Act::Hear(call) => hears(stream, call),
         Act::Say(bytes) => stream.write(bytes).is_ok(),
         Act::Gone => hears(stream, b""),
-        Act::Rest => {
-            thread::sleep(rt, Duration::from_millis(100));
+        Act::Rest(millis) => {
+            thread::sleep(rt, Duration::from_millis(millis));
             true
         }
     }
@@ -168,7 +169,7 @@ const THREE_CALLS: Story = Story {
         Act::Say(ONE),
         Act::Hear(HEARD),
         Act::Say(b"HTTP/1.1 200 OK\r\nTransfer-Encoding: chunked\r\n\r\n2\r"),
-        Act::Rest,
+        Act::Rest(100),
         Act::Say(b"\ntw\r\n1\r\no\r\n0\r\n\r\n"),
         Act::Hear(HEARD),
         Act::Say(ONE),
@@ -204,7 +205,7 @@ const TALKING: Story = Story {
         &[
             Act::Hear(HEARD),
             Act::Say(ONE),
-            Act::Rest,
+            Act::Rest(100),
             Act::Say(ONE),
             Act::Gone,
         ],
@@ -273,106 +274,50 @@ fn a_connection_that_rested_too_long_is_not_used(rt: HostRuntime) -> Result<(), 
     Ok(())
 }
 
-/// An answer, and how many of its bytes it has, where that is told.
-const ENDS: &[(&[u8], Option<usize>)] = &[
-    (ONE, Some(41)),
-    (TWO, Some(65)),
-    (b"HTTP/1.1 500 no\r\ncontent-length:0\r\n\r\nmore", Some(37)),
-    (
-        b"HTTP/1.1 200 OK\nContent-Length: 1\nConnection: Keep-Alive\n\n1",
-        Some(59),
-    ),
-    (
-        b"HTTP/1.1 200 OK\r\nTransfer-Encoding: chunked\r\n\r\nA;x=y\r\n0123456789\r\n0\r\nT: a\r\n\r\n",
-        Some(77),
-    ),
-    (CLOSING, None),
-    (b"HTTP/1.0 200 OK\r\nContent-Length: 0\r\n\r\n", None),
-    (b"HTTP/1.1 100 Continue\r\nContent-Length: 0\r\n\r\n", None),
-    (b"HTTP/1.1 204 No Content\r\n\r\n", Some(27)),
-    (
-        b"HTTP/1.1 204 No Content\r\nContent-Length: 0\r\n\r\n",
-        Some(46),
-    ),
-    (
-        b"HTTP/1.1 304 Not Modified\r\nContent-Length: 5\r\n\r\n",
-        Some(48),
-    ),
-    (
-        b"HTTP/1.1 204 No Content\r\nConnection: close\r\n\r\n",
-        None,
-    ),
-    (
-        b"HTTP/1.1 204 No Content\r\nTransfer-Encoding: chunked\r\n\r\n",
-        None,
-    ),
-    (b"HTTP/1.1 200 OK\r\n\r\n", None),
-    (b"HTTP/1.1 200 OK\r\nContent-Length: +1\r\n\r\n1", None),
-    (
-        b"HTTP/1.1 200 OK\r\nContent-Length: 1\r\nContent-Length: 1\r\n\r\n1",
-        None,
-    ),
-    (
-        b"HTTP/1.1 200 OK\r\nContent-Length: 1\r\nTransfer-Encoding: chunked\r\n\r\n0\r\n\r\n",
-        None,
-    ),
-    (
-        b"HTTP/1.1 200 OK\r\nTransfer-Encoding: gzip, chunked\r\n\r\n0\r\n\r\n",
-        None,
-    ),
-    (
-        b"HTTP/1.1 200 OK\r\nContent-Length: 1\r\n folded\r\n\r\n1",
-        None,
-    ),
-    (
-        b"HTTP/1.1 200 OK\r\nTransfer-Encoding: chunked\r\n\r\n1\r\n1xx0\r\n\r\n",
-        None,
-    ),
-    (
-        b"HTTP/1.1 200 OK\r\nTransfer-Encoding: chunked\r\n\r\n-1\r\n0\r\n\r\n",
-        None,
-    ),
-    (
-        b"HTTP/1.1 200 OK\r\nTransfer-Encoding: chunked\r\n\r\n0\r\nT: a\r\n",
-        None,
-    ),
-];
+/// A call that reads, and what comes of it to a member.
+const READ: &[u8] =
+    b"POST /v3/kv/range HTTP/1.1\r\nHost: a\r\nConnection: close\r\nContent-Length: 2\r\n\r\n{}";
 
-/// Where an answer with these bytes ends, where that is told.
-fn end_of(bytes: &[u8]) -> Option<usize> {
-    match Place::Head.behind(bytes) {
-        Place::End(end) => Some(end),
-        _ => None,
-    }
-}
+const READ_HEARD: &[u8] = b"POST /v3/kv/range HTTP/1.1\r\nHost: a\r\nContent-Length: 2\r\n\r\n{}";
 
-/// Whether an answer ends there too where it comes in two pieces, wherever the first one ends.
-fn ends_so_in_pieces(bytes: &[u8]) -> bool {
-    let all = Place::Head.behind(bytes);
-    for count in 0..bytes.len() {
-        if Place::Head.behind(&bytes[..count]).behind(bytes) != all {
-            return false;
-        }
-    }
-    true
-}
+/// Reads have two seconds here.
+const SHORT_READS: LinkLimits = LinkLimits {
+    read: 2_000,
+    ..LIMITS
+};
+
+/// A read isn't answered on a connection on which a write was; a write is answered late on one on which a read was.
+const MIXED: Story = Story {
+    lots: &[
+        &[
+            Act::Hear(HEARD),
+            Act::Say(ONE),
+            Act::Hear(READ_HEARD),
+            Act::Gone,
+        ],
+        &[
+            Act::Hear(READ_HEARD),
+            Act::Say(ONE),
+            Act::Hear(HEARD),
+            Act::Rest(2_500),
+            Act::Say(TWO),
+        ],
+    ],
+};
 
 #[test]
-fn an_answer_ends_where_it_says(rt: HostRuntime) -> Result<(), Fail> {
-    for (row, (bytes, end)) in ENDS.iter().enumerate() {
-        assert_eq!(rt; end_of(bytes), *end, "{row}");
-        assert!(rt; ends_so_in_pieces(bytes), "{row}");
-    }
-    Ok(())
-}
-
-#[test]
-fn a_call_is_sent_without_the_line_that_closes(rt: HostRuntime) -> Result<(), Fail> {
+fn each_call_on_a_connection_has_its_own_limit(rt: HostRuntime) -> Result<(), Fail> {
     let alloc: Global = rt.alloc();
-    let body: &[u8] = b"POST / HTTP/1.1\r\n\r\nConnection: close\r\n";
-    let other: &[u8] = b"POST / HTTP/1.1\r\nNo-Connection: close\r\n\r\n";
-    for (call, sent) in [(CALL, HEARD), (HEARD, HEARD), (body, body), (other, other)] {
-        assert_eq!(rt; lasting(alloc, call)?.as_slice(), sent);
-    }
+    let (host, address) = listening(rt, alloc)?;
+    let handle = thread::spawn(&rt, move || -> usize { play(rt, host, MIXED) })?;
+    let members = members_at(&rt, alloc, &[&address])?;
+    let mut link = SocketLink::new(rt, members, SHORT_READS);
+    assert!(rt; is_wanted(&link.call(alloc, 1, CALL), Some(ONE)));
+    let start = rt.monotonic()?;
+    assert!(rt; is_wanted(&link.call(alloc, 1, READ), None));
+    assert!(rt; rt.monotonic()?.saturating_sub(start) < Duration::from_secs(15));
+    assert!(rt; is_wanted(&link.call(alloc, 1, READ), Some(ONE)));
+    assert!(rt; is_wanted(&link.call(alloc, 1, CALL), Some(TWO)));
+    assert_eq!(rt; handle.join(&rt), 9);
     Ok(())
 }

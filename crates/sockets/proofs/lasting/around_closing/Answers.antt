@@ -5,7 +5,7 @@ use Rattle.sockets.specs.Lasting.{closing_line}
 use Rattle.sockets.proofs.Calls.{between}
 use Rattle.sockets.proofs.lasting.around_closing.Goals as goal
 
-pub returns-then-ends_with : goal.returns-then-ends_with
-returns-then-ends_with c =
-    between c.args.call.now c.split_at.result.0.now c.split_at.result.1.now c.in-Some.behind.now c.loop-at.at c.split_at.ensures.front c.split_at.ensures.back
-    (strip_prefix_is Decides-eqb c.split_at.result.1.now closing_line (Some c.in-Some.behind) c.in-Some.ensures.cases)
+pub returns-in-Some-strip_prefix : goal.returns-in-Some-strip_prefix
+returns-in-Some-strip_prefix c =
+    between c.args.call.now c.in-Some.front.now c.in-Some.rest.now c.in-Some-strip_prefix.behind.now c.loop.at c.in-Some.ensures.cases.1 c.in-Some.ensures.cases.2
+    (strip_prefix_is Decides-eqb c.in-Some.rest.now closing_line (Some c.in-Some-strip_prefix.behind) c.in-Some-strip_prefix.ensures.cases)
