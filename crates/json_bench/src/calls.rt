@@ -1,9 +1,10 @@
 //! The calls that a proxy makes most, with one record each.
 
-use api_reply::{encode_item, encode_reply};
-use api_request::decode_request;
+use api_reply::{decode_reply, encode_item, encode_reply};
+use api_request::{decode_request, encode_request};
 use etcd_types::{
-    Answer, Body, Bytes, Change, Event, Header, Kv, List, NoMemory, Reply, WatchItem,
+    Answer, Body, Bytes, Change, Event, Header, Kv, List, NoMemory, PutAsk, Reply, Request,
+    WatchItem,
 };
 use std::alloc::Global;
 use std::io;
@@ -20,6 +21,17 @@ const HEADER: Header = Header {
     term: 7,
 };
 
+/// The body of a client's read of one key.
+const READ: &[u8] = b"{\"key\":\"YmVuY2gva2V5\"}";
+
+/// The body of a client's put of the record's key and value.
+const PUT: &[u8] =
+    b"{\"key\":\"YmVuY2gva2V5\",\"value\":\"YSB2YWx1ZSBvZiB0aGlydHktdHdvIGJ5dGVzIGxvbmc=\"}";
+
+/// The body of a member's answer to a put.
+const PUT_ANSWER: &[u8] =
+    b"{\"header\":{\"cluster_id\":\"14841639068965178418\",\"member_id\":\"10276657743932975437\",\"revision\":\"1234567\",\"raft_term\":\"7\"}}";
+
 /// A record with a value of 32 bytes.
 fn record(alloc: Global) -> Result<Kv, NoMemory> {
     Ok(Kv {
@@ -32,7 +44,8 @@ fn record(alloc: Global) -> Result<Kv, NoMemory> {
     })
 }
 
-fn answer(alloc: Global) -> Result<Answer, NoMemory> {
+/// The answer to a range of one key.
+fn range_answer(alloc: Global) -> Result<Answer, NoMemory> {
     let mut kvs = List::new(alloc);
     kvs.push(record(alloc)?)?;
     let body = Body::Range {
@@ -43,6 +56,24 @@ fn answer(alloc: Global) -> Result<Answer, NoMemory> {
     Ok(Answer::Done(Reply {
         header: HEADER,
         body,
+    }))
+}
+
+fn put_answer() -> Answer {
+    Answer::Done(Reply {
+        header: HEADER,
+        body: Body::Put { prev: None },
+    })
+}
+
+fn put_request(alloc: Global) -> Result<Request, NoMemory> {
+    let Kv { key, value, .. } = record(alloc)?;
+    Ok(Request::Put(PutAsk {
+        key,
+        value,
+        lease: 0,
+        prev_kv: false,
+        ignore_lease: false,
     }))
 }
 
@@ -62,12 +93,12 @@ fn tell(rt: &HostRuntime, name: &str, start: &Instant, done: u32) -> io::Result<
     println!(rt; "{name}: {nanos} ns a call, {done} calls")
 }
 
-fn tell_reply(rt: &HostRuntime, alloc: Global, answer: &Answer) -> io::Result<()> {
+fn tell_reply(rt: &HostRuntime, alloc: Global, name: &str, answer: &Answer) -> io::Result<()> {
     let start = Instant::now(rt)?;
     let done = (0..ROUNDS)
         .filter(|_| encode_reply(alloc, answer).is_ok())
         .count();
-    tell(rt, "encode_reply, one record", &start, done as u32)
+    tell(rt, name, &start, done as u32)
 }
 
 fn tell_item(rt: &HostRuntime, alloc: Global, item: &WatchItem) -> io::Result<()> {
@@ -78,22 +109,50 @@ fn tell_item(rt: &HostRuntime, alloc: Global, item: &WatchItem) -> io::Result<()
     tell(rt, "encode_item, one event", &start, done as u32)
 }
 
-fn tell_read(rt: &HostRuntime, alloc: Global) -> io::Result<()> {
-    let path = b"/v3/kv/range".as_slice();
-    let body = b"{\"key\":\"YmVuY2gva2V5\"}".as_slice();
+fn tell_request(
+    rt: &HostRuntime,
+    alloc: Global,
+    name: &str,
+    path: &[u8],
+    body: &[u8],
+) -> io::Result<()> {
     let start = Instant::now(rt)?;
     let done = (0..ROUNDS)
         .filter(|_| decode_request(alloc, path, body).is_ok())
         .count();
-    tell(rt, "decode_request, a plain read", &start, done as u32)
+    tell(rt, name, &start, done as u32)
 }
 
-/// Tells the nanoseconds of `encode_reply`, `encode_item` and `decode_request`.
+/// A put as it is sent to a member, and the member's answer to it.
+fn tell_put(rt: &HostRuntime, alloc: Global, put: &Request) -> io::Result<()> {
+    let start = Instant::now(rt)?;
+    let done = (0..ROUNDS)
+        .filter(|_| encode_request(alloc, put).is_ok())
+        .count();
+    tell(rt, "encode_request, a put", &start, done as u32)?;
+    let start = Instant::now(rt)?;
+    let done = (0..ROUNDS)
+        .filter(|_| decode_reply(alloc, put, 200, PUT_ANSWER).is_ok())
+        .count();
+    tell(rt, "decode_reply, of a put", &start, done as u32)
+}
+
+/// Tells the nanoseconds of `encode_reply`, `encode_item`, `decode_request`, `encode_request` and `decode_reply`.
 pub fn tell_calls(rt: &HostRuntime, alloc: Global) -> io::Result<()> {
-    let (Ok(answer), Ok(item)) = (answer(alloc), message(alloc)) else {
+    let (Ok(range), Ok(item), Ok(put)) = (range_answer(alloc), message(alloc), put_request(alloc))
+    else {
         return println!(rt; "no memory");
     };
-    tell_reply(rt, alloc, &answer)?;
+    tell_reply(rt, alloc, "encode_reply, one record", &range)?;
+    tell_reply(rt, alloc, "encode_reply, of a put", &put_answer())?;
     tell_item(rt, alloc, &item)?;
-    tell_read(rt, alloc)
+    tell_request(
+        rt,
+        alloc,
+        "decode_request, a plain read",
+        b"/v3/kv/range",
+        READ,
+    )?;
+    tell_request(rt, alloc, "decode_request, a plain put", b"/v3/kv/put", PUT)?;
+    tell_put(rt, alloc, &put)
 }
