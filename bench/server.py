@@ -7,6 +7,8 @@ from cluster import Cluster, Proxy, Watch, free_port, in_memory, put, text64, un
 
 PROGRAM, SECONDS = os.path.abspath(sys.argv[1]), sys.argv[2]
 CONNECTIONS = (1, 16, 64)
+# Each comparison is made so often, one beside the other in turn: what else a machine does moves one by a tenth and more.
+ROUNDS = 5
 TICKS = os.sysconf("SC_CLK_TCK")
 KEY = text64("bench/key")
 READ = json.dumps({"key": KEY}, separators=(",", ":"))
@@ -87,12 +89,19 @@ def mark(what, value, unit, least=None, most=None):
         MISSED.append(what)
 
 
-def compare(what, ours, theirs, name, by_processor, least=None):
-    share = (theirs.server + theirs.client) / (ours.server + ours.client) if by_processor else ours.rate / theirs.rate
+def compare(what, name, theirs, ours, by_processor, least=None):
+    """Makes both loads in turn, tells the round whose share stands in the middle, and marks that share."""
+    def share(pair):
+        other, own = pair
+        return (other.server + other.client) / (own.server + own.client) if by_processor else own.rate / other.rate
+
+    rounds = sorted(((theirs(), ours()) for _ in range(ROUNDS)), key=share)
+    other, own = rounds[ROUNDS // 2]
     way = "processor time" if by_processor else "requests"
-    print(f"{what}\n  ours   {ours.told()}\n  {name:6} {theirs.told()}\n  {share:.2f} of {name}, by {way}", flush=True)
+    print(f"{what}\n  ours   {own.told()}\n  {name:6} {other.told()}\n"
+          f"  {share(rounds[0]):.2f} to {share(rounds[-1]):.2f} of {name}, {share((other, own)):.2f} in the middle, by {way}", flush=True)
     if least is not None:
-        mark(f"{what}, beside {name} by {way}", share, "", least=least)
+        mark(f"{what}, beside {name} by {way}", share((other, own)), "", least=least)
 
 
 def reads(folder, cluster, proxy):
@@ -102,9 +111,9 @@ def reads(folder, cluster, proxy):
     server, port, workers = nginx(folder, reply_of(proxy.port))
     try:
         for connections in CONNECTIONS:
-            theirs = Load(folder, port, connections, workers, "/", READ, False)
-            ours = Load(folder, proxy.port, connections, pids, "/v3/kv/range", READ, False)
-            compare(f"cached reads, {connections} connections", ours, theirs, "nginx", True, 0.8 if connections < 64 else 0.7)
+            compare(f"cached reads, {connections} connections", "nginx",
+                    lambda: Load(folder, port, connections, workers, "/", READ, False),
+                    lambda: Load(folder, proxy.port, connections, pids, "/v3/kv/range", READ, False), True, 0.8 if connections < 64 else 0.7)
     finally:
         server.terminate()
         server.wait()
@@ -114,9 +123,9 @@ def calls(folder, cluster, proxy):
     pids, members = [proxy.process.pid], [p.pid for p in cluster.processes]
     for what, path, body, least in (("reads passed on", "/v3/kv/range", READ, None), ("puts", "/v3/kv/put", PUT, 0.95)):
         for connections in CONNECTIONS:
-            theirs = Load(folder, cluster.ports[0], connections, members, path, body, True)
-            ours = Load(folder, proxy.port, connections, pids, path, body, False)
-            compare(f"{what}, {connections} connections", ours, theirs, "direct", False, least)
+            compare(f"{what}, {connections} connections", "direct",
+                    lambda: Load(folder, cluster.ports[0], connections, members, path, body, True),
+                    lambda: Load(folder, proxy.port, connections, pids, path, body, False), False, least)
 
 
 def delivered(all_watches, revision):
