@@ -26,6 +26,10 @@ pub(crate) struct Shared {
     pub(crate) limits: ConnectionLimits,
     // until when the head or body is to come that is read, or 0 where no byte came since the last reply
     pub(crate) until: AtomicU64,
+    // when the first byte of the last request came, by `time`, or 0 where none did
+    pub(crate) began: AtomicU64,
+    // 1 where its reply was written in the same millisecond
+    pub(crate) is_quick: AtomicU64,
     // how many bytes came since the last reply
     pub(crate) came: AtomicU64,
     // 1 where the connection holds a permit
@@ -47,6 +51,12 @@ impl Shared {
         self.until.store(0, SeqCst);
         self.came.store(0, SeqCst);
     }
+
+    /// Notes that a piece is written at this time.
+    pub(crate) fn note_piece(&self, now: u64) {
+        let is_quick = u64::from(now == self.began.load(SeqCst));
+        self.is_quick.store(is_quick, SeqCst);
+    }
 }
 
 // A permit that is still held is given back.
@@ -57,6 +67,8 @@ impl Drop for Shared {
             stream: _stream,
             limits: _,
             until: _,
+            began: _,
+            is_quick: _,
             came: _,
             holds: _,
             permits: _permits,
@@ -93,6 +105,8 @@ pub fn ends_within<R: Drop + Copy>(
         stream,
         limits,
         until: AtomicU64::new(0),
+        began: AtomicU64::new(0),
+        is_quick: AtomicU64::new(0),
         came: AtomicU64::new(0),
         holds: AtomicU64::new(0),
         permits,

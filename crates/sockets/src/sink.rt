@@ -55,6 +55,7 @@ impl<R: Times + Drop> SocketSink<R> {
         let Ok(until) = Until::after(&self.rt, limit) else {
             return piece.len();
         };
+        self.shared.note_piece(until.end.saturating_sub(limit));
         let mut left = Duration::from_millis(limit.max(1));
         let mut rest = piece;
         for _ in 0..TRIES {

@@ -8,13 +8,13 @@ use crate::transfer::glance;
 use http_wire::HeadScan;
 use outside::{Failed, Source};
 use std::alloc::Global;
-use std::io;
 use std::io::{ErrorKind, Read};
 use std::marker::Model;
 use std::rt::Clock as Times;
 use std::sync::atomic::Ordering::SeqCst;
 use std::sync::{Arc, Wait};
 use std::time::Duration;
+use std::{io, thread};
 
 /// A request that has more bytes needs a permit.
 const LARGE: u64 = 65_536;
@@ -82,6 +82,11 @@ impl<R: Wait + Times + Drop> SocketSource<R> {
             return Ok(());
         };
         let until = Until::after(&self.rt, limit)?;
+        if is_first {
+            self.shared
+                .began
+                .store(until.end.saturating_sub(limit), SeqCst);
+        }
         self.shared.until.store(until.end, SeqCst);
         Ok(())
     }
@@ -105,7 +110,13 @@ impl<R: Wait + Times + Drop> SocketSource<R> {
         Ok(())
     }
 
-    // Reads once. The socket is told a limit only where it has another.
+    // Whether a request is to come, where the last one was answered at once.
+    fn is_next_near(&self) -> bool {
+        self.shared.until.load(SeqCst) == 0 && self.shared.is_quick.load(SeqCst) == 1
+    }
+
+    // Reads once. The socket is told a limit only where it has another. Behind a reply that was given at once others have their
+    // turn first: where all processors are busy the next request is there by then, and this thread needs no rest and nobody to wake it.
     fn receive(&mut self, room: &mut [u8]) -> io::Result<usize>
         ensures count { ReadsAtMost result room.new }
         ensures faults { self.new.faults ≡ self.old.faults }
@@ -114,6 +125,9 @@ impl<R: Wait + Times + Drop> SocketSource<R> {
         if left != self.limit {
             self.shared.stream.set_read_timeout(Some(left))?;
             self.limit = left;
+        }
+        if self.is_next_near() {
+            thread::yield_now();
         }
         let mut stream = &self.shared.stream;
         let count = stream.read(room)?;
