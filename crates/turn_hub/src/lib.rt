@@ -8,9 +8,9 @@
 //! the machine, adds one to the count, exchanges the machine back, and stores the turn as free. Splitting and joining
 //! passes are the other kinds of atomic step, and each kind keeps the rule of `specs/Rule.antt`.
 //!
-//! A thread that finds the turn taken looks for it a hundred times, yields ten times, and then parks. A pass that waits for
-//! something to take rests in its lot, or in its crew, until a step rouses it, and for 10 seconds at most. The clauses say
-//! nothing of waiting: not that a call gets its turn, nor that a wake arrives. The program `hub_trial` races wake-ups.
+//! A thread that finds the turn taken looks for it two thousand times, and then parks. A pass that waits for something to
+//! take rests in its lot, or in its crew, until a step rouses it, and for 10 seconds at most. The clauses say nothing of
+//! waiting: not that a call gets its turn, nor that a wake arrives. The program `hub_trial` races wake-ups.
 #![tactic(auto)]
 
 mod fault;

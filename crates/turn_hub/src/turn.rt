@@ -12,8 +12,8 @@ use crate::view::{Knows, Note, Opening, Slot, Stowed};
 use crate::waiting::Waiting;
 use atomic_table::{Seat, Shared};
 use outside::Machine;
+use std::hint;
 use std::sync::Wait;
-use std::{hint, thread};
 
 pub(crate) type Board<M> = Shared<Slot<M>, Knows<M>, Opening<M>, Turns<M>>;
 
@@ -27,10 +27,9 @@ pub(crate) const TURN: usize = 1;
 // The one slot of the table.
 const MACHINE: usize = 0;
 
-// How often a thread looks for the turn before it yields, and how often it yields before it parks.
-const TRIES: u32 = 100;
-
-const YIELDS: u32 = 10;
+// How often a thread looks for the turn before it parks. So it waits a little longer than most steps take. It doesn't yield: where
+// others keep the processors busy, a thread that yields runs again only behind them, long after the turn is free.
+const TRIES: u32 = 2_000;
 
 // Takes the turn if it is free.
 fn try_turn<M: Machine>(board: &Board<M>, seat: &mut Place<M>) -> bool
@@ -54,12 +53,6 @@ fn try_often<M: Machine>(board: &Board<M>, seat: &mut Place<M>) -> bool
             return true;
         }
         hint::spin_loop();
-    }
-    'yields: for _ in 0..YIELDS {
-        if board.peek(TURN) == 0 && try_turn(board, seat) {
-            return true;
-        }
-        thread::yield_now();
     }
     false
 }

@@ -8,10 +8,3 @@ invariant-tries g l = record {
   id : l.seat.id ≡ l.fn.seat.id;
   me : l.seat.me ≡ l.fn.seat.me;
 }
-
-abbrev pub invariant-yields : goal.invariant-yields
-invariant-yields g l = record {
-  sits : Sits l.board.table_id l.board.key.machine.value l.board.key.base l.seat.table_id l.seat.me.0;
-  id : l.seat.id ≡ l.fn.seat.id;
-  me : l.seat.me ≡ l.fn.seat.me;
-}
