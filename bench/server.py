@@ -3,12 +3,16 @@
 import json, os, re, resource, select, shutil, socket, struct, subprocess, sys, tempfile, time
 
 sys.path.insert(0, os.path.join(os.path.dirname(os.path.abspath(__file__)), "..", "tests"))
-from cluster import Cluster, Proxy, Watch, free_port, in_memory, put, text64, until, watched
+from cluster import Cluster, Proxy, Watch, free_port, in_memory, post, put, text64, until, watched
 
 PROGRAM, SECONDS = os.path.abspath(sys.argv[1]), sys.argv[2]
 CONNECTIONS = (1, 16, 64)
-# Each comparison is made so often, one beside the other in turn: what else a machine does moves one by a tenth and more.
-ROUNDS = 5
+# Each comparison is of so many rounds, one load beside the other in turn: what else a machine does moves one by a tenth and more.
+ROUNDS = 9
+# So many puts are followed to the watches.
+PUTS = 20
+# What the host held up for a larger share of its time is made again, up to three times as often in all.
+STOLEN, TIMES = 0.02, 3
 TICKS = os.sysconf("SC_CLK_TCK")
 KEY = text64("bench/key")
 READ = json.dumps({"key": KEY}, separators=(",", ":"))
@@ -22,6 +26,32 @@ def processor_time(pids):
             fields = stat.read().rsplit(")", 1)[1].split()
         total += int(fields[11]) + int(fields[12])
     return total / TICKS
+
+
+class Host:
+    """From now on, the share of the time in which processors had something to do that the host kept them from it (proc(5), `steal`)."""
+
+    def __init__(self):
+        self.wanted, self.kept = self.ticks()
+
+    @staticmethod
+    def ticks():
+        with open("/proc/stat") as stat:
+            user, nice, system, _, _, irq, softirq, steal = (int(word) for word in stat.readline().split()[1:9])
+        return user + nice + system + irq + softirq + steal, steal
+
+    def share(self):
+        wanted, kept = self.ticks()
+        return (kept - self.kept) / max(wanted - self.wanted, 1)
+
+
+def quietest(wanted, make, stolen):
+    """Makes as many as are wanted that the host left alone, or else takes those that it left alone most; and says how much it did."""
+    made = []
+    while len(made) < wanted * TIMES and sum(stolen(one) <= STOLEN for one in made) < wanted:
+        made.append(make())
+    quiet = sorted(made, key=stolen)[:wanted]
+    return quiet, f"the host kept {stolen(quiet[-1]):.0%} of the time at most in the quietest {wanted} of {len(made)}"
 
 
 def sized(pid):
@@ -40,10 +70,10 @@ class Load:
             lua.write(f"wrk.method = 'POST'\nwrk.body = '{body}'\n")
             if closing:
                 lua.write("wrk.headers['Connection'] = 'close'\n")
-        before, client = processor_time(pids), resource.getrusage(resource.RUSAGE_CHILDREN)
+        before, client, host = processor_time(pids), resource.getrusage(resource.RUSAGE_CHILDREN), Host()
         told = subprocess.run(["wrk", "-t", str(min(connections, 2)), "-c", str(connections), "-d", f"{SECONDS}s", "--latency", "-s", script,
                                f"http://127.0.0.1:{port}{path}"], capture_output=True, text=True, check=True).stdout
-        after = resource.getrusage(resource.RUSAGE_CHILDREN)
+        after, self.stolen = resource.getrusage(resource.RUSAGE_CHILDREN), host.share()
         count = int(re.search(r"(\d+) requests in", told)[1])
         self.rate = float(re.search(r"Requests/sec:\s+(\S+)", told)[1])
         self.server = (processor_time(pids) - before) / max(count, 1) * 1e6
@@ -95,11 +125,12 @@ def compare(what, name, theirs, ours, by_processor, least=None):
         other, own = pair
         return (other.server + other.client) / (own.server + own.client) if by_processor else own.rate / other.rate
 
-    rounds = sorted(((theirs(), ours()) for _ in range(ROUNDS)), key=share)
+    rounds, host = quietest(ROUNDS, lambda: (theirs(), ours()), lambda pair: max(load.stolen for load in pair))
+    rounds.sort(key=share)
     other, own = rounds[ROUNDS // 2]
     way = "processor time" if by_processor else "requests"
     print(f"{what}\n  ours   {own.told()}\n  {name:6} {other.told()}\n"
-          f"  {share(rounds[0]):.2f} to {share(rounds[-1]):.2f} of {name}, {share((other, own)):.2f} in the middle, by {way}", flush=True)
+          f"  {share(rounds[0]):.2f} to {share(rounds[-1]):.2f} of {name}, {share((other, own)):.2f} in the middle, by {way}; {host}", flush=True)
     if least is not None:
         mark(f"{what}, beside {name} by {way}", share((other, own)), "", least=least)
 
@@ -121,6 +152,8 @@ def reads(folder, cluster, proxy):
 
 def calls(folder, cluster, proxy):
     pids, members = [proxy.process.pid], [p.pid for p in cluster.processes]
+    _, told = post(cluster.ports[0], "/v3/maintenance/status", {})
+    print(f"calls go to a member that {'leads' if told['leader'] == told['header']['member_id'] else 'follows another'}", flush=True)
     for what, path, body, least in (("reads passed on", "/v3/kv/range", READ, None), ("puts", "/v3/kv/put", PUT, 0.95)):
         for connections in CONNECTIONS:
             compare(f"{what}, {connections} connections", "direct",
@@ -160,8 +193,8 @@ def arrived(watch, revision):
 class Took:
     """What each of some puts took, in milliseconds."""
 
-    def __init__(self):
-        self.all = []
+    def __init__(self, seconds=()):
+        self.all = [one * 1e3 for one in seconds]
 
     def add(self, seconds):
         self.all.append(seconds * 1e3)
@@ -173,26 +206,21 @@ class Took:
         return f"p50 {self.half():.1f} ms, least {min(self.all):.1f}, most {max(self.all):.1f}"
 
 
-def arrivals(all_watches, proxy):
-    """From the sending of a put until its event was at the first and at the last watch's socket. Nobody reads meanwhile, so that the clients, which stand
-    on the same processors here, take none of them from the server."""
-    first, last = Took(), Took()
-    for watch in all_watches:
-        watch.socket.setsockopt(socket.SOL_SOCKET, STAMPED, 1)
-    for number in range(20):
-        start = time.time()
-        revision = put(proxy, "w/0", f"value {number}")
-        time.sleep(0.3)
-        came = [arrived(watch, revision) for watch in all_watches]
-        first.add(min(came) - start)
-        last.add(max(came) - start)
-    return first, last
+def arrival(all_watches, proxy):
+    """From the sending of a put until its event was at the first and at the last watch's socket, and what the host took meanwhile. Nobody reads before
+    that, so that the clients, which stand on the same processors here, take none of them from the server."""
+    host, start = Host(), time.time()
+    revision = put(proxy, "w/0", f"value {start}")
+    time.sleep(0.3)
+    stolen = host.share()
+    came = [arrived(watch, revision) for watch in all_watches]
+    return min(came) - start, max(came) - start, stolen
 
 
 def readings(all_watches, proxy):
     """From the sending of a put until one client in Python has read its event from each watch, and its reply's part of that."""
     reply, last = Took(), Took()
-    for number in range(20):
+    for number in range(PUTS):
         start = time.monotonic()
         revision = put(proxy, "w/0", f"value {number}")
         reply.add(time.monotonic() - start)
@@ -207,12 +235,15 @@ def watches(cluster, proxy):
     all_watches = [Watch(proxy.port, {"key": text64("w/"), "range_end": text64("w0")}) for _ in range(count)]
     watched(all_watches, lambda: all(w.created for w in all_watches), 60, "all watches are created")
     after = sized(proxy.process.pid)
+    for watch in all_watches:
+        watch.socket.setsockopt(socket.SOL_SOCKET, STAMPED, 1)
+    came, host = quietest(PUTS, lambda: arrival(all_watches, proxy), lambda one: one[2])
+    first, last = Took(one[0] for one in came), Took(one[1] for one in came)
     used = processor_time([proxy.process.pid])
-    first, last = arrivals(all_watches, proxy)
-    used = (processor_time([proxy.process.pid]) - used) / (20 * count) * 1e6
     reply, read = readings(all_watches, proxy)
+    used = (processor_time([proxy.process.pid]) - used) / (PUTS * count) * 1e6
     print(f"{count} equal watches, {used:.0f} us of processor a message\n"
-          f"  from a put to the last client's socket: {last.told()}\n"
+          f"  from a put to the last client's socket: {last.told()}; {host}\n"
           f"  to the first client's socket: {first.told()}\n"
           f"  until one client in Python has read all: {read.told()}\n"
           f"  until the put's reply: {reply.told()}\n"

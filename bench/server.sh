@@ -1,8 +1,10 @@
 #!/usr/bin/env bash
 # Measures a running proxy before three etcd members on loopback, side by side with nginx and with the cluster's own JSON gateway: cached
 # reads, reads passed on and puts, at 1, 16 and 64 connections; a thousand equal watches; and what an idle connection takes. Judge by the
-# processor time a request: requests a second move with what else the machine does. The members keep their data in memory where there is
-# room for it, since a disk that is busy would be measured in place of them. It ends in its marks, with status 1 where one is missed.
+# processor time a request: requests a second move with what else the machine does. Each comparison is of nine rounds, ours and theirs in
+# turn, and the round in the middle counts. On a virtual machine, a round in which the host kept the processors to itself is made again. The
+# members keep their data in memory where there is room for it, since a disk that is busy would be measured in place of them. It ends in its
+# marks, with status 1 where one is missed, after some six minutes on a quiet machine.
 #
 # usage: bash bench/server.sh [PROGRAM] [SECONDS]
 #
@@ -12,4 +14,4 @@ here=$(cd "$(dirname "$0")" && pwd)
 for name in etcd nginx wrk python3; do
     command -v "$name" > /dev/null || { echo "server: $name is wanting (apt-get install etcd-server nginx-light wrk python3)" >&2; exit 1; }
 done
-exec python3 "$here/server.py" "${1:-$here/../crates/etcd_proxy/out/etcd_proxy}" "${2:-3}"
+exec python3 "$here/server.py" "${1:-$here/../crates/etcd_proxy/out/etcd_proxy}" "${2:-2}"
