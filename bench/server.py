@@ -11,7 +11,7 @@ CONNECTIONS = (1, 16, 64)
 ROUNDS = 9
 # So many puts are followed to the watches.
 PUTS = 20
-# What the host held up for a larger share of its time is made again, up to three times as often in all.
+# A load or put in which the host of a virtual machine kept the processors for a larger share of the time is made again, up to three times as many in all.
 STOLEN, TIMES = 0.02, 3
 TICKS = os.sysconf("SC_CLK_TCK")
 KEY = text64("bench/key")
@@ -29,7 +29,7 @@ def processor_time(pids):
 
 
 class Host:
-    """From now on, the share of the time in which processors had something to do that the host kept them from it (proc(5), `steal`)."""
+    """How much the host of a virtual machine keeps the processors, from now on: its share of the time in which they had something to do (proc(5), `steal`)."""
 
     def __init__(self):
         self.wanted, self.kept = self.ticks()
@@ -46,7 +46,7 @@ class Host:
 
 
 def quietest(wanted, make, stolen):
-    """Makes as many as are wanted that the host left alone, or else takes those that it left alone most; and says how much it did."""
+    """Makes loads or puts until the host left alone as many as are wanted, or TIMES as many are made. Gives those that it disturbed least, and says how much."""
     made = []
     while len(made) < wanted * TIMES and sum(stolen(one) <= STOLEN for one in made) < wanted:
         made.append(make())
