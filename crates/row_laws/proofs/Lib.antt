@@ -1,0 +1,13 @@
+pub mod Reaching
+pub mod Stages
+pub mod Notices
+pub mod Wins
+pub mod Wrote
+pub mod PassRows
+pub mod SendRows
+pub mod EndRows
+pub mod FoundRows
+pub mod Told
+pub mod Ended
+pub mod Failed
+pub mod JobRows

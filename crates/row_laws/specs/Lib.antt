@@ -1,0 +1,5 @@
+pub mod Rows
+pub mod Laws
+pub mod Notices
+pub mod Endings
+pub mod Sendings
