@@ -1,0 +1,105 @@
+#!/usr/bin/env bash
+# What the repository asks of its documents. It prints each thing that is wrong, and ends with status 1 where there is one.
+#
+#     bash tests/documents.sh
+set -euo pipefail
+cd "$(dirname "$0")/.."
+failures=0
+
+# Runs a check, and prints each line that it prints as wrong, after the text given: refuse TEXT CHECK
+refuse() {
+    local found line
+    found=$("$2") || found+=$'\n'"the check $2 itself failed"
+    while read -r line; do
+        [ -n "$line" ] || continue
+        echo "documents: $1: $line" >&2
+        failures=$((failures + 1))
+    done <<< "$found"
+}
+
+# Like grep, but finding nothing is no failure.
+find_in() { grep "$@" || [ $? -eq 1 ]; }
+find_in_pages() { git grep --untracked -n "$@" || [ $? -eq 1 ]; }
+
+files=$(git ls-files --cached --others --exclude-standard)
+declare -A known=()
+while read -r file; do
+    while [ -z "${known[$file]-}" ]; do
+        known[$file]=1
+        [[ $file != */* ]] || file=${file%/*}
+    done
+done <<< "$files"
+exists() { [ -n "${known[${1%/}]-}" ]; }
+
+# The map is made from the crates, and each crate has its heading.
+map() { bash tests/map.sh | cmp -s - docs/MAP.md || echo "it isn't what tests/map.sh makes"; }
+
+headings() {
+    { diff <(sed -n 's/^\([a-z_0-9]*\)[ a-z_=0-9A-Z+]*:.*/\1/p' crates.txt | sort) <(sed -n 's/^### `\([a-z_0-9]*\)`$/\1/p' docs/CRATES.md | sort) || [ $? -eq 1 ]; } |
+        sed -n 's/^< /no heading for /p; s/^> /a heading for no crate, /p'
+}
+
+# README is one screen.
+screen() { [ "$(wc -l < README.md)" -le 80 ] || echo "it has more than 80 lines"; }
+
+# Phrases that are never right. What is in backticks is a name that the code has, and docs/MAP.md repeats what the crates say.
+phrases() {
+    find_in_pages -i -F -f <(grep -v -e '^#' -e '^$' tests/phrases.txt) -- '*.md' ':!docs/MAP.md' | sed 's/`[^`]*`//g' |
+        find_in -i -F -f <(grep -v -e '^#' -e '^$' tests/phrases.txt) | cut -c -160
+}
+
+# Each link to a file leads to one.
+links() {
+    local page link
+    for page in $(find_in '\.md$' <<< "$files"); do
+        while read -r link; do
+            case "$link" in '' | *://* | mailto:*) continue ;; esac
+            exists "$(realpath -m --relative-to=. "$(dirname "$page")/$link")" || echo "$page: $link"
+        done < <(find_in -o '](\([^)]*\))' "$page" | sed 's/^](//; s/)$//; s/#.*//; s/ .*//' | sort -u)
+    done
+}
+
+# Each path from the top that is named in backticks exists. One with a component in capitals means many, and what is built isn't kept.
+paths() {
+    local page path
+    for page in $(find_in '\.md$' <<< "$files"); do
+        while read -r path; do
+            [[ $path =~ (^|/)[A-Z]+(/|$) || $path = */out/* ]] || exists "$path" || echo "$page: $path"
+        done < <(find_in -o '`[^`]*`' "$page" | tr -d '`' | tr ' ' '\n' | find_in -E '^(\./)?(crates|docs|tests|bench|examples)/[A-Za-z0-9_./-]+$' |
+            sed 's|^\./||; s|[.]*$||' | sort -u)
+    done
+}
+
+# The calls and the clauses of the crates: `crate::call` and `crate::call clause`
+declared() {
+    awk '
+        FNR == 1 { call = ""; split(FILENAME, part, "/") }
+        /^ *(pub(\([a-z]*\))? )?(const )?fn [a-z_0-9]+/ { match($0, /fn [a-z_0-9]+/); call = part[2] "::" substr($0, RSTART + 3, RLENGTH - 3); print call }
+        /^ *ensures [a-z_0-9]+ \{/ && call != "" { match($0, /ensures [a-z_0-9]+/); print call " " substr($0, RSTART + 8, RLENGTH - 8) }
+    ' $(find_in '^crates/[a-z_0-9]*/src/.*\.rt$' <<< "$files")
+}
+
+# Each contract that docs/PROOFS.md cites, as `crate::call` (`clause`, ..), exists.
+contracts() {
+    local -A has=()
+    local call clauses clause
+    while read -r call; do has[$call]=1; done < <(declared)
+    while read -r call clauses; do
+        [ -n "${has[$call]-}" ] || echo "$call"
+        for clause in $clauses; do [ -n "${has[$call $clause]-}" ] || echo "$call has no clause $clause"; done
+    done < <(tr -s '\n ' ' ' < docs/PROOFS.md | find_in -oE '`[a-z_0-9]+::[a-z_0-9]+`( \(`[a-z_0-9`, ]*`\))?' | tr -d '`,()')
+}
+
+# A page stands alone: it cites nothing by a number or a place that only those who wrote it know.
+numbers='\b(paper|issue|request|demand|rule|theorem) #?[0-9]+\b|\b(P([1-9]|1[0-9]|2[0-3])|[DR]([1-9]|1[0-9]|2[01])|W([1-9]|1[0-6])|T[1-5][a-h]?|H[1-3]|K[1-8]|F(17|18|19|20))\b|/work/|/opt/rattle|\b(papers|shared|design)/'
+citations() { find_in_pages -IE "$numbers" -- '*.md' | find_in -v RFC | cut -c -160; }
+
+refuse docs/MAP.md map
+refuse docs/CRATES.md headings
+refuse README.md screen
+refuse 'a phrase of tests/phrases.txt' phrases
+refuse 'a link to no file' links
+refuse 'no such file' paths
+refuse 'docs/PROOFS.md cites no such contract' contracts
+refuse 'cited by a number or a place' citations
+[ "$failures" -eq 0 ] || exit 1
