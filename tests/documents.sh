@@ -90,12 +90,55 @@ contracts() {
     done < <(tr -s '\n ' ' ' < docs/PROOFS.md | find_in -oE '`[a-z_0-9]+::[a-z_0-9]+`( \(`[a-z_0-9`, ]*`\))?' | tr -d '`,()')
 }
 
+# Each file and each name that docs/CRATES.md gives for a crate is that crate's, or that of a crate named in the same line.
+names() {
+    awk '
+        function has_all(owner, token,   part, n, i) {
+            n = split(token, part, "::")
+            for (i = 1; i <= n; i++) if (!((owner, part[i]) in word)) return 0
+            return 1
+        }
+        function has(owner, token) {
+            if (token ~ /\//) { sub(/\/$/, "", token); return ("crates/" owner "/" token) in known }
+            if (token ~ /\.rt$/) return ("crates/" owner "/src/" token) in known
+            if (token ~ /\.antt$/) return ("crates/" owner "/specs/" token) in known
+            return has_all(owner, token)
+        }
+        # the files and folders
+        FILENAME == "-" { path = $0; while (!(path in known)) { known[path]; if (sub(/\/[^\/]*$/, "", path) == 0) break } next }
+        # the words of a crate, and the names of its files
+        FILENAME != "docs/CRATES.md" {
+            if (FNR == 1) { n = split(FILENAME, part, "/"); crate = part[2]; crates[crate]; sub(/\.[a-z]*$/, "", part[n]); word[crate, part[n]] }
+            gsub(/[^A-Za-z_0-9]+/, " ")
+            n = split($0, part, " ")
+            for (i = 1; i <= n; i++) word[crate, part[i]]
+            next
+        }
+        # an entry of a crate, with the lines that it goes on in
+        function look(   n, i, j, found) {
+            n = split(entry, part, "`")
+            for (i = 2; i <= n; i += 2) if (part[i] ~ /^[A-Za-z_0-9:.\/]+$/ && !(part[i] in crates) && part[i] !~ /^(crates|docs|tests|bench)\//) {
+                found = has(crate, part[i])
+                for (j = 2; j <= n && !found; j += 2) if (part[j] in crates) found = has(part[j], part[i])
+                if (!found) print crate " has no " part[i]
+            }
+            entry = ""
+        }
+        /^  / && entry { entry = entry " " $0; next }
+        { look() }
+        /^### / { crate = $2; gsub(/`/, "", crate) }
+        /^- (Definitions|Contracts|Proved): / { entry = $0 }
+        END { look() }
+    ' - $(find_in -E '^crates/[a-z_0-9]*/(src|specs)/.*\.(rt|antt)$' <<< "$files") docs/CRATES.md <<< "$files"
+}
+
 # A page stands alone: it cites nothing by a number or a place that only those who wrote it know.
 numbers='\b(paper|issue|request|demand|rule|theorem) #?[0-9]+\b|\b(P([1-9]|1[0-9]|2[0-3])|[DR]([1-9]|1[0-9]|2[01])|W([1-9]|1[0-6])|T[1-5][a-h]?|H[1-3]|K[1-8]|F(17|18|19|20))\b|/work/|/opt/rattle|\b(papers|shared|design)/'
 citations() { find_in_pages -IE "$numbers" -- '*.md' | find_in -v RFC | cut -c -160; }
 
 refuse docs/MAP.md map
 refuse docs/CRATES.md headings
+refuse docs/CRATES.md names
 refuse README.md screen
 refuse 'a phrase of tests/phrases.txt' phrases
 refuse 'a link to no file' links
