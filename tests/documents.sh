@@ -44,8 +44,8 @@ screen() { [ "$(wc -l < README.md)" -le 80 ] || echo "it has more than 80 lines"
 
 # Phrases that are never right. What is in backticks is a name that the code has, and docs/MAP.md repeats what the crates say.
 phrases() {
-    find_in_pages -i -F -f <(grep -v -e '^#' -e '^$' tests/phrases.txt) -- '*.md' ':!docs/MAP.md' | sed 's/`[^`]*`//g' |
-        find_in -i -F -f <(grep -v -e '^#' -e '^$' tests/phrases.txt) | cut -c -160
+    find_in_pages -i -w -F -f <(grep -v -e '^#' -e '^$' tests/phrases.txt) -- '*.md' ':!docs/MAP.md' | sed 's/`[^`]*`//g' |
+        find_in -i -w -F -f <(grep -v -e '^#' -e '^$' tests/phrases.txt) | cut -c -160
 }
 
 # Each link to a file leads to one.
@@ -59,12 +59,13 @@ links() {
     done
 }
 
-# Each path from the top that is named in backticks exists. One with a component in capitals means many, and what is built isn't kept.
+# Each path from the top that is named in backticks exists. One below another folder than docs/ with a word in capitals means many, and what is
+# built isn't kept.
 paths() {
     local page path
     for page in $(find_in '\.md$' <<< "$files"); do
         while read -r path; do
-            [[ $path =~ (^|/)[A-Z]+(/|$) || $path = */out/* ]] || exists "$path" || echo "$page: $path"
+            [[ $path != docs/* && ${path%README.md} =~ [A-Z]{3} || $path = */out/* ]] || exists "$path" || echo "$page: $path"
         done < <(find_in -o '`[^`]*`' "$page" | tr -d '`' | tr ' ' '\n' | find_in -E '^(\./)?(crates|docs|tests|bench|examples)/[A-Za-z0-9_./-]+$' |
             sed 's|^\./||; s|[.]*$||' | sort -u)
     done
