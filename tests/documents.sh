@@ -48,14 +48,26 @@ phrases() {
         find_in -i -w -F -f <(grep -v -e '^#' -e '^$' tests/phrases.txt) | cut -c -160
 }
 
-# Each link to a file leads to one.
+# The headings of the pages, as what follows # in a link to one: `page#heading`
+anchors() {
+    awk '
+        FNR == 1 { code = 0 }
+        /^```/ { code = !code }
+        !code && /^#+ / { text = tolower($0); sub(/^#+ /, "", text); gsub(/[^a-z0-9 _-]/, "", text); gsub(/ /, "-", text); print FILENAME "#" text }
+    ' $(find_in '\.md$' <<< "$files")
+}
+
+# Each link to a file leads to one, and each to a heading of a page to one of its headings.
 links() {
-    local page link
+    local -A has=()
+    local page link to
+    while read -r link; do has[$link]=1; done < <(anchors)
     for page in $(find_in '\.md$' <<< "$files"); do
         while read -r link; do
             case "$link" in '' | *://* | mailto:*) continue ;; esac
-            exists "$(realpath -m --relative-to=. "$(dirname "$page")/$link")" || echo "$page: $link"
-        done < <(find_in -o '](\([^)]*\))' "$page" | sed 's/^](//; s/)$//; s/#.*//; s/ .*//' | sort -u)
+            case "$link" in '#'*) to=$page ;; *) to=$(realpath -m --relative-to=. "$(dirname "$page")/${link%%#*}") ;; esac
+            exists "$to" && { [[ $link != *#* ]] || [ -n "${has[$to#${link#*#}]-}" ]; } || echo "$page: $link"
+        done < <(find_in -oE '\]\([^)]*\)' "$page" | sed 's/^](//; s/)$//; s/ .*//' | sort -u)
     done
 }
 
@@ -142,7 +154,7 @@ refuse docs/CRATES.md headings
 refuse docs/CRATES.md names
 refuse README.md screen
 refuse 'a phrase of tests/phrases.txt' phrases
-refuse 'a link to no file' links
+refuse 'a link to nothing' links
 refuse 'no such file' paths
 refuse 'docs/PROOFS.md cites no such contract' contracts
 refuse 'cited by a number or a place' citations
