@@ -71,16 +71,34 @@ links() {
     done
 }
 
-# Each path from the top that is named in backticks exists. One below another folder than docs/ with a word in capitals means many, and what is
-# built isn't kept.
+# Each path that is named in backticks exists: from the top, or below crates/. One with a word in capitals outside docs/ means many, and what is built
+# isn't kept.
 paths() {
     local page path
     for page in $(find_in '\.md$' <<< "$files"); do
         while read -r path; do
-            [[ $path != docs/* && ${path%README.md} =~ [A-Z]{3} || $path = */out/* ]] || exists "$path" || echo "$page: $path"
-        done < <(find_in -o '`[^`]*`' "$page" | tr -d '`' | tr ' ' '\n' | find_in -E '^(\./)?(crates|docs|tests|bench|examples)/[A-Za-z0-9_./-]+$' |
-            sed 's|^\./||; s|[.]*$||' | sort -u)
+            [[ $path != docs/* && ${path%README.md} =~ [A-Z]{3} || $path = */out/* ]] || exists "$path" || exists "crates/$path" || echo "$page: $path"
+        done < <(find_in -o '`[^`]*`' "$page" | tr -d '`' | tr ' ' '\n' |
+            find_in -E '^(\./)?((crates|docs|tests|bench|examples|tools)|[a-z_0-9]+/(src|specs|proofs|must-fail))/[A-Za-z0-9_./-]+$' | sed 's|^\./||; s|[.]*$||' | sort -u)
     done
+}
+
+# Each constant of the table of limits is in the file that is named after it.
+limits() {
+    local row token name names
+    while read -r row; do
+        names=
+        for token in $row; do
+            case "$token" in
+                */*.rt | */*.antt)
+                    for name in $names; do grep -q -s -w -e "$name" "crates/$token" || echo "crates/$token has no $name"; done
+                    names=
+                    ;;
+                *) names+=" $token" ;;
+            esac
+        done
+    done < <(sed -n '/^## Limits/,/^## [^L]/p' docs/OPERATIONS.md | sed -n 's/^|.*| \(`.*\) | [^|]* |$/\1/p' |
+        while read -r row; do find_in -oE '`([a-z_0-9]+/(src|specs)/[A-Za-z_/0-9]+\.(rt|antt)|[A-Za-z_]+)`' <<< "$row" | tr -d '`' | tr '\n' ' '; echo; done)
 }
 
 # The calls and the clauses of the crates: `crate::call` and `crate::call clause`
@@ -156,6 +174,7 @@ refuse README.md screen
 refuse 'a phrase of tests/phrases.txt' phrases
 refuse 'a link to nothing' links
 refuse 'no such file' paths
+refuse docs/OPERATIONS.md limits
 refuse 'docs/PROOFS.md cites no such contract' contracts
 refuse 'cited by a number or a place' citations
 [ "$failures" -eq 0 ] || exit 1
