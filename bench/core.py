@@ -88,7 +88,7 @@ class Proxy:
     def cost(self, lines):
         """What the program takes over what stands and these lines: its processor time in ns, the least of several tries, or its instructions."""
         with tempfile.TemporaryFile("w+") as script:
-            script.write("".join(line + "\n" for line in self.lines + lines))
+            script.write("".join(line + "\n" for line in ["table proxies", *self.lines, *lines]))
             if UNIT == "instructions":
                 return instructions(script)
             took = []
@@ -120,7 +120,7 @@ class Proxy:
         """The program's bytes in use once it did all this."""
         with subprocess.Popen([PROGRAM], stdin=subprocess.PIPE, stdout=subprocess.PIPE, stderr=subprocess.DEVNULL, text=True) as program:
             # an outcome that differs is told, so one that can't be asks for it
-            program.stdin.write("".join(line + "\n" for line in [*self.lines, "due", "= ?"]))
+            program.stdin.write("".join(line + "\n" for line in ["table proxies", *self.lines, "due", "= ?"]))
             program.stdin.flush()
             program.stdout.readline()
             program.stdout.readline()

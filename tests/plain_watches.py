@@ -1,5 +1,5 @@
 """Shared watches by their rules as plain lists: every look-up goes over the whole list, and every queue has its own events. What
-a call tells is spelled as the program `watch_trial` spells it; `random_watches.py` draws calls. Each rule stands where it is used;
+a call tells is spelled as the program `core_trial` spells it; `random_watches.py` draws calls. Each rule stands where it is used;
 the definitions in crates/watch_model/specs state the same rules, one file each.
 """
 from dataclasses import dataclass, field
@@ -99,7 +99,7 @@ class Watch:
 
 
 class Watches:
-    """The streams and watches of one proxy. Each call tells what comes of it as `watch_trial` does."""
+    """The streams and watches of one proxy. Each call tells what comes of it as `core_trial` does."""
 
     def __init__(self, cases):
         self.streams = []  # by rising numbers

@@ -1,5 +1,5 @@
 #!/usr/bin/env python3
-"""Random steps on shared watches, each with what is to come of it by `plain_watches.py`, as the program `watch_trial` reads them.
+"""Random steps on shared watches, each with what is to come of it by `plain_watches.py`, as the program `core_trial` reads them.
 
     python3 random_watches.py [--seed N] [--steps N] [--shape NAME] [--counts] > STEPS
 
@@ -22,7 +22,7 @@ def put_text(key, value, create, modified, version, lease):
 
 
 def made_up_put(revision):
-    """The put of `a` that the step `puts` makes at this revision, by `watch_trial`'s own store."""
+    """The put of `a` that the step `puts` makes at this revision, by `core_trial`'s own store."""
     before = revision - (1 if revision % 3 == 1 else 2)
     return Event(
         revision,
@@ -389,6 +389,7 @@ def main():
             print(f"{step}\n= {answer}")
 
     draw, shape = random.Random(f"{asked.shape} {asked.seed}"), SHAPES[asked.shape]
+    print("table watches")
     life = None
     for step in range(asked.steps):
         if step % shape.length == 0:

@@ -1,6 +1,6 @@
 #!/bin/sh
 # Random steps on shared watches, each beside what a plain definition says of it: a quarter of them of each of four shapes, by seeds of
-# their own. It is no part of the gate, as `random.sh` isn't. PROGRAM is the proved `crates/watch_trial/out/watch_trial`.
+# their own. It is no part of the gate, as `random.sh` isn't. PROGRAM is the proved `crates/core_trial/out/core_trial`.
 # Usage: tests/watches.sh PROGRAM [STEPS [SEED]]
 set -eu
 program=$1
@@ -17,7 +17,7 @@ for shape in even crowded slow torn; do
     "$program" < "$work/steps" > "$work/told" || echo "status $?" >> "$work/told"
     told=$(tail -n 1 "$work/told")
     echo "$shape, seed $seed: $told"
-    if [ "$wanted" -eq 0 ] || [ "$told" != "$wanted answers, 0 differ" ]; then
+    if [ "$wanted" -eq 0 ] || [ "$told" != "watches: $wanted outcomes, 0 differ" ]; then
         head -n 4 "$work/told" | cut -c 1-300 >&2
         failures=$((failures + 1))
     fi

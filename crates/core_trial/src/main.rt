@@ -1,47 +1,89 @@
-//! A table of events of one proxy, and of what comes of each.
+//! Tables of steps on the machine of one proxy and on two of its parts, and of what comes of each.
 //!
-//! The standard input has steps, one a line. A line `= OUTCOME` behind a step says what is to come of it. A step is
+//! The standard input has tables, each after a line `table NAME`: steps, one a line. A line `= OUTCOME` below a step says what is to
+//! come of it. Each outcome that differs is printed, and of each table the number of its outcomes and of those that differ.
 //!
+//! `proxies`, events of one proxy:
 //! - `new MEMBERS NAMESPACE LEASING TTL`, which begins anew, with the clock at 0; `at NOW`, by which the clock goes on;
 //! - `ask TICKET WORD REQUEST`, `take TICKET`, `leave TICKET`: what clients do; `tick WORD`, `work`;
 //! - `answer CALL ANSWER`, `lost CALL`, `item STREAM MESSAGE`, `cut STREAM`: what comes of calls and streams;
-//! - `ready`: the least ticket whose reply stands, or `none`; `peek KEY`: the value held of it, or `none`; `due`: whether a job
+//! - `ready`: the least ticket whose reply is there, or `none`; `peek KEY`: the value held of it, or `none`; `due`: whether a job
 //!   is due, `yes` or `no`;
-//! - `do EVENT`, which happens and is told nothing of; `read EVENT`, which doesn't happen: what one takes longer than the other
+//! - `do EVENT`, which happens and nothing of it is shown; `read EVENT`, which doesn't happen: what one takes longer than the other
 //!   is the time of the step.
-//!
 //! An outcome is `replied ANSWER`, `waiting`, `pending`, `item MESSAGE`, `noted`, `call CALL MEMBER TICKET REQUEST`,
-//! `begin STREAM MEMBER REQUEST`, `close STREAM`, `nothing` where no job is due, or a fault's text. Each outcome that differs
-//! is printed, and at the end the number of outcomes and of those that differ.
+//! `begin STREAM MEMBER REQUEST`, `close STREAM`, `nothing` where no job is due, or a fault's text.
+//!
+//! `writes`, the waiting writes of a proxy and its lease table:
+//! - `new`, which begins anew, with the leasing prefix `L/`;
+//! - `hold KEY CREATE`: the key is held from here on, with an ownership key of this create revision and no record;
+//! - `step NUMBER`: what becomes due from here on became due at this step;
+//! - `ask TICKET REQUEST`, which hands a write in; `go`, by which waiting writes go on;
+//! - `send CALL`, which sends the first due job under this number: its kind and its ticket, or `nothing`;
+//! - `answer CALL SESSION NOW ANSWER`, under the live session of this number (0: none): `nothing`, `reply TICKET`, or `shape`;
+//! - `lose CALL`: `nothing` or `failed TICKET`; `end`, by which the session ends; `give`, by which each key is given up;
+//! - `entry KEY`: its create revision and phase, or `none`; `quiet KEY`: the moment before which it isn't acquired;
+//! - `since`: since which step the first due call of a write is due, or `none`.
+//!
+//! `watches`, calls on shared watches:
+//! - `seen HEADER`, which begins anew where the highest header delivered is this one; `begin STEP`, after which all that becomes due is
+//!   due since this step; `number`, which takes a stream number for another stream;
+//! - `ask TICKET WATCH`, `send`, `item STREAM ITEM`, `cut STREAM`, `take TICKET`, `split TICKET NEXT`, `leave TICKET`;
+//! - `puts STREAM REVISION COUNT`: as many messages with a put of `a` each, from this revision on; `takes TICKET COUNT`: as many takes, of
+//!   which the last is shown;
+//! - `random SEED STEPS`: as many calls in a random order on watches of a made-up store, after which all that is due is sent, pushed
+//!   and taken: how many items were not what the store's puts say, how many watches haven't had all of them, and whether there were as
+//!   many items as a tenth of the steps.
 #![tactic(auto)]
 
+mod draw;
 mod events;
+mod proxies;
 mod proxy;
+mod random;
+mod store;
+mod tables;
+mod taker;
 mod told;
-mod trial;
+mod watches;
+mod writes;
 
-use crate::trial::Trial;
-use proxy_core::Core;
+use crate::tables::{Table, Tables};
 use table_rows::Wrong;
 
 fn main(rt: HostRuntime) -> Result<(), Wrong> {
     let alloc = rt.alloc();
-    let mut trial: Trial<Core> = Trial::new(alloc)?;
+    let mut tables = Tables::new(alloc)?;
+    let mut table: Option<Table> = None;
     let mut outcomes = 0u64;
     let mut differing = 0u64;
     for line in rt.lines(alloc) {
         let line = line?;
         let line = line.as_str();
-        if let Some(wanted) = line.strip_prefix("= ") {
-            outcomes = outcomes.saturating_add(1);
-            if trial.told() != wanted {
-                differing = differing.saturating_add(1);
-                println!(rt; "wanted {wanted}\ncame   {}", trial.told())?;
+        if let Some(name) = line.strip_prefix("table ") {
+            if let Some(last) = table {
+                println!(rt; "{}: {outcomes} outcomes, {differing} differ", last.name())?;
             }
+            table = Some(Table::named(name)?);
+            outcomes = 0;
+            differing = 0;
         } else if !line.is_empty() && !line.starts_with("#") {
-            trial.step(line)?;
+            let table = table.ok_or(Wrong::Word)?;
+            match line.strip_prefix("= ") {
+                None => tables.step(table, line)?,
+                Some(wanted) => {
+                    outcomes = outcomes.saturating_add(1);
+                    let came = tables.told(table);
+                    if came != wanted {
+                        differing = differing.saturating_add(1);
+                        println!(rt; "wanted {wanted}\ncame   {came}")?;
+                    }
+                }
+            }
         }
     }
-    println!(rt; "{outcomes} outcomes, {differing} differ")?;
+    if let Some(last) = table {
+        println!(rt; "{}: {outcomes} outcomes, {differing} differ", last.name())?;
+    }
     Ok(())
 }

@@ -14,16 +14,16 @@ const MOST_NUMBERS: u64 = 1_000_000;
 
 /// Watches, and what came of the last step that was tried on them.
 #[derive(Drop)]
-pub struct Trial {
+pub struct Watches {
     alloc: Global,
     watches: Broadcasts,
     last: Header,
     told: String,
 }
 
-impl Trial {
-    pub fn new(alloc: Global) -> Trial {
-        Trial {
+impl Watches {
+    pub fn new(alloc: Global) -> Watches {
+        Watches {
             alloc,
             watches: Broadcasts::new(alloc),
             last: Header {

@@ -7,17 +7,17 @@ use text_words::{Words, is_word, read_bytes, read_number};
 
 /// A proxy with its clock, and what came of the last step that was tried on it.
 #[derive(Drop)]
-pub struct Trial<P: Proxy> {
+pub struct Proxies<P: Proxy> {
     alloc: Global,
     proxy: P,
     now: u64,
     told: String,
 }
 
-impl<P: Proxy> Trial<P> {
-    pub fn new(alloc: Global) -> Result<Trial<P>, Wrong> {
+impl<P: Proxy> Proxies<P> {
+    pub fn new(alloc: Global) -> Result<Proxies<P>, Wrong> {
         let mut words = Words::of(b' ', b"1 ~ ~ 60");
-        Ok(Trial {
+        Ok(Proxies {
             alloc,
             proxy: P::started(alloc, settings(alloc, &mut words)?)?,
             now: 0,

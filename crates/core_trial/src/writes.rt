@@ -10,16 +10,16 @@ use text_words::{Words, is_word, read_bytes, read_number};
 
 /// Waiting writes and a lease table, and what came of the last step that was tried on them.
 #[derive(Drop)]
-pub struct Trial {
+pub struct Writes {
     alloc: Global,
     waits: Waits,
     table: LeaseTable,
     told: String,
 }
 
-impl Trial {
-    pub fn new(alloc: Global) -> Result<Trial, Wrong> {
-        Ok(Trial {
+impl Writes {
+    pub fn new(alloc: Global) -> Result<Writes, Wrong> {
+        Ok(Writes {
             alloc,
             waits: Waits::new(alloc, Bytes::from_slice(alloc, b"L/")?),
             table: LeaseTable::new(alloc),

@@ -9,16 +9,16 @@ use watch_resume::Upstream;
 
 /// A session, members and a stream.
 #[derive(Drop)]
-pub struct Trial {
+pub struct SmallParts {
     alloc: Global,
     session: Session,
     members: Members,
     stream: Upstream,
 }
 
-impl Trial {
-    pub fn new(alloc: Global) -> Result<Trial, Wrong> {
-        Ok(Trial {
+impl SmallParts {
+    pub fn new(alloc: Global) -> Result<SmallParts, Wrong> {
+        Ok(SmallParts {
             alloc,
             session: Session::start(0, 0),
             members: Members::new(1),

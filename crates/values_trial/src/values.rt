@@ -6,16 +6,16 @@ use table_rows::{Wrong, parts, read_text};
 
 /// The values that the rows so far have named.
 #[derive(Drop)]
-pub struct Trial {
+pub struct Values {
     requests: List<Request>,
     answers: List<Answer>,
     items: List<WatchItem>,
     alloc: Global,
 }
 
-impl Trial {
-    pub fn new(alloc: Global) -> Trial {
-        Trial {
+impl Values {
+    pub fn new(alloc: Global) -> Values {
+        Values {
             requests: List::new(alloc),
             answers: List::new(alloc),
             items: List::new(alloc),

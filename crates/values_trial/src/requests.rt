@@ -1,4 +1,4 @@
-use crate::told::told;
+use crate::request_texts::told;
 use api_request::{decode_call, decode_request, encode_request};
 use etcd_types::Request;
 use std::alloc::Global;

@@ -1,4 +1,4 @@
-use crate::told::{joined, told, written};
+use crate::reply_texts::{joined, told, written};
 use api_reply::{decode_item, decode_reply, encode_item, encode_reply};
 use etcd_types::{Answer, Bytes, Request, WatchItem};
 use std::alloc::Global;
@@ -10,14 +10,14 @@ const MOST_STATUS: u64 = 999;
 
 /// Tries rows, where the replies are to the request that was asked last.
 #[derive(Debug, Drop)]
-pub struct Trial {
+pub struct Replies {
     alloc: Global,
     request: Request,
 }
 
-impl Trial {
-    pub fn new(alloc: Global) -> Trial {
-        Trial {
+impl Replies {
+    pub fn new(alloc: Global) -> Replies {
+        Replies {
             alloc,
             request: Request::Leases,
         }
