@@ -71,8 +71,8 @@ links() {
     done
 }
 
-# Each path that is named in backticks exists: from the top, or below crates/. One with a word in capitals outside docs/ means many, and what is built
-# isn't kept.
+# Each path that is named in backticks exists: from the top, or below crates/. One with a word in capitals outside docs/ means many, and
+# what is built isn't kept.
 paths() {
     local page path
     for page in $(find_in '\.md$' <<< "$files"); do
@@ -88,17 +88,16 @@ limits() {
     local row token name names
     while read -r row; do
         names=
-        for token in $row; do
+        for token in $(find_in -oE '`([a-z_0-9]+/(src|specs)/[A-Za-z_/0-9]+\.(rt|antt)|[A-Za-z_]+)`' <<< "$row" | tr -d '`'); do
             case "$token" in
-                */*.rt | */*.antt)
+                */*)
                     for name in $names; do grep -q -s -w -e "$name" "crates/$token" || echo "crates/$token has no $name"; done
                     names=
                     ;;
                 *) names+=" $token" ;;
             esac
         done
-    done < <(sed -n '/^## Limits/,/^## [^L]/p' docs/OPERATIONS.md | sed -n 's/^|.*| \(`.*\) | [^|]* |$/\1/p' |
-        while read -r row; do find_in -oE '`([a-z_0-9]+/(src|specs)/[A-Za-z_/0-9]+\.(rt|antt)|[A-Za-z_]+)`' <<< "$row" | tr -d '`' | tr '\n' ' '; echo; done)
+    done < <(sed -n '/^## Limits/,/^## [^L]/s/^|.*| \(`.*\) | [^|]* |$/\1/p' docs/OPERATIONS.md)
 }
 
 # The calls and the clauses of the crates: `crate::call` and `crate::call clause`
@@ -121,7 +120,7 @@ contracts() {
     done < <(tr -s '\n ' ' ' < docs/PROOFS.md | find_in -oE '`[a-z_0-9]+::[a-z_0-9]+`( \(`[a-z_0-9`, ]*`\))?' | tr -d '`,()')
 }
 
-# Each file and each name that docs/CRATES.md gives for a crate is that crate's, or that of a crate named in the same line.
+# Each file and each name that docs/CRATES.md gives for a crate is that crate's, or that of a crate named in the same entry.
 names() {
     awk '
         function has_all(owner, token,   part, n, i) {
@@ -136,7 +135,7 @@ names() {
             return has_all(owner, token)
         }
         # the files and folders
-        FILENAME == "-" { path = $0; while (!(path in known)) { known[path]; if (sub(/\/[^\/]*$/, "", path) == 0) break } next }
+        NR == FNR { path = $0; while (!(path in known)) { known[path]; if (sub(/\/[^\/]*$/, "", path) == 0) break } next }
         # the words of a crate, and the names of its files
         FILENAME != "docs/CRATES.md" {
             if (FNR == 1) { n = split(FILENAME, part, "/"); crate = part[2]; crates[crate]; sub(/\.[a-z]*$/, "", part[n]); word[crate, part[n]] }
