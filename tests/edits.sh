@@ -7,7 +7,7 @@
 #     bash tests/edits.sh CRATE ..   # of these alone
 set -euo pipefail
 top=$(cd "$(dirname "$0")/.." && pwd)
-[ $# -gt 0 ] || set -- $(ls "$top/tests/edits")
+[ $# -gt 0 ] || set -- $(cd "$top/tests/edits" && printf '%s\n' */ | tr -d /)
 work=$(mktemp -d)
 trap 'rm -rf "$work"' EXIT
 mkdir "$work/.git" "$work/crates"
