@@ -11,8 +11,8 @@ use Rattle.etcd_types.specs.declared.key_range.KeyRange.{KeyRange}
 use Rattle.etcd_types.specs.declared.request.Request.{Request}
 use Rattle.etcd_types.specs.declared.request.Request.TheVariants as request
 use Rattle.etcd_types.specs.Keys.{is_empty}
-use Rattle.etcd_types.specs.Ranges.{contains, overlaps}
-use Rattle.etcd_types.proofs.Bools.{and_both, or_none, or_first, or_second, false_not}
+use Rattle.etcd_types.specs.Ranges.{is_one, contains, overlaps}
+use Rattle.etcd_types.proofs.Bools.{and_first, and_both, or_none, or_first, or_second, false_not}
 use Rattle.store_model.specs.LeftRecords.{is_flat}
 use Rattle.store_model.specs.Leaves.{all_leaves}
 use Rattle.store_model.specs.Refusals.{key_not_provided, too_many_operations}
@@ -161,18 +161,18 @@ served_writes_may_be_sent p (request.Watch ask) created named w e guards unlease
 
 pub told_ops_are_the_writes : ToldOpsAreTheWrites
 told_ops_are_the_writes p (request.Put ask) b single = refl
-told_ops_are_the_writes p (request.Delete ask) b single = ap (map (delete_part ask.prev_kv)) (ap (λ (o : Bool). cond (o || not (overlaps ask.range (leasing_range p))) (ask.range ∷ []) (part_before p ask.range ++ part_behind (prefix_end p) ask.range)) single)
+told_ops_are_the_writes p (request.Delete ask) b single = ap (map (delete_part ask.prev_kv)) (ap (λ (o : Bool). cond (o || not (overlaps ask.range (leasing_range p))) (ask.range ∷ []) (part_before p ask.range ++ part_behind (prefix_end p) ask.range)) (and_first (is_one ask.range) true single))
 told_ops_are_the_writes p (request.Txn t) b single = by (branch_of b)
   where
     by : (o : Option (Bool × List Body)) → told_branch t o ≡ branch t.success t.failure o
     by None = refl
     by (Some (true, bodies)) = refl
     by (Some (false, bodies)) = refl
-told_ops_are_the_writes p (request.Range ask) b single = absurd (cc)
-told_ops_are_the_writes p (request.Compact revision physical) b single = absurd (cc)
-told_ops_are_the_writes p (request.Grant ttl lease) b single = absurd (cc)
-told_ops_are_the_writes p (request.Revoke lease) b single = absurd (cc)
-told_ops_are_the_writes p (request.KeepAlive lease) b single = absurd (cc)
-told_ops_are_the_writes p (request.TimeToLive lease keys) b single = absurd (cc)
-told_ops_are_the_writes p request.Leases b single = absurd (cc)
-told_ops_are_the_writes p (request.Watch ask) b single = absurd (cc)
+told_ops_are_the_writes p (request.Range ask) b single = refl
+told_ops_are_the_writes p (request.Compact revision physical) b single = refl
+told_ops_are_the_writes p (request.Grant ttl lease) b single = refl
+told_ops_are_the_writes p (request.Revoke lease) b single = refl
+told_ops_are_the_writes p (request.KeepAlive lease) b single = refl
+told_ops_are_the_writes p (request.TimeToLive lease keys) b single = refl
+told_ops_are_the_writes p request.Leases b single = refl
+told_ops_are_the_writes p (request.Watch ask) b single = refl

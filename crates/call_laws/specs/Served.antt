@@ -3,11 +3,14 @@
 use Rattle.std.specs.Prelude.{◌≡◌, ◌≢◌, ℕ, true, false, List, None}
 use Rattle.etcd_types.specs.declared.answer.Body.{Body}
 use Rattle.etcd_types.specs.declared.request.Request.{Request}
+use Rattle.std.specs.List.{list_all}
 use Rattle.etcd_types.specs.Keys.{is_empty}
+use Rattle.etcd_types.specs.Ranges.{is_one}
 use Rattle.proxy_model.specs.Guarded.{IsWrite}
+use Rattle.proxy_model.specs.SeveralKeys.{written_ranges}
 use Rattle.wait_model.specs.Operations.{operations}
 use Rattle.core_model.specs.Refusals.{refusal_of}
-use Rattle.guard_laws.specs.Covers.{AreGuards, is_single}
+use Rattle.guard_laws.specs.Covers.{AreGuards}
 use Rattle.store_moves.specs.CallSteps.{is_unleased}
 use Rattle.store_moves.specs.ToldAnswers.{told_ops}
 use Rattle.call_laws.specs.Forms.{MayWrite}
@@ -18,4 +21,4 @@ ServedWritesMayBeSent =
     → ((k : List ℕ) → created k ≢ 0 → is_unleased k write ≡ true) → MayWrite p write created
 
 abbrev pub ToldOpsAreTheWrites : Type 0
-ToldOpsAreTheWrites = (p : List ℕ) (write : Request) (b : Body) → is_single write ≡ true → told_ops p write b ≡ operations write b
+ToldOpsAreTheWrites = (p : List ℕ) (write : Request) (b : Body) → list_all is_one (written_ranges write) ≡ true → told_ops p write b ≡ operations write b
