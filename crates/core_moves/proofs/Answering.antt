@@ -19,7 +19,8 @@ use Rattle.core_moves.specs.Answers.{form_of_job, HasAnswer, SeatCalls, Hears, M
 use Rattle.core_moves.specs.Losses.{AwaitsIt}
 use Rattle.core_moves.specs.Sees.{ground_in, Sees, Moves}
 use Rattle.core_moves.proofs.Clocks.{stays_so}
-use Rattle.core_moves.proofs.Terms.{HasNumber, seat_is_live}
+use Rattle.core_moves.specs.Terms.{HasNumber}
+use Rattle.core_moves.proofs.Terms.{seat_is_live}
 use Rattle.core_moves.proofs.Granting.{grant_moves, keep_moves}
 use Rattle.core_moves.proofs.Acquiring.{acquire_moves}
 use Rattle.core_moves.proofs.Settling.{wait_moves}

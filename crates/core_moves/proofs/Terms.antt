@@ -23,6 +23,7 @@ use Rattle.lease_moves.specs.Sessions.{Begins, session_begun, Renews, session_re
 use Rattle.lease_moves.proofs.SessionProofs.{begins_keep, renews_keep}
 use Rattle.row_laws.specs.Rows.{phase_of, row_of}
 use Rattle.row_laws.specs.Laws.{IsLive}
+use Rattle.core_moves.specs.Terms.{HasNumber}
 use Rattle.core_moves.specs.Sees.{term_by, term_of, ground_in, Sees, Moves}
 use Rattle.core_moves.proofs.Clocks.{put_here, put_there}
 
@@ -35,10 +36,6 @@ live_of number now (Some x) n e = by (nat_lt now x.deadline) e
     by : (b : Bool) → number_if b number ≡ Some n → (cond b number 0 ≡ n) × (number ≡ n) × (number ≡ n)
     by true e = let m = ap (λ (o : Option ℕ). unwrap_or o 0) e in (m, m, m)
     by false e = absurd (cc)
-
-abbrev pub HasNumber : Option Seat → Type 0
-HasNumber None = Unit {0}
-HasNumber (Some s) = s.session.number ≢ 0
 
 pub seat_is_live : (v : View) (p now : ℕ) (own : ℕ → ℕ) (c : Core) → HasNumber c.seat → Sees v p now own c → IsLive v p (live_number c.seat now)
 seat_is_live v p now own c some s = by c.seat some ((λ i. live_by (s.clock i) (s.term i))) s.term
