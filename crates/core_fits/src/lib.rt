@@ -1,0 +1,23 @@
+//! What holds of one proxy beside that its parts agree, and that each step keeps it.
+#![tactic(auto)]
+
+ghost use Rattle.core_fits.specs.Fits.{AreServed, ReadsAlone, WritesAreAsked, SeatHasItsJob, IsOfLeasing, HeaderIsSeen, NoneIsReplied, CoreFits};
+ghost use Rattle.core_fits.specs.Laws.{Starts, Lasts, SeatIsCalled, StreamIsOfLeasing};
+
+/// What waits to be answered is served: no request that is refused is kept, nor is its write.
+pub fn requests_are_served()
+    ensures starts { Starts AreServed }
+    ensures steps { Lasts AreServed }
+{}
+
+/// Only plain reads outside the leasing range wait for an acquire or for an owner write.
+pub fn reads_wait_alone()
+    ensures starts { Starts ReadsAlone }
+    ensures steps { Lasts ReadsAlone }
+{}
+
+/// A request and a write of one ticket are the same request.
+pub fn writes_are_asked()
+    ensures starts { Starts WritesAreAsked }
+    ensures steps { Lasts WritesAreAsked }
+{}
