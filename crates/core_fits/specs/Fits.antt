@@ -1,16 +1,11 @@
 -- What holds of one proxy beside that its parts agree: of its requests and writes, of the call of its session, of its leasing
 -- stream, and of the cached header.
-use Rattle.std.specs.Prelude.{◌≡◌, ℕ, Bool, true, false, not, if◌then◌else◌, List, [], ◌∷◌, Option, None, Some}
+use Rattle.std.specs.Prelude.{◌≡◌, ℕ, Bool, true, false, List, [], ◌∷◌, Option, None, Some}
 use Rattle.etcd_types.specs.declared.request.Request.{Request}
-use Rattle.proxy_model.specs.declared.session.Standing.{Standing}
-use Rattle.proxy_model.specs.Keyed.{at}
-use Rattle.proxy_model.specs.LeaseTable.{is_writing}
 use Rattle.proxy_model.specs.Prefixes.{leasing_range}
 use Rattle.proxy_model.specs.Session.{Session}
 use Rattle.wait_model.specs.declared.sending.Sending.{Sending}
 use Rattle.wait_model.specs.declared.write.Write.{Write}
-use Rattle.wait_model.specs.Covers.{covers, leased}
-use Rattle.wait_model.specs.State.{Ownership}
 use Rattle.read_model.specs.declared.asked.Asked.{Asked}
 use Rattle.read_model.specs.declared.asked.Stage.{Stage}
 use Rattle.read_model.specs.declared.asked.Stage.TheVariants as stage
@@ -56,16 +51,6 @@ IsSame a w = w.ticket ≡ a.ticket → w.request ≡ a.request
 abbrev pub WritesAreAsked : Core → Type 0
 WritesAreAsked c = EachOf (λ a. EachOf (IsSame a) c.own.waits.writes) c.asks
 
--- Entries that are being written.
-
--- the first write over the key doesn't put it with a lease
-abbrev pub unleased_over : List ℕ → List Write → Bool
-unleased_over k [] = true
-unleased_over k (w ∷ ws) = if covers w k then not (leased w.request k) else unleased_over k ws
-
-abbrev pub OwnersPutUnleased : Ownership → Type 0
-OwnersPutUnleased own = (k : List ℕ) → is_writing (at own.entries k) ≡ true → unleased_over k own.waits.writes ≡ true
-
 -- The session's call.
 
 -- where this call is the session's, it is its grant or its keepalive, under its own number
@@ -94,7 +79,6 @@ pub record CoreFits (c : Core) : Type 0 where
   pub served : AreServed c
   pub read : ReadsAlone c
   pub write : WritesAreAsked c
-  pub unleased : OwnersPutUnleased c.own
   pub seat_job : SeatHasItsJob c.seat c.out
   pub range : IsOfLeasing c.own.waits.prefix c.leasing
   pub header : HeaderIsSeen c

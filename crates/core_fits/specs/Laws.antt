@@ -10,7 +10,7 @@ use Rattle.core_model.specs.State.{Core, first_core}
 use Rattle.core_model.specs.Step.{is_worn, stepped}
 use Rattle.core_model.specs.Takes.{ready}
 use Rattle.core_laws.specs.Kept.{Timed, ran, AllHeard}
-use Rattle.core_fits.specs.Fits.{AreServed, ReadsAlone, WritesAreAsked, OwnersPutUnleased, SeatHasItsJob, IsOfLeasing, HeaderIsSeen, NoneIsReplied, CoreFits}
+use Rattle.core_fits.specs.Fits.{AreServed, ReadsAlone, WritesAreAsked, SeatHasItsJob, IsOfLeasing, HeaderIsSeen, NoneIsReplied, CoreFits}
 
 -- it holds of each proxy at its start
 abbrev pub Starts : (Core → Type 0) → Type 0
@@ -19,9 +19,6 @@ Starts P = (settings : Settings) → P (first_core settings)
 -- where it holds of a proxy whose parts agree, it holds after each step
 abbrev pub Lasts : (Core → Type 0) → Type 0
 Lasts P = (c : Core) (e : CoreEvent) (now : ℕ) → CoreOk c → P c → P (stepped c e now).core
-
-abbrev pub PutsUnleased : Core → Type 0
-PutsUnleased c = OwnersPutUnleased c.own
 
 abbrev pub SeatIsCalled : Core → Type 0
 SeatIsCalled c = SeatHasItsJob c.seat c.out
