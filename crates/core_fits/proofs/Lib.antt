@@ -6,3 +6,6 @@ pub mod CoreRows
 pub mod Prefix
 pub mod Served
 pub mod Same
+pub mod Openings
+pub mod Seats
+pub mod Headers

@@ -3,6 +3,7 @@
 use Rattle.std.specs.Prelude.{◌≡◌, ℕ, Bool, true, false, List, [], ◌∷◌, Option, None, Some}
 use Rattle.etcd_types.specs.declared.request.Request.{Request}
 use Rattle.proxy_model.specs.Prefixes.{leasing_range}
+use Rattle.proxy_model.specs.RequestRefusals.{is_session}
 use Rattle.proxy_model.specs.Session.{Session}
 use Rattle.wait_model.specs.declared.sending.Sending.{Sending}
 use Rattle.wait_model.specs.declared.write.Write.{Write}
@@ -61,6 +62,11 @@ abbrev pub SeatHasItsJob : Option Seat → List OutCall → Type 0
 SeatHasItsJob None out = Unit {0}
 SeatHasItsJob (Some s) out = EachOf (IsSeatsCall s.session s.call) out
 
+-- its number is one of those that are kept for sessions
+abbrev pub SeatIsNumbered : Option Seat → Type 0
+SeatIsNumbered None = Unit {0}
+SeatIsNumbered (Some s) = is_session s.session.number ≡ true
+
 -- The leasing stream: it is of the ownership keys.
 abbrev pub IsOfLeasing : List ℕ → Option Opening → Type 0
 IsOfLeasing prefix None = Unit {0}
@@ -80,5 +86,6 @@ pub record CoreFits (c : Core) : Type 0 where
   pub read : ReadsAlone c
   pub write : WritesAreAsked c
   pub seat_job : SeatHasItsJob c.seat c.out
+  pub numbered : SeatIsNumbered c.seat
   pub range : IsOfLeasing c.own.waits.prefix c.leasing
   pub header : HeaderIsSeen c

@@ -10,7 +10,7 @@ use Rattle.core_model.specs.State.{Core, first_core}
 use Rattle.core_model.specs.Step.{is_worn, stepped}
 use Rattle.core_model.specs.Takes.{ready}
 use Rattle.core_laws.specs.Kept.{Timed, ran, AllHeard}
-use Rattle.core_fits.specs.Fits.{AreServed, ReadsAlone, WritesAreAsked, SeatHasItsJob, IsOfLeasing, HeaderIsSeen, NoneIsReplied, CoreFits}
+use Rattle.core_fits.specs.Fits.{NoneIsReplied, CoreFits}
 
 -- it holds of each proxy at its start
 abbrev pub Starts : (Core → Type 0) → Type 0
@@ -19,12 +19,6 @@ Starts P = (settings : Settings) → P (first_core settings)
 -- where it holds of a proxy whose parts agree, it holds after each step
 abbrev pub Lasts : (Core → Type 0) → Type 0
 Lasts P = (c : Core) (e : CoreEvent) (now : ℕ) → CoreOk c → P c → P (stepped c e now).core
-
-abbrev pub SeatIsCalled : Core → Type 0
-SeatIsCalled c = SeatHasItsJob c.seat c.out
-
-abbrev pub StreamIsOfLeasing : Core → Type 0
-StreamIsOfLeasing c = IsOfLeasing c.own.waits.prefix c.leasing
 
 abbrev pub RunsFit : Type 0
 RunsFit = (settings : Settings) (xs : List Timed) → AllHeard (first_core settings) xs → CoreFits (ran (first_core settings) xs)
