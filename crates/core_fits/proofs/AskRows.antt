@@ -1,6 +1,6 @@
 -- What a step makes of the requests: each keeps its ticket and what was asked, and none begins to wait for an acquire or for an
 -- owner write that didn't wait so before.
-use Rattle.std.proofs.Common.{◌≡◌, ℕ, ◌+◌, ◌==◌, nat_le, Bool, true, false, cond, ◌&&◌, List, [], ◌∷◌, map, Option, None, Some, refl}
+use Rattle.std.proofs.Common.{◌≡◌, ℕ, ◌+◌, ◌==◌, nat_le, Bool, true, false, cond, ◌&&◌, List, [], ◌∷◌, Option, Some, refl}
 use Rattle.proxy_model.specs.declared.lease.Entry.{Entry}
 use Rattle.proxy_model.specs.Keyed.{at}
 use Rattle.proxy_model.specs.Limits.{capped}

@@ -1,16 +1,14 @@
 -- What each event makes of the requests and writes of a proxy: but for one that is asked each was there before, with the same ticket
 -- and the same request, and none begins to wait for an acquire or for an owner write.
-use Rattle.std.proofs.Common.{◌≡◌, ℕ, ◌==◌, Bool, true, false, not, cond, ◌&&◌, ◌||◌, List, [], ◌∷◌, ◌++◌, map, Option, None, Some, Result, Ok, Err, refl, sym, ◌∙◌, ap, subst}
+use Rattle.std.proofs.Common.{◌≡◌, ℕ, ◌==◌, Bool, true, false, not, cond, List, [], ◌∷◌, ◌++◌, map, Option, None, Some, Result, Ok, Err, refl, sym, subst}
 use Rattle.etcd_types.specs.declared.answer.Answer.{Answer}
 use Rattle.etcd_types.specs.declared.answer.Answer.TheVariants.{Done, Refused}
 use Rattle.etcd_types.specs.declared.answer.Body.{Body}
 use Rattle.etcd_types.specs.declared.answer.Body.TheVariants as body
 use Rattle.etcd_types.specs.declared.answer.Refusal.{Refusal}
-use Rattle.etcd_types.specs.declared.answer.Reply.{Reply}
 use Rattle.etcd_types.specs.declared.record.Header.{Header}
 use Rattle.etcd_types.specs.declared.request.Request.{Request}
 use Rattle.etcd_types.specs.declared.request.Request.TheVariants as request
-use Rattle.etcd_types.specs.declared.watch.Event.{Event}
 use Rattle.etcd_types.specs.declared.watch.WatchItem.{WatchItem}
 use Rattle.etcd_types.specs.declared.watch.WatchItem.TheVariants as item
 use Rattle.proxy_model.specs.Unwrapped.{Unwrapped, item_without}
@@ -19,7 +17,6 @@ use Rattle.wait_model.specs.Asked.{new_write}
 use Rattle.wait_model.specs.ForeignOwnership.{stage_gone}
 use Rattle.wait_model.specs.LeasingStream.{resynced}
 use Rattle.wait_model.specs.Sent.{JobSent, job_sent}
-use Rattle.wait_model.specs.State.{Ownership}
 use Rattle.read_model.specs.declared.asked.Asked.{Asked}
 use Rattle.read_model.specs.declared.asked.Stage.{Stage}
 use Rattle.read_model.specs.declared.asked.Stage.TheVariants as stage
@@ -41,7 +38,7 @@ use Rattle.core_model.specs.declared.out_call.OutJob.TheVariants as job
 use Rattle.core_model.specs.Asking.{asked_at, is_leased_read, read_by, read_is_asked, with_ask, write_is_asked, held_body, if_live, call_stage, call_is_asked, answered_or_called, leased_ask, taken_in, request_asked, refused_or_taken, on_ask}
 use Rattle.core_model.specs.ClockWork.{begun, clock_work, times_out, timed_out_ask, writes_go_on, requests_timed_out}
 use Rattle.core_model.specs.DueJobs.{DueJob, ForSession, ForWrites, ForAcquire, ForAsk, ForGroup, ToOpen, ForStream, first_job}
-use Rattle.core_model.specs.Ends.{call_gone, is_stale_reply, ask_done, ask_answered, member_failed, acquire_if, reads_if, is_keepalive, group_answered, answered_job, lost_ask, lost_job, lost_call, or_lost, heard_call, answered_call, answer_of, loss_of, with_caller, stale_once, said, on_answer, on_lost}
+use Rattle.core_model.specs.Ends.{call_gone, is_stale_reply, ask_done, ask_answered, member_failed, acquire_if, reads_if, is_keepalive, answered_job, lost_ask, lost_job, lost_call, or_lost, heard_call, answered_call, answer_of, loss_of, with_caller, stale_once, said, on_answer, on_lost}
 use Rattle.core_model.specs.Groups.{is_out_for, group_since, joining, group_sent, group_ended, groups_ended}
 use Rattle.core_model.specs.Heard.{heard, header_taken}
 use Rattle.core_model.specs.Kinds.{is_read, is_body_of, writes_keys}
@@ -50,7 +47,7 @@ use Rattle.core_model.specs.LeasingStream as leasing
 use Rattle.core_model.specs.Lookups.{leases, is_known, moment, live_number, reads_of, with_reads, has_ticket, without_ask, ask_at, calls_as, out_at}
 use Rattle.core_model.specs.Refusals.{refusal_of}
 use Rattle.core_model.specs.Sending.{next_call, called_as, writes_sent, sent_by, on_work}
-use Rattle.core_model.specs.Sessions.{seat_is_over, without_session, deadline_passed, seat_ticked, seat_calls, granted_by, grant_failed, grant_answered, keep_failed, keep_answered, kept, kept_by}
+use Rattle.core_model.specs.Sessions.{seat_is_over, without_session, deadline_passed, seat_ticked, seat_calls, granted_by, grant_failed, keep_failed, kept, kept_by}
 use Rattle.core_model.specs.State.{Opening, Core}
 use Rattle.core_model.specs.Step.{happened, is_worn, stepped, ticked, on_tick, client_item, item_of, on_item, client_cut, cut_of, on_cut, opening_at}
 use Rattle.core_model.specs.Stepped.{Stepped, faults, counted, counted_by}
@@ -68,7 +65,7 @@ use Rattle.core_laws.proofs.Comes.{by_test}
 use Rattle.core_fits.specs.Fits.{EachOf, Serves, is_reading}
 use Rattle.core_fits.proofs.Eachs.{each_filtered, each_pushed}
 use Rattle.core_fits.proofs.AskRows.{Goes, Carries, stops, once_stops, stale_stops, times_go, caller_goes, group_goes, group_sent_goes, called_goes}
-use Rattle.core_fits.proofs.ReadRows.{ReadsHave, ReadsHaveIf, AfterHas, each_goes, decided_writes, session_over_has, taken_off_has, acquire_answered_has, acquire_lost_has, wait_answered_has, wait_lost_has}
+use Rattle.core_fits.proofs.ReadRows.{ReadsHaveIf, AfterHas, each_goes, decided_writes, session_over_has, taken_off_has, acquire_answered_has, acquire_lost_has, wait_answered_has, wait_lost_has}
 use Rattle.core_fits.proofs.WriteRows.{Stays, OwnHas, SentHas, staged_has, passed_has, message_has, job_sent_has}
 
 abbrev pub CoreHas : (Asked → Type 0) → (Write → Type 0) → Core → Type 0

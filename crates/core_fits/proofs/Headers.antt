@@ -1,8 +1,8 @@
 -- The cached header is of the greatest revision seen: both change by a header that is delivered, and a member that failed leaves them.
-use Rattle.std.proofs.Common.{◌≡◌, ℕ, ◌==◌, max, nat_le, Bool, true, false, cond, refl, sym, ◌∙◌, ap, arith}
+use Rattle.std.proofs.Common.{◌≡◌, ℕ, ◌==◌, max, nat_le, true, false, refl, ◌∙◌, ap, arith}
 use Rattle.std.proofs.lemmas.Bool.Decides.{nat_tests}
 use Rattle.etcd_types.specs.declared.record.Header.{Header}
-use Rattle.proxy_model.specs.Members.{Members, next_member, failed, take_seen}
+use Rattle.proxy_model.specs.Members.{Members, next_member, failed}
 use Rattle.core_model.specs.Heard.{later_header, header_taken}
 use Rattle.core_model.specs.State.{Core}
 use Rattle.core_laws.proofs.Comes.{by_test}

@@ -9,3 +9,5 @@ pub mod Same
 pub mod Openings
 pub mod Seats
 pub mod Headers
+pub mod Beside
+pub mod Fit

@@ -1,12 +1,12 @@
 -- The opening that is due first is that of the leasing stream as it stands.
-use Rattle.std.proofs.Common.{◌≡◌, ℕ, Bool, true, false, cond, List, [], ◌∷◌, ◌++◌, Option, None, Some, is_some}
+use Rattle.std.proofs.Common.{ℕ, Bool, true, false, List, [], ◌∷◌, ◌++◌, Option, None, Some, is_some}
 use Rattle.std.specs.List.{flat_map}
 use Rattle.proxy_model.specs.Keyed.{Keyed}
 use Rattle.wait_model.specs.declared.due.JobKind.TheVariants.{Call}
 use Rattle.wait_model.specs.declared.due.Place.{Place}
 use Rattle.wait_model.specs.declared.sending.Sending.{Sending}
 use Rattle.wait_model.specs.declared.sending.Sending.TheVariants as sending
-use Rattle.wait_model.specs.DueOrder.{is_earlier, first_place, first_rescind}
+use Rattle.wait_model.specs.DueOrder.{place_at, is_earlier, first_place, first_rescind}
 use Rattle.read_model.specs.declared.acquire.Acquire.{Acquire}
 use Rattle.read_model.specs.declared.asked.Asked.{Asked}
 use Rattle.read_model.specs.declared.asked.Stage.{Stage}
@@ -14,7 +14,7 @@ use Rattle.read_model.specs.declared.asked.Stage.TheVariants as stage
 use Rattle.watch_model.specs.declared.stream.StreamPhase.{StreamPhase}
 use Rattle.watch_model.specs.declared.stream.StreamPhase.TheVariants as phase
 use Rattle.watch_model.specs.State.{Stream}
-use Rattle.core_model.specs.DueJobs.{DueJob, ForSession, ForWrites, ForAcquire, ForAsk, ForGroup, ToOpen, ForStream, Placed, due_writes, due_acquire, if_due, placed, due_ask, due_stage, due_at, due_opening, due_phase, due_stream, due_jobs, earlier, earliest, job_of, session_job_of, session_job, rescind_or, or_else, first_job}
+use Rattle.core_model.specs.DueJobs.{DueJob, ForAcquire, ToOpen, Placed, due_writes, due_acquire, if_due, placed, due_ask, due_stage, due_at, due_opening, due_phase, due_stream, due_jobs, earlier, earliest, job_of, session_job_of, session_job, rescind_or, or_else, first_job}
 use Rattle.core_model.specs.State.{Seat, Opening, Core}
 use Rattle.core_laws.proofs.Comes.{by_test}
 use Rattle.core_fits.specs.Fits.{EachOf, IsOfLeasing}

@@ -1,6 +1,5 @@
 -- The leasing prefix stays, also by the clock's work alone.
 use Rattle.std.proofs.Common.{◌≡◌, ℕ, None, map, refl, ◌∙◌}
-use Rattle.read_model.specs.declared.asked.Asked.{Asked}
 use Rattle.core_model.specs.ClockWork.{begun, clock_work, times_out, timed_out_ask}
 use Rattle.core_model.specs.Lookups.{moment, reads_of}
 use Rattle.core_model.specs.Sessions.{seat_is_over, without_session, deadline_passed}

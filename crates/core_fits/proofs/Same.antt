@@ -1,5 +1,5 @@
 -- A request and a write of one ticket are the same request: neither changes, and a new ticket is of neither before.
-use Rattle.std.proofs.Common.{◌≡◌, ◌⊎◌, inl, inr, ℕ, ◌==◌, Bool, true, false, cond, ◌||◌, List, [], ◌∷◌, ◌++◌, map, filter, Option, None, Some, is_some, refl, sym, ◌∙◌, ap, subst}
+use Rattle.std.proofs.Common.{◌≡◌, ℕ, ◌==◌, Bool, true, false, cond, ◌||◌, List, [], ◌∷◌, ◌++◌, filter, is_some, refl, sym, ◌∙◌, ap}
 use Rattle.etcd_types.specs.declared.request.Request.{Request}
 use Rattle.etcd_types.proofs.Bools.{or_first, or_second}
 use Rattle.wait_model.specs.declared.write.Write.{Write}

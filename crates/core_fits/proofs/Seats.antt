@@ -1,8 +1,7 @@
 -- The session's call that is out is its own, and its number is one of those that are kept for sessions.
-use Rattle.std.proofs.Common.{◌≡◌, ℕ, ◌+◌, ◌%◌, ◌==◌, nat_le, Bool, true, false, not, List, [], ◌∷◌, ◌++◌, map, Option, None, Some, refl, sym, ◌∙◌, ap, arith}
+use Rattle.std.proofs.Common.{◌≡◌, ℕ, ◌+◌, ◌%◌, ◌==◌, nat_le, true, false, not, List, [], ◌∷◌, ◌++◌, Option, None, Some, refl, sym, ◌∙◌, ap, arith}
 use Rattle.std.proofs.lemmas.Bool.Decides.{nat_tests}
 use Rattle.etcd_types.proofs.Bools.{or_first, or_second}
-use Rattle.proxy_model.specs.declared.session.Standing.{Standing}
 use Rattle.proxy_model.specs.declared.session.TheConstants.{FIRST_SESSION}
 use Rattle.proxy_model.specs.RequestRefusals.{is_session}
 use Rattle.proxy_model.specs.Session.{Session, granted, renewed, is_due}
@@ -10,10 +9,10 @@ use Rattle.wait_model.specs.declared.sending.Sending.{Sending}
 use Rattle.wait_model.specs.declared.sending.Sending.TheVariants as sending
 use Rattle.core_model.specs.declared.out_call.OutCall.{OutCall}
 use Rattle.core_model.specs.declared.out_call.OutJob.{OutJob}
-use Rattle.core_model.specs.Fits.{has_number, numbers_of, passes, is_session_job, is_call_out, is_seat_out, job_at, NumbersOk, Agrees}
+use Rattle.core_model.specs.Fits.{has_number, numbers_of, passes, is_session_job, is_call_out, is_seat_out, job_at, Agrees}
 use Rattle.core_model.specs.Lookups.{without_out}
 use Rattle.core_model.specs.Sending.{next_call, out_call, session_out, seat_sent}
-use Rattle.core_model.specs.Sessions.{drawn_session, call_ticked, seat_ticked, is_sent_as, seat_granted, seat_free, seat_renewed}
+use Rattle.core_model.specs.Sessions.{call_ticked, seat_ticked, is_sent_as, seat_granted, seat_free, seat_renewed}
 use Rattle.core_model.specs.State.{Seat, Core}
 use Rattle.core_laws.proofs.Calls.{not_given, is_new}
 use Rattle.core_laws.proofs.Comes.{by_test}

@@ -1,7 +1,6 @@
 -- What waits is served, and only plain reads wait for acquires and owner writes: requests never change, and one that is refused isn't
 -- taken in.
-use Rattle.std.proofs.Common.{◌≡◌, ℕ, Bool, true, false, List, [], ◌∷◌, None, refl, sym, ◌∙◌, ap, subst}
-use Rattle.etcd_types.specs.declared.request.Request.{Request}
+use Rattle.std.proofs.Common.{◌≡◌, ℕ, true, List, [], ◌∷◌, sym, ◌∙◌, ap, subst}
 use Rattle.wait_model.specs.declared.write.Write.{Write}
 use Rattle.read_model.specs.declared.asked.Asked.{Asked}
 use Rattle.core_model.specs.declared.event.CoreEvent.{CoreEvent}
@@ -14,7 +13,6 @@ use Rattle.core_model.specs.Step.{stepped}
 use Rattle.core_laws.proofs.Staying.{steps_stay}
 use Rattle.core_fits.specs.Fits.{EachOf, Serves, AreServed, is_reading, ReadsAlone}
 use Rattle.core_fits.specs.Laws.{Starts, Lasts}
-use Rattle.core_fits.proofs.AskRows.{Goes}
 use Rattle.core_fits.proofs.CoreRows.{CoreHas, Last, Brings, stepped_has}
 use Rattle.core_fits.proofs.Prefix.{clock_prefix}
 

@@ -1,5 +1,5 @@
 -- What a step makes of the writes: it changes the stage of each, or takes one out. So what holds of each whatever its stage lasts.
-use Rattle.std.proofs.Common.{◌≡◌, ℕ, ◌+◌, Bool, true, false, not, ◌||◌, ◌&&◌, cond, List, [], ◌∷◌, map, Option, None, Some, is_some, refl}
+use Rattle.std.proofs.Common.{ℕ, ◌+◌, Bool, false, not, ◌||◌, ◌&&◌, cond, List, [], ◌∷◌, map, Option, None, Some, is_some}
 use Rattle.std.specs.List.{list_any}
 use Rattle.etcd_types.specs.Keys.{same}
 use Rattle.etcd_types.specs.declared.answer.Answer.{Answer}

@@ -12,7 +12,6 @@ use Rattle.read_model.specs.declared.asked.Stage.{Stage}
 use Rattle.read_model.specs.declared.asked.Stage.TheVariants as stage
 use Rattle.core_model.specs.declared.out_call.OutCall.{OutCall}
 use Rattle.core_model.specs.Asking.{is_leased_read}
-use Rattle.core_model.specs.ClockWork.{is_replied}
 use Rattle.core_model.specs.Refusals.{refusal_of}
 use Rattle.core_model.specs.Sending.{session_out}
 use Rattle.core_model.specs.Sessions.{is_sent_as}
@@ -76,11 +75,7 @@ IsOfLeasing prefix (Some o) = o.stream.range ≡ leasing_range prefix
 abbrev pub HeaderIsSeen : Core → Type 0
 HeaderIsSeen c = c.header.revision ≡ c.members.seen
 
--- No reply stands ready.
-abbrev pub NoneIsReplied : Core → Type 0
-NoneIsReplied c = EachOf (λ a. is_replied a.stage ≡ false) c.asks
-
--- All of them, but the last, which holds only once the replies were taken.
+-- All of them.
 pub record CoreFits (c : Core) : Type 0 where
   pub served : AreServed c
   pub read : ReadsAlone c
