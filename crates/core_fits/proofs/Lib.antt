@@ -11,3 +11,4 @@ pub mod Seats
 pub mod Headers
 pub mod Beside
 pub mod Fit
+pub mod Ready

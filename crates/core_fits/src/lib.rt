@@ -3,6 +3,7 @@
 
 ghost use Rattle.core_fits.specs.Fits.{AreServed, ReadsAlone, WritesAreAsked, CoreFits};
 ghost use Rattle.core_fits.specs.Laws.{Starts, Lasts, RunsFit};
+ghost use Rattle.core_fits.specs.Ready.{NothingReadyIsNoneReplied, ReadyIsTaken};
 
 /// What waits to be answered is served: no request that is refused is kept, nor is its write.
 pub fn requests_are_served()
@@ -28,4 +29,10 @@ pub fn cores_fit()
     ensures starts { Starts CoreFits }
     ensures steps { Lasts CoreFits }
     ensures runs { RunsFit }
+{}
+
+/// Where no ticket is ready, no request has its reply; and the ready ticket's reply is given to whoever takes it, once.
+pub fn ready_replies_are_taken()
+    ensures none { NothingReadyIsNoneReplied }
+    ensures taken { ReadyIsTaken }
 {}
