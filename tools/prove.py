@@ -12,6 +12,7 @@ COSTS      a page with table rows `| CRATE | SECONDS | ..`: the longest chain of
 As many crates are proved at a time as there are processors, with 2.5 GB of memory each and at most 10 GB in all, or as RT_JOBS says.
 The status is 0 once the program is built, and 1 where a crate isn't proved, whose errors are then on standard error.
 """
+import contextlib
 import hashlib
 import math
 import os
@@ -24,7 +25,7 @@ import time
 from dataclasses import dataclass, field
 
 MEMORY_EACH, MEMORY_ALL = 2.5e9, 10e9  # bytes: for one job of a check, and for all jobs
-MOST_JOBS = 4  # a check gains nothing from more
+MOST_JOBS = 4  # of one check, which gains little from more
 SHOWN_ERRORS = 20
 KILLED = (-signal.SIGKILL, 256 - signal.SIGKILL)  # the statuses of a check that was killed, most likely for memory
 STOPS = (signal.SIGINT, signal.SIGTERM, signal.SIGHUP)
@@ -36,13 +37,51 @@ class Crate:
     line: str  # of crates.txt
     uses: list  # the repository's crates on that line
     cost: float  # the seconds of one processor that its proof is expected to take
-    folder: str = ""  # of WORK, its own
+    folder: str  # of WORK, its own
+    made: str  # what its proof leaves in its own out/: the library, or the program
     sources_sum: str = ""  # of all that its proof reads
     chain: float = 0  # the costs of the longest chain from it to the program
-    below: list = field(default_factory=list)  # all crates that it uses, also through others
+    below: list = field(default_factory=list)  # all crates that it uses, also through others, lowest first
 
-    def lib_folder(self):
-        return f"{self.folder}/crates/{self.name}"
+    def out(self):
+        return f"{self.folder}/crates/{self.name}/out"
+
+    def is_proved(self):
+        with contextlib.suppress(OSError), open(f"{self.folder}/proved", encoding="utf-8") as file:
+            return file.read() == self.sources_sum and os.path.exists(f"{self.out()}/{self.made}")
+        return False
+
+    def note_proved(self):
+        """Notes that it is proved, and keeps no more than what was made: what a check could go on from takes as much room again."""
+        with open(f"{self.folder}/proved.new", "w", encoding="utf-8") as file:
+            file.write(self.sources_sum)
+        os.replace(f"{self.folder}/proved.new", f"{self.folder}/proved")
+        self.clear()
+        shutil.rmtree(f"{self.out()}/incremental", ignore_errors=True)
+
+    def clear(self):
+        """Removes the links to the crates that it uses."""
+        with contextlib.suppress(FileNotFoundError):
+            for name in os.listdir(f"{self.folder}/crates"):
+                if name != self.name:
+                    remove(f"{self.folder}/crates/{name}")
+
+    def lay_out(self, sources):
+        """Makes its folder: its sources, and of each crate that it uses the sources and the library."""
+        with contextlib.suppress(FileNotFoundError):
+            os.remove(f"{self.folder}/proved")
+        self.clear()
+        os.makedirs(self.out(), exist_ok=True)
+        for name in os.listdir(os.path.dirname(self.out())):
+            if name != "out":
+                remove(f"{self.folder}/crates/{self.name}/{name}")
+        with open(f"{self.folder}/crates.txt", "w", encoding="utf-8") as file:
+            file.writelines(it.line for it in [*self.below, self])
+        shutil.copyfile(f"{sources}/HANDLES", f"{self.folder}/HANDLES")
+        for it in [*self.below, self]:
+            link(f"{sources}/crates/{it.name}", f"{self.folder}/crates/{it.name}")
+        for it in self.below:
+            link(f"{it.out()}/rlib", f"{self.folder}/crates/{it.name}/out/rlib")
 
 
 @dataclass
@@ -53,7 +92,7 @@ class Check:
     process: subprocess.Popen
 
 
-def read_crates(sources, work, costs):
+def read_crates(sources, program, work, costs):
     """Returns the crates of crates.txt by their names."""
     with open(costs, encoding="utf-8") as page:
         known = {name: int(cost) for name, cost in re.findall(r"^\| `(\w+)` \| ([1-9]\d*) \|", page.read(), re.M)}
@@ -64,33 +103,38 @@ def read_crates(sources, work, costs):
             head, colon, uses = line.partition("#")[0].partition(":")
             if colon:
                 rows[head.split()[0]] = line, uses.split()
-    return {
-        name: Crate(name, line, [it for it in uses if it in rows], known.get(name, usual), f"{work}/{name}")
-        for name, (line, uses) in rows.items()
-    }
+    crates = {}
+    for name, (line, uses) in rows.items():
+        made = name if name == program else f"rlib/{name}.rlib"
+        crates[name] = Crate(name, line, [it for it in uses if it in rows], known.get(name, usual), f"{work}/{name}", made)
+    return crates
 
 
-def work_out(crates, sources, program, toolchain):
-    """Sets what follows of each crate from those that it uses, and from those that use it."""
-    lowest_first = []
+def in_order(crates, program):
+    """Returns the program and the crates that it uses, lowest first."""
+    order = []
 
     def visit(crate):
-        if crate in lowest_first:
-            return
-        for name in crate.uses:
-            visit(crates[name])
-        lowest_first.append(crate)
+        if crate not in order:
+            for name in crate.uses:
+                visit(crates[name])
+            order.append(crate)
 
     visit(crates[program])
-    for crate in lowest_first:
+    return order
+
+
+def work_out(crates, order, sources, toolchain):
+    """Sets what follows of each crate from those that it uses, and from those that use it."""
+    for crate in order:
         used = [crates[name] for name in crate.uses]
-        crate.below = list(dict.fromkeys(it.name for one in used for it in [*map(crates.get, one.below), one]))
+        within = {it.name for one in used for it in [*one.below, one]}
+        crate.below = [it for it in order if it.name in within]
         crate.sources_sum = sum_of(f"{sources}/crates/{crate.name}", [toolchain, crate.line, *[it.sources_sum for it in used]])
-    for crate in reversed(lowest_first):
+    for crate in reversed(order):
         crate.chain += crate.cost
         for name in crate.uses:
             crates[name].chain = max(crates[name].chain, crate.chain)
-    return lowest_first
 
 
 def sum_of(folder, words):
@@ -116,52 +160,7 @@ def remove(path):
         os.remove(path)
 
 
-def lay_out(crate, crates, sources):
-    """Makes the crate's folder: its sources, and of each crate that it uses the sources and the library."""
-    forget(crate)
-    clear(crate)
-    os.makedirs(crate.lib_folder(), exist_ok=True)
-    for name in os.listdir(crate.lib_folder()):
-        if name != "out":
-            remove(f"{crate.lib_folder()}/{name}")
-    whole = [*map(crates.get, crate.below), crate]
-    with open(f"{crate.folder}/crates.txt", "w", encoding="utf-8") as file:
-        file.writelines(it.line for it in whole)
-    shutil.copyfile(f"{sources}/HANDLES", f"{crate.folder}/HANDLES")
-    for it in whole:
-        link(f"{sources}/crates/{it.name}", f"{crate.folder}/crates/{it.name}")
-    for it in whole[:-1]:
-        link(f"{it.lib_folder()}/out/rlib", f"{crate.folder}/crates/{it.name}/out/rlib")
-
-
-def clear(crate):
-    """Removes the links to the crates that it uses."""
-    if os.path.isdir(f"{crate.folder}/crates"):
-        for name in os.listdir(f"{crate.folder}/crates"):
-            if name != crate.name:
-                remove(f"{crate.folder}/crates/{name}")
-
-
-def is_proved(crate):
-    try:
-        with open(f"{crate.folder}/proved", encoding="utf-8") as file:
-            return file.read() == crate.sources_sum
-    except OSError:
-        return False
-
-
-def note_proved(crate):
-    with open(f"{crate.folder}/proved.new", "w", encoding="utf-8") as file:
-        file.write(crate.sources_sum)
-    os.replace(f"{crate.folder}/proved.new", f"{crate.folder}/proved")
-
-
-def forget(crate):
-    if os.path.exists(f"{crate.folder}/proved"):
-        os.remove(f"{crate.folder}/proved")
-
-
-def lanes():
+def jobs_at_once():
     """Returns how many jobs there are processors and memory for."""
     if os.environ.get("RT_JOBS", "").isdigit():
         return max(int(os.environ["RT_JOBS"]), 1)
@@ -197,23 +196,25 @@ def by_chain(crates):
 class Build:
     def __init__(self, sources, program, work, costs):
         toolchain = subprocess.run(["rt", "version"], stdout=subprocess.PIPE, check=False).stdout.decode(errors="replace")
-        self.sources, self.program = os.path.abspath(sources), program
-        self.crates = read_crates(self.sources, os.path.abspath(work), costs)
-        self.order = work_out(self.crates, self.sources, program, toolchain)
-        self.lanes, self.progress, self.running = lanes(), Progress(), []
+        self.sources, self.program = sources, program
+        crates = read_crates(sources, program, os.path.abspath(work), costs)
+        self.order = in_order(crates, program)
+        work_out(crates, self.order, sources, toolchain)
+        self.at_once, self.progress, self.running = jobs_at_once(), Progress(), []
         # What crates that were proved in this call took by the clock, and what was expected; begun so that one small crate says little.
         self.seconds = self.expected = 60
+        os.makedirs(work, exist_ok=True)
         for name in os.listdir(work):
-            if name not in self.crates:
+            if name not in crates:
                 remove(f"{work}/{name}")
-        self.proved = {it.name for it in self.order if is_proved(it)}
+        self.proved = {it.name for it in self.order if it.is_proved()}
         self.left = by_chain(it for it in self.order if it.name not in self.proved)
 
     def start(self, crate, jobs):
-        lay_out(crate, self.crates, self.sources)
+        crate.lay_out(self.sources)
         words = ["run", "--jobs", str(jobs), "--", "--version"] if crate.name == self.program else ["lib", "--jobs", str(jobs)]
         with open(f"{crate.folder}/log", "w", encoding="utf-8") as log:
-            how = {"cwd": crate.lib_folder(), "stdin": subprocess.DEVNULL, "stdout": log, "stderr": log}
+            how = {"cwd": os.path.dirname(crate.out()), "stdin": subprocess.DEVNULL, "stdout": log, "stderr": log}
             # What ./run locks stays locked as long as one of these runs, however this process ends.
             process = subprocess.Popen(["rt", *words], close_fds=False, **how)
         self.left.remove(crate)
@@ -222,7 +223,7 @@ class Build:
     def start_ready(self):
         """Starts the crates that wait for none, the longest chain first; processors that no other crate could use serve its jobs."""
         ready = [it for it in self.left if self.proved.issuperset(it.uses)]
-        free = self.lanes - sum(it.jobs for it in self.running)
+        free = self.at_once - sum(it.jobs for it in self.running)
         while ready and free > 0:
             jobs = max(min(free // len(ready), MOST_JOBS), 1)
             self.start(ready.pop(0), jobs)
@@ -232,14 +233,13 @@ class Build:
         """Notes what was proved, and returns a crate that isn't, if there is one. One whose check was killed is tried again, with less beside it."""
         for check in [it for it in self.running if it.process.poll() is not None]:
             self.running.remove(check)
-            if check.process.returncode in KILLED and self.lanes > 1:
-                self.lanes -= 1
+            if check.process.returncode in KILLED and self.at_once > 1:
+                self.at_once -= 1
                 self.left = by_chain([*self.left, check.crate])
                 continue
             if check.process.returncode:
                 return check.crate
-            note_proved(check.crate)
-            clear(check.crate)
+            check.crate.note_proved()
             self.proved.add(check.crate.name)
             self.seconds += time.monotonic() - check.begun
             self.expected += check.crate.cost
@@ -252,7 +252,7 @@ class Build:
         crates = [*self.left, *[it.crate for it in self.running]]
         work = sum(it.cost - done.get(it.name, 0) for it in crates)
         chain = max((it.chain - done.get(it.name, 0) for it in crates), default=0)
-        return math.ceil(pace * max(work / self.lanes, chain) / 60)
+        return math.ceil(pace * max(work / self.at_once, chain) / 60)
 
     def run(self):
         """Returns the crate that isn't proved, or none once the program is built."""
