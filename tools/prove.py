@@ -91,6 +91,9 @@ class Check:
     begun: float
     process: subprocess.Popen
 
+    def elapsed(self):
+        return time.monotonic() - self.begun
+
 
 def read_crates(sources, program, work, costs):
     """Returns the crates of crates.txt by their names."""
@@ -241,18 +244,26 @@ class Build:
                 return check.crate
             check.crate.note_proved()
             self.proved.add(check.crate.name)
-            self.seconds += time.monotonic() - check.begun
+            self.seconds += check.elapsed()
             self.expected += check.crate.cost
         return None
 
+    def pace(self):
+        """Returns the seconds by the clock for a second of what was expected; a check that already takes longer than expected counts too."""
+        seconds, expected = self.seconds, self.expected
+        for it in self.running:
+            if it.elapsed() * expected > it.crate.cost * seconds:
+                seconds, expected = seconds + it.elapsed(), expected + it.crate.cost
+        return seconds / expected
+
     def minutes_left(self):
         """Returns the minutes that the longest chain takes, or all that is left, at the pace so far, shared out evenly."""
-        pace = self.seconds / self.expected
-        done = {it.crate.name: min((time.monotonic() - it.begun) / pace, it.crate.cost) for it in self.running}
+        pace = self.pace()
+        done = {it.crate.name: min(it.elapsed() / pace, it.crate.cost) for it in self.running}
         crates = [*self.left, *[it.crate for it in self.running]]
         work = sum(it.cost - done.get(it.name, 0) for it in crates)
-        chain = max((it.chain - done.get(it.name, 0) for it in crates), default=0)
-        return math.ceil(pace * max(work / self.at_once, chain) / 60)
+        chain = max(it.chain - done.get(it.name, 0) for it in crates)
+        return max(math.ceil(pace * max(work / self.at_once, chain) / 60), 1)
 
     def run(self):
         """Returns the crate that isn't proved, or none once the program is built."""
