@@ -1,5 +1,5 @@
 -- Stages that requests come into, by ticket, and by a rule that says the new stage of each or nothing.
-use Rattle.std.specs.Prelude.{ℕ, List, [], ◌∷◌, ◌++◌, Option, None, Some}
+use Rattle.std.specs.Prelude.{ℕ, List, [], ◌∷◌, Option, None, Some}
 use Rattle.read_model.specs.declared.asked.Asked.{Asked}
 use Rattle.read_model.specs.declared.asked.Stage.{Stage}
 use Rattle.read_model.specs.PlainRead.{in_stage}
@@ -12,10 +12,6 @@ restaged (c ∷ cs) asks = restaged cs (one_changed c.0 (in_stage c.1) asks)
 abbrev pub change_of : ℕ → Option Stage → List (ℕ × Stage)
 change_of ticket None = []
 change_of ticket (Some s) = (ticket, s) ∷ []
-
-abbrev pub changes_of : (Asked → Option Stage) → List Asked → List (ℕ × Stage)
-changes_of f [] = []
-changes_of f (a ∷ rest) = change_of a.ticket (f a) ++ changes_of f rest
 
 abbrev pub stage_or : Option Stage → Asked → Asked
 stage_or None a = a

@@ -21,8 +21,6 @@ pub use callers::{Callers, calls_as};
 pub use groups::{change_due_group, change_group, change_next_group, due_group, group_changes};
 pub use losses::{lose_once, refuse_stale};
 pub use read_model::{Asked, Stage, Verdict};
-pub use restage::{Restage, restage_each, set_stages};
+pub use restage::{Restage, set_stages};
 pub use rule::Rule;
-pub use waiting::{
-    change_waiting, change_waiting_at, restage_waiting, waiting_changes, waiting_changes_at,
-};
+pub use waiting::{change_waiting, change_waiting_at, waiting_changes, waiting_changes_at};

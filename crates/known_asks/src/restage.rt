@@ -1,7 +1,7 @@
-ghost use Rattle.std.specs.Prelude.{◌≡◌, ◌++◌, map, Option, IfOk, OnOk, OnErr};
+ghost use Rattle.std.specs.Prelude.{◌≡◌, ◌++◌, Option, IfOk, OnOk};
 ghost use Rattle.read_model.specs.declared.asked.Asked.{Asked as Value};
 ghost use Rattle.read_model.specs.declared.asked.Stage.{Stage as Step};
-ghost use Rattle.known_asks.specs.Changes.{restaged, changes_of, change_of, staged_by};
+ghost use Rattle.known_asks.specs.Changes.{restaged, change_of};
 
 use crate::asks::Asks;
 use etcd_types::NoMemory;
@@ -15,43 +15,6 @@ pub trait Restage {
     /// The stage that the request comes into, or nothing where it stays.
     fn stage(&self, alloc: Global, ask: &Asked) -> Result<Option<Stage>, NoMemory>
         ensures { IfOk result (λ stage. stage ≡ stage_of self.now ask.now) };
-}
-
-/// Each comes into the stage that the rule says. Where memory is wanting all is as before.
-pub fn restage_each<R: Restage>(alloc: Global, asks: &mut Asks, rule: &R) -> Result<(), NoMemory>
-    ensures ok { OnOk result (asks.new ≡ map (staged_by (R.stage_of rule.now)) asks.old) }
-    ensures err { OnErr result (asks.new ≡ asks.old) }
-{
-    let changes = stage_changes(alloc, asks, rule)?;
-    set_stages(asks, changes);
-    Ok(())
-}
-
-/// The stages that the rule says, by ticket, to be set by `set_stages`; nothing is changed yet.
-pub fn stage_changes<R: Restage>(
-    alloc: Global,
-    asks: &Asks,
-    rule: &R,
-) -> Result<Vec<(u64, Stage)>, NoMemory>
-    ensures changes { IfOk result (λ changes. changes.items ≡ changes_of (R.stage_of rule.now) asks.now) }
-    ensures by_rule { IfOk result (λ changes. restaged changes.items asks.now ≡ map (staged_by (R.stage_of rule.now)) asks.now) }
-{
-    Ok(changes_of(alloc, asks.rows(), rule)?)
-}
-
-/// What the rule changes, by ticket.
-fn changes_of<R: Restage>(
-    alloc: Global,
-    rows: &[(u64, Asked)],
-    rule: &R,
-) -> Result<Vec<(u64, Stage)>, NoMemory>
-    ensures { IfOk result (λ changes. changes.items ≡ changes_of (R.stage_of rule.now) (map (λ r. r.1) rows.now)) }
-{
-    let mut changes = Vec::new(alloc);
-    for row in rows {
-        add_change(alloc, &mut changes, &row.1, rule)?;
-    }
-    Ok(changes)
 }
 
 pub(crate) fn add_change<R: Restage>(

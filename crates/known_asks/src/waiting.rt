@@ -1,4 +1,4 @@
-ghost use Rattle.std.specs.Prelude.{◌≡◌, ◌&&◌, map, false, None, IfOk, OnOk, OnErr};
+ghost use Rattle.std.specs.Prelude.{◌≡◌, ◌&&◌, map, false, None, IfOk};
 ghost use Rattle.etcd_types.specs.Keys.{same};
 ghost use Rattle.read_model.specs.PlainRead.{ask_key};
 ghost use Rattle.read_model.specs.declared.asked.Asked.{Asked as Value};
@@ -8,7 +8,7 @@ ghost use Rattle.ask_tables.specs.Waiting.{waits_at_key};
 use crate::alike::{alike_changes, change_alike};
 use crate::asks::Asks;
 use crate::kin::Kin;
-use crate::restage::{Restage, set_stages};
+use crate::restage::Restage;
 use crate::rule::Rule;
 use ask_tables::{WAITING, key_number};
 use etcd_types::{Bytes, NoMemory};
@@ -22,18 +22,6 @@ pub fn change_waiting<R: Rule>(asks: &mut Asks, rule: &R)
     ensures { asks.new ≡ map (R.changed rule.now) asks.old }
 {
     change_alike(asks, Kin::Stage(WAITING, 0), rule);
-}
-
-/// Each comes into the stage that the rule says, by which all that don't wait at a key stay. Where none waits so it takes logarithmic
-/// time. Where memory is wanting all is as before.
-pub fn restage_waiting<R: Restage>(alloc: Global, asks: &mut Asks, rule: &R) -> Result<(), NoMemory>
-    requires { (a : Value) → waits_at_key a.stage ≡ false → R.stage_of rule.now a ≡ None }
-    ensures ok { OnOk result (asks.new ≡ map (staged_by (R.stage_of rule.now)) asks.old) }
-    ensures err { OnErr result (asks.new ≡ asks.old) }
-{
-    let changes = waiting_changes(alloc, asks, rule)?;
-    set_stages(asks, changes);
-    Ok(())
 }
 
 /// The stages that the rule says, by ticket, to be set by `set_stages`, where by the rule all that don't wait at a key stay; nothing is

@@ -1,8 +1,8 @@
 -- What comes to a proxy keeps the view's invariant.
-use Rattle.std.proofs.Common.{◌≡◌, ◌≢◌, ℕ, ◌==◌, Bool, true, false, cond, List, refl, sym, ◌∙◌, ap, subst}
+use Rattle.std.proofs.Common.{◌≡◌, ◌≢◌, ℕ, ◌==◌, Bool, true, false, cond, List, [], ◌∷◌, refl, sym, ◌∙◌, ap, subst}
 use Rattle.lease_moves.specs.View.{Owner, Slot, View, live}
 use Rattle.lease_moves.specs.Invariant.{Mine, SlotOk, OwnerOk, Inv}
-use Rattle.lease_moves.specs.Answers.{IsShown, in_answer, in_event, Turns, stays, holds, gives_back, ends_acquire, spoils, begins, withdraws, rests, returns, gives_up, forgets, finds, TurnsKeep}
+use Rattle.lease_moves.specs.Answers.{IsShown, in_answer, in_event, Turns, stays, holds, gives_back, ends_acquire, spoils, begins, withdraws, rests, returns, gives_up, forgets, finds, turned, TurnsKeep, Chain, ReachesKeep}
 use Rattle.lease_moves.proofs.Numbers.{same_number}
 use Rattle.lease_moves.proofs.SlotTurns.{slot_holds, slot_leaves, slot_rests, slot_returns, slot_withdraws, slot_begins, slot_gives_up, slot_forgets, slot_spoils, slot_ends_acquire}
 use Rattle.lease_moves.proofs.SendProofs.{live_drew}
@@ -19,17 +19,44 @@ shown_mine {holder} v p o h ok n under =
     some : o.create ≢ 0
     some z = n (sym under ∙ ok.none z)
 
+-- one slot of a proxy, whatever it has
+abbrev Stands : (ℕ → ℕ) → View → ℕ → List ℕ → Slot → Type 0
+Stands holder v p k x = SlotOk holder v.rev v.sent v.made v.calls v.outcomes (live v p) (v.owners k) (v.kvs k) p k x
+
 -- and so is what its acquire made
-acquired_mine : {holder : ℕ → ℕ} (v : View) (p : ℕ) (k : List ℕ) → Inv holder v → (v.slots p k).acquire ≢ 0 → (v.outcomes (v.slots p k).acquire).ok ≡ true → Mine holder v.rev v.made p (v.outcomes (v.slots p k).acquire).create
-acquired_mine {holder} v p k h n ok =
-    let i = (v.slots p k).acquire in
+acquired_mine : {holder : ℕ → ℕ} (v : View) (p : ℕ) (k : List ℕ) (x : Slot) → Inv holder v → Stands holder v p k x → x.acquire ≢ 0 → (v.outcomes x.acquire).ok ≡ true → Mine holder v.rev v.made p (v.outcomes x.acquire).create
+acquired_mine {holder} v p k x h s n ok =
+    let i = x.acquire in
     let o = h.outcomes i in
-    let s = h.slots p k in
     let kind = s.asked n in
     record { some = o.created kind ok; past = o.past kind ok; own = ap holder (o.maker kind ok) ∙ ((h.acquires i).under kind).by ∙ s.asked_by n }
 
-pub turns_keep : TurnsKeep
-turns_keep holder v p row turns h =
+turn_stands : {holder : ℕ → ℕ} (v : View) (p : ℕ) (k : List ℕ) (x y : Slot) → Inv holder v → Turns v p k x y → Stands holder v p k x → Stands holder v p k y
+turn_stands {holder} v p k x y h t s = by t
+  where
+    becomes : (z : Slot) → y ≡ z → Stands holder v p k z → Stands holder v p k y
+    becomes z is o = subst (λ (x : Slot). Stands holder v p k x) (sym is) o
+
+    by : Turns v p k x y → Stands holder v p k y
+    by (stays is) = becomes _ is s
+    by (holds lives n u e d ok is) = becomes _ is (slot_holds s (h.owners k) lives (live_drew p h lives) n u e d ok)
+    by (gives_back n ok is) = becomes _ is (slot_leaves (v.outcomes x.acquire).create s (acquired_mine v p k x h s n ok))
+    by (ends_acquire is) = becomes _ is (slot_ends_acquire s)
+    by (spoils is) = becomes _ is (slot_spoils s)
+    by (begins held is) = becomes _ is (slot_begins s held)
+    by (withdraws busy due is) = becomes _ is (slot_withdraws s busy due)
+    by (rests busy out done ok is) = becomes _ is (slot_rests s busy out done ok)
+    by (returns busy out done ok is) = becomes _ is (slot_returns s busy out done ok)
+    by (gives_up there is) = becomes _ is (slot_gives_up s there)
+    by (forgets is) = becomes _ is (slot_forgets s)
+    by (finds o shown n under is) = becomes _ is (slot_leaves o.create s (shown_mine v p o h (shown_ok v k o h shown) n under))
+
+chain_stands : {holder : ℕ → ℕ} (v : View) (p : ℕ) (k : List ℕ) (zs : List Slot) (x y : Slot) → Inv holder v → Chain v p k x zs y → Stands holder v p k x → Stands holder v p k y
+chain_stands {holder} v p k [] x y h c s = subst (λ (z : Slot). Stands holder v p k z) (sym c) s
+chain_stands v p k (z ∷ zs) x y h c s = chain_stands v p k zs z y h c.1 (turn_stands v p k x z h c.0 s)
+
+row_keeps : (holder : ℕ → ℕ) (v : View) (p : ℕ) (row : List ℕ → Slot) → ((k : List ℕ) → Stands holder v p k (row k)) → Inv holder v → Inv holder (turned v p row)
+row_keeps holder v p row own h =
     record {
       unsent = h.unsent;
       owners = h.owners;
@@ -42,25 +69,13 @@ turns_keep holder v p row turns h =
       slots = λ q k. slot_by q k (q == p) refl;
     }
   where
-    becomes : (k : List ℕ) (y z : Slot) → y ≡ z → SlotOk holder v.rev v.sent v.made v.calls v.outcomes (live v p) (v.owners k) (v.kvs k) p k z
-        → SlotOk holder v.rev v.sent v.made v.calls v.outcomes (live v p) (v.owners k) (v.kvs k) p k y
-    becomes k y z is s = subst (λ (x : Slot). SlotOk holder v.rev v.sent v.made v.calls v.outcomes (live v p) (v.owners k) (v.kvs k) p k x) (sym is) s
-
-    own : (k : List ℕ) (y : Slot) → Turns v p k (v.slots p k) y → SlotOk holder v.rev v.sent v.made v.calls v.outcomes (live v p) (v.owners k) (v.kvs k) p k y
-    own k y (stays is) = becomes k y _ is (h.slots p k)
-    own k y (holds lives n u e d ok is) = becomes k y _ is (slot_holds (h.slots p k) (h.owners k) lives (live_drew p h lives) n u e d ok)
-    own k y (gives_back n ok is) = becomes k y _ is (slot_leaves (v.outcomes (v.slots p k).acquire).create (h.slots p k) (acquired_mine v p k h n ok))
-    own k y (ends_acquire is) = becomes k y _ is (slot_ends_acquire (h.slots p k))
-    own k y (spoils is) = becomes k y _ is (slot_spoils (h.slots p k))
-    own k y (begins held is) = becomes k y _ is (slot_begins (h.slots p k) held)
-    own k y (withdraws busy due is) = becomes k y _ is (slot_withdraws (h.slots p k) busy due)
-    own k y (rests busy out done ok is) = becomes k y _ is (slot_rests (h.slots p k) busy out done ok)
-    own k y (returns busy out done ok is) = becomes k y _ is (slot_returns (h.slots p k) busy out done ok)
-    own k y (gives_up there is) = becomes k y _ is (slot_gives_up (h.slots p k) there)
-    own k y (forgets is) = becomes k y _ is (slot_forgets (h.slots p k))
-    own k y (finds o shown n under is) = becomes k y _ is (slot_leaves o.create (h.slots p k) (shown_mine v p o h (shown_ok v k o h shown) n under))
-
     slot_by : (q : ℕ) (k : List ℕ) (t : Bool) → (q == p) ≡ t → SlotOk holder v.rev v.sent v.made v.calls v.outcomes (live v q) (v.owners k) (v.kvs k) q k (cond t row (v.slots q) k)
     slot_by q k true e =
-        subst (λ (r : ℕ). SlotOk holder v.rev v.sent v.made v.calls v.outcomes (live v r) (v.owners k) (v.kvs k) r k (row k)) (sym (same_number q p e)) (own k (row k) (turns k))
+        subst (λ (r : ℕ). SlotOk holder v.rev v.sent v.made v.calls v.outcomes (live v r) (v.owners k) (v.kvs k) r k (row k)) (sym (same_number q p e)) (own k)
     slot_by q k false e = h.slots q k
+
+pub turns_keep : TurnsKeep
+turns_keep holder v p row turns h = row_keeps holder v p row (λ k. turn_stands v p k (v.slots p k) (row k) h (turns k) (h.slots p k)) h
+
+pub reaches_keep : ReachesKeep
+reaches_keep holder v p row r h = row_keeps holder v p row (λ k. chain_stands v p k (r k).through (v.slots p k) (row k) h (r k).chain (h.slots p k)) h

@@ -1,5 +1,5 @@
 -- One slot where something comes to its proxy, and where the proxy's session changes.
-use Rattle.std.proofs.Common.{◌≡◌, ◌≢◌, ℕ, ◌≤◌, ◌==◌, Bool, true, false, List, Option, refl, sym, ◌∙◌, ap, subst, arith}
+use Rattle.std.proofs.Common.{◌≡◌, ◌≢◌, ℕ, ◌≤◌, ◌==◌, Bool, true, false, List, Option, None, refl, sym, ◌∙◌, ap, subst, arith}
 use Rattle.etcd_types.specs.declared.record.Kv.{Kv}
 use Rattle.lease_moves.specs.View.{Absent, Held, Writing, Leaving, Owner, Slot, no_slot, Call, Outcome}
 use Rattle.lease_moves.specs.Invariant.{Mine, Owned, Written, SlotOk, OwnerOk}
@@ -53,7 +53,7 @@ slot_holds {p = p} {x = x} s o live h n u e d ok =
 
 -- an ownership of the proxy's own is to be given up
 pub slot_leaves : {holder : ℕ → ℕ} {rev sent : ℕ} {made : ℕ → ℕ} {calls : ℕ → Call} {outcomes : ℕ → Outcome} {session : ℕ} {owner : Owner} {kv : Option Kv} {p : ℕ} {k : List ℕ} {x : Slot} (create : ℕ) → SlotOk holder rev sent made calls outcomes session owner kv p k x → Mine holder rev made p create
-    → SlotOk holder rev sent made calls outcomes session owner kv p k (record x { phase = Leaving; create = create; acquire = 0; write = 0 })
+    → SlotOk holder rev sent made calls outcomes session owner kv p k (record x { phase = Leaving; create = create; acquire = 0; spoiled = false; write = 0 })
 slot_leaves create s mine = without_acquire _ refl (omega arith) (λ f. mine) (λ l f. absurd (cc)) (λ l f. absurd (cc)) (λ l f. absurd (cc))
 
 -- an owner call was executed: no other call is out
@@ -93,7 +93,7 @@ pub slot_gives_up : {holder : ℕ → ℕ} {rev sent : ℕ} {made : ℕ → ℕ}
 slot_gives_up s there =
     without_acquire _ (no_acquire s there) (omega arith) (λ f. s.entry there) (λ l f. absurd (cc)) (λ l f. absurd (cc)) (λ l f. absurd (cc))
 
-pub slot_forgets : {holder : ℕ → ℕ} {rev sent : ℕ} {made : ℕ → ℕ} {calls : ℕ → Call} {outcomes : ℕ → Outcome} {session : ℕ} {owner : Owner} {kv : Option Kv} {p : ℕ} {k : List ℕ} {x : Slot} → SlotOk holder rev sent made calls outcomes session owner kv p k x → SlotOk holder rev sent made calls outcomes session owner kv p k (record x { phase = Absent; write = 0 })
+pub slot_forgets : {holder : ℕ → ℕ} {rev sent : ℕ} {made : ℕ → ℕ} {calls : ℕ → Call} {outcomes : ℕ → Outcome} {session : ℕ} {owner : Owner} {kv : Option Kv} {p : ℕ} {k : List ℕ} {x : Slot} → SlotOk holder rev sent made calls outcomes session owner kv p k x → SlotOk holder rev sent made calls outcomes session owner kv p k (record x { phase = Absent; create = 0; kv = None; write = 0 })
 slot_forgets s =
     record {
       entry = λ f. absurd (f refl);
@@ -125,7 +125,7 @@ slot_spoils s =
       won = λ l n u. absurd (cc);
     }
 
-pub slot_ends_acquire : {holder : ℕ → ℕ} {rev sent : ℕ} {made : ℕ → ℕ} {calls : ℕ → Call} {outcomes : ℕ → Outcome} {session : ℕ} {owner : Owner} {kv : Option Kv} {p : ℕ} {k : List ℕ} {x : Slot} → SlotOk holder rev sent made calls outcomes session owner kv p k x → SlotOk holder rev sent made calls outcomes session owner kv p k (record x { acquire = 0 })
+pub slot_ends_acquire : {holder : ℕ → ℕ} {rev sent : ℕ} {made : ℕ → ℕ} {calls : ℕ → Call} {outcomes : ℕ → Outcome} {session : ℕ} {owner : Owner} {kv : Option Kv} {p : ℕ} {k : List ℕ} {x : Slot} → SlotOk holder rev sent made calls outcomes session owner kv p k x → SlotOk holder rev sent made calls outcomes session owner kv p k (record x { acquire = 0; spoiled = false })
 slot_ends_acquire s = without_acquire _ refl s.write_sent s.entry s.held s.due s.out
 
 -- a proxy that knows nothing

@@ -1,6 +1,6 @@
 ghost use Rattle.lease_moves.specs.StoreMoves.{CallsKeep, AcquiresKeep, TermsKeep, EndsKeep};
 ghost use Rattle.lease_moves.specs.Sends.{SendsKeep};
-ghost use Rattle.lease_moves.specs.Answers.{TurnsKeep};
+ghost use Rattle.lease_moves.specs.Answers.{TurnsKeep, ReachesKeep};
 ghost use Rattle.lease_moves.specs.Sessions.{ClocksKeep, DrawsKeep, BeginsKeep, RenewsKeep, SessionEndsKeep, RestartsKeep};
 ghost use Rattle.lease_moves.specs.Truth.{OpeningIsTrue, HeldIsTrue, HeldIsOwned, HeldByOne, LiveSessionsStand};
 
@@ -16,6 +16,7 @@ pub fn the_store_keeps_the_view()
 pub fn proxies_keep_the_view()
     ensures sends { SendsKeep }
     ensures turns { TurnsKeep }
+    ensures reaches { ReachesKeep }
 {}
 
 /// Clocks and sessions keep the view: a clock goes on, a session is drawn, begins, is renewed or ends, a proxy starts anew.

@@ -10,5 +10,5 @@ mod standing;
 pub use decisions::{Decision, decide, under};
 pub use readers::{lose_reader, reader_changes};
 pub use records::shown;
-pub use releases::{release, release_again, release_at};
+pub use releases::{release, release_at};
 pub use standing::key_of;

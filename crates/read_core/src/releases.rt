@@ -1,14 +1,11 @@
-ghost use Rattle.std.specs.Prelude.{◌≡◌, map, true, OnOk, OnErr};
-ghost use Rattle.read_model.specs.Release.{in_place};
-ghost use Rattle.read_core.specs.Falls.{ground_at, stands_on, stays_at, stand_elsewhere, fallen, fallen_at, again_stage, fallen-ticket, fallen_at-ticket};
+ghost use Rattle.std.specs.Prelude.{◌≡◌, map, true};
+ghost use Rattle.read_core.specs.Falls.{stands_on, stays_at, stand_elsewhere, fallen, fallen_at, fallen-ticket, fallen_at-ticket};
 
-use crate::decisions::{called, decide};
+use crate::decisions::called;
 use crate::standing::{key_of, stands_at};
 use acquire_rows::Acquires;
-use etcd_types::{Bytes, Header, NoMemory};
-use known_asks::{
-    Asked, Asks, Restage, Rule, Stage, change_waiting, change_waiting_at, restage_waiting,
-};
+use etcd_types::Bytes;
+use known_asks::{Asked, Asks, Rule, change_waiting, change_waiting_at};
 use lease_table::LeaseTable;
 use std::alloc::Global;
 
@@ -74,36 +71,6 @@ impl<'a> FallenAt<'a> {
     }
 }
 
-/// A read whose acquire or owner write is no more is decided by the entry of its key, where there is one, or becomes a call.
-#[derive(Drop)]
-struct Again<'a> {
-    header: Header,
-    table: &'a LeaseTable,
-    acquires: &'a Acquires,
-    step: u64,
-}
-
-impl<'a> Restage for Again<'a> {
-    ghost stage_of = { λ s. again_stage s.header s.step s.table.now.entries s.acquires.now };
-
-    fn stage(&self, alloc: Global, ask: &Asked) -> Result<Option<Stage>, NoMemory> {
-        let empty = Bytes::new(alloc);
-        let key = key_of(&ask.request, &empty);
-        if stands_at(ask, key, self.table, self.acquires) {
-            return Ok(None);
-        }
-        let decision = decide(
-            alloc,
-            self.header,
-            self.step,
-            self.table.find(key),
-            false,
-            None,
-        )?;
-        Ok(Some(decision.stage))
-    }
-}
-
 /// Each read whose acquire or owner write is no more becomes a call of its own. It takes no memory.
 pub fn release(alloc: Global, asks: &mut Asks, table: &LeaseTable, acquires: &Acquires, step: u64)
     ensures { asks.new ≡ map (fallen step table.now.entries acquires.now) asks.old }
@@ -138,27 +105,4 @@ pub fn release_at(
         step,
     };
     change_waiting_at(asks, key, &rule);
-}
-
-/// Each read whose acquire or owner write is no more is answered from the entry of its key, waits for its owner write, or becomes a
-/// call of its own. Where memory is wanting all is as before.
-pub fn release_again(
-    alloc: Global,
-    asks: &mut Asks,
-    header: Header,
-    table: &LeaseTable,
-    acquires: &Acquires,
-    step: u64,
-) -> Result<(), NoMemory>
-    ensures ok { OnOk result (asks.new ≡ map (in_place true header (ground_at step table.now.entries acquires.now)) asks.old) }
-    ensures err { OnErr result (asks.new ≡ asks.old) }
-{
-    let rule = Again {
-        header,
-        table,
-        acquires,
-        step,
-    };
-    restage_waiting(alloc, asks, &rule)?;
-    Ok(())
 }

@@ -1,5 +1,6 @@
 ghost use Rattle.std.specs.Prelude.{◌≡◌, IfOk, OnOk};
-ghost use Rattle.world_model.specs.Floors.{floors_after, granted_floor, kept_floor, lives_until, counts};
+ghost use Rattle.world_model.specs.Places.{kept_at};
+ghost use Rattle.world_model.specs.Floors.{floors_after, granted_floor, kept_floor, later, lives_until, counts};
 
 use crate::numbers::Numbers;
 use etcd_types::{Answer, Body, NoMemory, Request};
@@ -45,13 +46,24 @@ fn lives_until(call: &SentCall, ttl: u64) -> Result<u64, NoMemory>
     }
 }
 
+/// The later one of this time and of the floor that is kept for the lease.
+fn later(floors: &Numbers<Floor>, lease: u64, until: u64) -> u64
+    ensures { result ≡ later until (kept_at floors.now lease) }
+{
+    match floors.find(lease).copied() {
+        Some(old) => old.floor.max(until),
+        None => until,
+    }
+}
+
 fn grant(floors: &mut Numbers<Floor>, call: &SentCall, lease: u64, ttl: u64) -> Result<(), NoMemory>
     ensures { OnOk result (floors.new ≡ granted_floor call.now lease ttl floors.old) }
 {
     if !counts(lease, ttl) {
         return Ok(());
     }
-    let floor = lives_until(call, ttl)?;
+    let until = lives_until(call, ttl)?;
+    let floor = later(floors, lease, until);
     let proxy = call.proxy;
     Ok(floors.put(lease, Floor { proxy, floor })?)
 }

@@ -55,7 +55,7 @@ later_key e s w ws k c h = record {
 pub moved_key : (e f : Option Entry) (s t : Option Bool) (ws : List Write) (k : List ℕ) → f ≡ e → t ≡ s → KeyOk e s ws k → KeyOk f t ws k
 moved_key e f s t ws k p q h = subst (λ (x : Option Entry). KeyOk x t ws k) (sym p) (subst (λ (y : Option Bool). KeyOk e y ws k) (sym q) h)
 
-same_cover : (v w : Write) (k : List ℕ) → v.ranges ≡ w.ranges → covers v k ≡ covers w k
+pub same_cover : (v w : Write) (k : List ℕ) → v.ranges ≡ w.ranges → covers v k ≡ covers w k
 same_cover v w k r = ap (λ (rs : List KeyRange). covered rs k) r
 
 -- what holds a write back at a key does so after the pass
@@ -87,7 +87,7 @@ first_quiet w ws k c a q = cond_true (covers w k) (is_waiting w.stage && is_quie
 pub later_quiet : (w : Write) (ws : List Write) (k : List ℕ) → covers w k ≡ false → is_quiet k ws ≡ true → is_quiet k (w ∷ ws) ≡ true
 later_quiet w ws k c q = cond_false (covers w k) (is_waiting w.stage && is_quiet k ws) (is_quiet k ws) c ∙ q
 
-covered_pass : (step : ℕ) (earlier : List Write) (es : Keyed Entry) (ss : Keyed Bool) (ws : List Write) (k : List ℕ) → any_over k earlier ≡ true → is_quiet k ws ≡ true → Left (at es k) (at ss k) (passed step earlier es ss ws) k
+pub covered_pass : (step : ℕ) (earlier : List Write) (es : Keyed Entry) (ss : Keyed Bool) (ws : List Write) (k : List ℕ) → any_over k earlier ≡ true → is_quiet k ws ≡ true → Left (at es k) (at ss k) (passed step earlier es ss ws) k
 unfolding passed
 covered_pass step earlier es ss [] k o q = record { entry = refl; spoiled = refl; quiet = refl }
 covered_pass step earlier es ss (w ∷ ws) k o q =

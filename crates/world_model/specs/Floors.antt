@@ -21,10 +21,17 @@ lives_until call ttl = call.clock + 1000 * ttl
 abbrev pub counts : ℕ → ℕ → Bool
 counts lease ttl = is_session lease && nat_lt 0 ttl
 
--- a grant begins anew
+-- the later one of this time and of the floor that is kept
+abbrev pub later : ℕ → Option Floor → ℕ
+later until None = until
+later until (Some f) = max f.floor until
+
+-- the greatest counts, of a grant too
 abbrev pub granted_floor : SentCall → ℕ → ℕ → Numbered Floor → Numbered Floor
 granted_floor call lease ttl floors =
-    if counts lease ttl then with_kept floors lease (record { proxy = call.proxy; floor = lives_until call ttl }) else floors
+    if counts lease ttl
+    then with_kept floors lease (record { proxy = call.proxy; floor = later (lives_until call ttl) (kept_at floors lease) })
+    else floors
 
 abbrev pub raised : ℕ → ℕ → Numbered Floor → Option Floor → Numbered Floor
 raised lease until floors None = floors

@@ -1,5 +1,5 @@
--- The second part of the headline: a linearizable read that was answered with no call of its own shows what the store holds for its
--- key at that step.
+-- The second part of the headline: a read that was answered with no call of its own shows what the store holds for its key at that
+-- step. A serializable read is never answered so.
 use Rattle.std.specs.Prelude.{◌≡◌, ◌≤◌, ℕ, true, false, nat_le, if◌then◌else◌, List, [], ◌∷◌, ◌++◌, Option, None, Some}
 use Rattle.std.specs.List.{list_all}
 use Rattle.etcd_types.specs.declared.answer.Answer.{Answer}
@@ -65,7 +65,6 @@ pub record TrueNow (items : List Item) (p : ℕ) (key : List ℕ) (reply : Reply
 
 pub record UnsentRead (earlier later : List Item) (p ticket : ℕ) (ask : RangeAsk) : Type 0 where
   pub asked : asked_as p ticket (life p earlier) ≡ Some (request.Range ask)
-  pub linearizable : ask.serializable ≡ false
   pub unsent : is_named p ticket (life p earlier ++ rest_of_life p later) ≡ false
 
 -- each of them is a plain read, and its reply is true now
