@@ -1,6 +1,6 @@
 ghost use Rattle.std.specs.Prelude.{◌≡◌, Bool, List, Option, Err, IfErr, IsTrue};
 ghost use Rattle.core_model.specs.declared.event.CoreEvent.{CoreEvent};
-ghost use Rattle.serve_model.specs.Steps.{Step, MadeBy, Rested, Fits, IsOfRest, IsOfOwnStep};
+ghost use Rattle.serve_model.specs.Steps.{Step, MadeBy, Rested, Fits, IsOfRest, is_late};
 ghost use Rattle.serve_model.specs.declared.fault.TurnFault.TheVariants.{Worn};
 
 use core_model::{CoreEvent, Outcome};
@@ -21,10 +21,10 @@ pub trait Turn {
     // which events a rest may step on
     ghost rests: { CoreEvent → Type 0 };
 
-    // whether its machine makes no more steps, for good: for a pass, that its hub has made its last one
+    // whether no more steps are made, for good: for a pass, that its hub has made its last one
     ghost worn: { Self → Bool };
 
-    // that its steps so far are steps of its machine: for a pass, that its history is one that the core allows
+    // that its steps so far are ones that its machine makes: for a pass, that its history is one that the core allows
     ghost allowed: { Self → Type 0 };
 
     /// Makes one step.
@@ -42,8 +42,7 @@ pub trait Turn {
     fn rest<C: Clock>(&mut self, clock: &mut C) -> Result<(), TurnFault>
         ensures made { Rested rests (made self.old) (made self.new) }
         ensures fault { IfErr result IsOfRest }
-        ensures step { IfErr result (IsOfOwnStep rests) }
-        ensures worn { result ≡ Err Worn → IsTrue (worn self.new) }
+        ensures worn { IfErr result (λ why. IsTrue (is_late why) → IsTrue (worn self.new)) }
         ensures late { IsTrue (worn self.old) → IsTrue (worn self.new) }
         ensures allowed { allowed self.old → allowed self.new }
         ensures home { home self.new ≡ home self.old };

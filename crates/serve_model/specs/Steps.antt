@@ -98,10 +98,11 @@ IsOfRest (turn.Core step.Worn) = ⊤
 IsOfRest (turn.Core step.NoMemory) = ⊤
 IsOfRest (turn.Core _) = ⊥
 
--- a rest that fails by its core steps on events of its own
-abbrev pub IsOfOwnStep : (CoreEvent → Type 0) → TurnFault → Type 0
-IsOfOwnStep rests turn.Worn = ⊤
-IsOfOwnStep rests (turn.Core fault) = (event : CoreEvent) × rests event
+-- no more steps are made, by the turn or by its core
+abbrev pub is_late : TurnFault → Bool
+is_late turn.Worn = true
+is_late (turn.Core step.Worn) = true
+is_late _ = false
 
 -- Steps were made of which these are the connection's own; each other one is one that a rest may make.
 pub record Did (rests : CoreEvent → Type 0) (old new : Option (List Step)) (mine : List Step) : Type 0 where
