@@ -1,4 +1,4 @@
-ghost use Rattle.std.specs.Prelude.{◌≡◌, Bool, List, Option, Err, IfErr, IsTrue};
+ghost use Rattle.std.specs.Prelude.{◌≡◌, Bool, List, Option, IfErr, IsTrue};
 ghost use Rattle.core_model.specs.declared.event.CoreEvent.{CoreEvent};
 ghost use Rattle.serve_model.specs.Steps.{Step, MadeBy, Rested, Fits, IsOfRest, is_late};
 ghost use Rattle.serve_model.specs.declared.fault.TurnFault.TheVariants.{Worn};
@@ -31,7 +31,7 @@ pub trait Turn {
     fn turn<C: Clock>(&mut self, event: CoreEvent, clock: &mut C) -> Result<Outcome, TurnFault>
         ensures made { MadeBy (made self.old) (made self.new) event (C.last clock.new) result }
         ensures fits { Fits event result }
-        ensures worn { result ≡ Err Worn → IsTrue (worn self.new) }
+        ensures worn { IfErr result (λ why. why ≡ Worn → IsTrue (worn self.new)) }
         ensures late { IsTrue (worn self.old) → IsTrue (worn self.new) }
         ensures allowed { allowed self.old → allowed self.new }
         ensures home { home self.new ≡ home self.old };
