@@ -5,3 +5,5 @@ pub mod Receives
 pub mod Exchanges
 pub mod Serves
 pub mod Numbers
+pub mod Whole
+pub mod Complete
