@@ -7,3 +7,4 @@ pub mod Serves
 pub mod Numbers
 pub mod Whole
 pub mod Complete
+pub mod Behind
