@@ -2,7 +2,7 @@
 use Rattle.std.proofs.Common.{◌≡◌, ℕ, List, [], ◌++◌, Option, Some, ap, ◌∙◌}
 use Rattle.core_model.specs.declared.event.CoreEvent.{CoreEvent}
 use Rattle.serve_model.specs.declared.ends.SessionEnd.{SessionEnd}
-use Rattle.serve_model.specs.Steps.{Step, Adds, Did}
+use Rattle.serve_model.specs.Steps.{Step, Adds}
 use Rattle.serve_model.specs.Dialog.{Dialog}
 use Rattle.serve_model.specs.Numbers.{LastNumbered}
 use Rattle.serve_model.specs.Complete.{Completes}

@@ -1,5 +1,5 @@
 -- A connection in whose way nothing stood ends with all its requests answered.
-use Rattle.std.proofs.Common.{◌≡◌, ℕ, ◌+◌, ◌<◌, ◌≤◌, Bool, true, false, List, [], ◌∷◌, ◌++◌, length, Option, None, Some, IfSome, Result, Ok, Err, refl, sym, ap, ◌∙◌, subst, arith, ◌⊎◌, inl, inr}
+use Rattle.std.proofs.Common.{◌≡◌, ℕ, ◌+◌, false, List, [], ◌∷◌, ◌++◌, length, Option, None, Some, IfSome, Result, Ok, Err, refl, sym, ap, ◌∙◌, subst, arith, inl, inr}
 use Rattle.std.specs.List.{flat_map}
 use Rattle.outside.specs.Faults.{Rose}
 use Rattle.etcd_types.specs.declared.request.Request.{Request}
@@ -13,8 +13,8 @@ use Rattle.serve_model.specs.declared.ends.SessionEnd.{SessionEnd}
 use Rattle.serve_model.specs.declared.ends.SessionEnd.TheVariants as end
 use Rattle.serve_model.specs.declared.fault.TurnFault.TheVariants as turn
 use Rattle.serve_model.specs.declared.refused.Refused.{Refused}
-use Rattle.serve_model.specs.Steps.{Step, Every, Adds, FitsFault, IsOfRest, own, Did}
-use Rattle.serve_model.specs.Dialog.{Last, IsLast, Suits, SuitsUnread, StopsIn, Breaks, Stops, Stopping, Gone, IsUntold, IsUnasked, Breaking, Exchange, Requests, Dialog, end_of_step, asked_in, last_steps}
+use Rattle.serve_model.specs.Steps.{Step, Every, FitsFault, IsOfRest}
+use Rattle.serve_model.specs.Dialog.{Last, IsLast, Suits, SuitsUnread, StopsIn, Breaks, Stops, Stopping, Gone, IsUntold, IsUnasked, Exchange, Requests, Dialog, end_of_step, asked_in, last_steps}
 use Rattle.serve_model.specs.Numbers.{Rises, LastNumbered, asks}
 use Rattle.serve_model.specs.Complete.{AreWhole, AreRequests, is_refused, IsUnhindered, Completes}
 use Rattle.serve_model.proofs.Whole.{whole_behind, no_bad_head, no_bad_body}
@@ -35,7 +35,7 @@ NoneRefused steps = Every (λ (e : Step). is_refused e.answer ≡ false) steps
 abbrev IsPlain : SessionEnd → Type 0
 IsPlain (end.TicketTaken ticket) = ⊥
 IsPlain end.Worn = ⊥
-IsPlain _ = ⊤
+IsPlain _ = Unit {0}
 
 untold_plain : (last : SessionEnd) → IsUntold last → IsPlain last
 untold_plain end.WriteFault u = tt

@@ -1,12 +1,9 @@
 -- Bytes have one reading as whole requests.
-use Rattle.std.proofs.Common.{◌≡◌, ℕ, ◌<◌, Bool, true, false, List, [], ◌∷◌, length, take, drop, Option, None, Some, Result, Ok, Err, IsTrue, refl, sym, ap, ◌∙◌, subst, arith}
-use Rattle.httparse.specs.Grammar.{RequestHead}
+use Rattle.std.proofs.Common.{◌≡◌, ℕ, ◌<◌, List, [], ◌∷◌, length, take, drop, Some, Result, Ok, Err, IsTrue, sym, ap, ◌∙◌, subst, arith}
 use Rattle.httparse.proofs.GrammarLemmas.{request_unique}
 use Rattle.http_wire.specs.declared.fault.WireFault.{WireFault}
 use Rattle.http_wire.specs.declared.fault.WireFault.TheVariants as wire
 use Rattle.http_wire.specs.declared.message.Head.{Head}
-use Rattle.http_wire.specs.declared.scan.Ending.{Ending}
-use Rattle.http_wire.specs.declared.scan.Ending.TheVariants as ending
 use Rattle.http_wire.specs.declared.limits.TheConstants.{BODY_LIMIT}
 use Rattle.http_wire.specs.Bodies.{End, Ended, Trailed, Broken, IsEnd, IsBroken, BodyRead, content, is_of_bytes}
 use Rattle.http_wire.specs.Ends.{head_end}
@@ -14,22 +11,15 @@ use Rattle.http_wire.specs.Heads.{HeadRead, IsHead, head_of}
 use Rattle.serve_model.specs.Dialog.{Exchange, IsRequest, Requests}
 use Rattle.serve_model.specs.Complete.{AreRequests}
 
-at_one_place : (a : Ending) (n m : ℕ) → a ≡ ending.At n → a ≡ ending.At m → n ≡ m
-at_one_place a n m p q = cc
+-- a head ends at one place
+one_end : (all mid mid' : List ℕ) (head head' : Head) (p : HeadRead all mid (Ok (Some head))) (q : HeadRead all mid' (Ok (Some head'))) → p.0 ≡ q.0
+one_end all mid mid' head head' p q = let e = p.1 in let f = q.1 in cc
 
-not_over : (a : Ending) (n : ℕ) → a ≡ ending.At n → a ≡ ending.Over → ⊥
-not_over a n p q = cc
-
-not_cut : (a : Ending) (n : ℕ) → a ≡ ending.At n → a ≡ ending.Cut → ⊥
-not_cut a n p q = cc
-
-head_in : Head → Result Head WireFault → Head
-unfolding head_in
+abbrev head_in : Head → Result Head WireFault → Head
 head_in other (Ok head) = head
 head_in other (Err fault) = other
 
 same_head : (x y : Head) (r : Result Head WireFault) → r ≡ Ok x → r ≡ Ok y → x ≡ y
-unfolding head_in
 same_head x y r p q = ap (head_in x) (sym p ∙ q)
 
 not_both : (x : Head) (f : WireFault) (r : Result Head WireFault) → r ≡ Ok x → r ≡ Err f → ⊥
@@ -38,7 +28,7 @@ not_both x f r p q = cc
 -- a head among the bytes, and what follows it, are one
 pub head_unique : (all mid mid' : List ℕ) (head head' : Head) → HeadRead all mid (Ok (Some head)) → HeadRead all mid' (Ok (Some head')) → (head ≡ head') × (mid ≡ mid')
 head_unique all mid mid' head head' p q =
-    let n = at_one_place (head_end all) p.0 q.0 p.1 q.1 in
+    let n = one_end all mid mid' head head' p q in
     let other : IsHead (take p.0 all) (Ok head') = subst (λ (k : ℕ). IsHead (take k all) (Ok head')) (sym n) q.2 in
     let h = (request_unique (take p.0 all) p.2.0 other.0 [] [] p.2.1 other.1).0 in
     (same_head head head' (head_of p.2.0) p.2.3 (ap head_of h ∙ other.3), p.3 ∙ ap (λ (k : ℕ). drop k all) n ∙ sym q.3)
@@ -68,7 +58,7 @@ request_ends_once head head' body body' all rest rest' p q =
 
 -- no head is in no bytes
 no_head : (all rest : List ℕ) (head : Head) → all ≡ [] → HeadRead all rest (Ok (Some head)) → ⊥
-no_head all rest head e r = not_cut (head_end all) r.0 r.1 (ap head_end e)
+no_head all rest head e r = let f = r.1 in let g = ap head_end e in absurd (cc)
 
 -- behind requests that were read, whole ones are left
 pub whole_behind : (ws : List (Head × List ℕ)) (xs : List Exchange) (all mid : List ℕ) → AreRequests ws all → Requests xs all mid
@@ -82,29 +72,34 @@ length_none : (all : List ℕ) → all ≡ [] → 0 < length all → ⊥
 length_none all e l = let n : length all ≡ 0 = ap length e in omega arith
 
 -- whole requests begin with no bad head
+no_fault_here : (all mid rest : List ℕ) (head : Head) (fault : WireFault) → IsTrue (is_of_bytes fault) → HeadRead all mid (Ok (Some head)) → HeadRead all rest (Err fault) → ⊥
+no_fault_here all mid rest head wire.BadHead t h r =
+    let e = h.1 in
+    let f = r.1 in
+    let n : r.0 ≡ h.0 = cc in
+    let here : IsHead (take h.0 all) (Err wire.BadHead) = subst (λ (k : ℕ). IsHead (take k all) (Err wire.BadHead)) n r.2 in
+    not_both head wire.BadHead (head_of h.2.0) h.2.3 (here h.2.0 h.2.1 h.2.2)
+no_fault_here all mid rest head wire.HeadTooLong t h r = let e = h.1 in absurd (cc)
+no_fault_here all mid rest head wire.EndedEarly t h r = let e = h.1 in let f = r.0 in absurd (cc)
+no_fault_here all mid rest head wire.BodyTooLong t h r = r
+no_fault_here all mid rest head wire.BadChunk t h r = r
+no_fault_here all mid rest head wire.ReadFault t h r = absurd (cc)
+no_fault_here all mid rest head wire.WriteFault t h r = r
+no_fault_here all mid rest head wire.NoMemory t h r = absurd (cc)
+
+no_fault_at_end : (all rest : List ℕ) (fault : WireFault) → IsTrue (is_of_bytes fault) → all ≡ [] → HeadRead all rest (Err fault) → ⊥
+no_fault_at_end all rest wire.BadHead t a r = let e = r.1 in let f = ap head_end a in absurd (cc)
+no_fault_at_end all rest wire.HeadTooLong t a r = let f = ap head_end a in absurd (cc)
+no_fault_at_end all rest wire.EndedEarly t a r = length_none all a r.1
+no_fault_at_end all rest wire.BodyTooLong t a r = r
+no_fault_at_end all rest wire.BadChunk t a r = r
+no_fault_at_end all rest wire.ReadFault t a r = absurd (cc)
+no_fault_at_end all rest wire.WriteFault t a r = r
+no_fault_at_end all rest wire.NoMemory t a r = absurd (cc)
+
 pub no_bad_head : (ws : List (Head × List ℕ)) (all rest : List ℕ) (fault : WireFault) → IsTrue (is_of_bytes fault) → AreRequests ws all → HeadRead all rest (Err fault) → ⊥
-no_bad_head [] all rest wire.BadHead t a r = not_cut (head_end all) r.0 r.1 (ap head_end a)
-no_bad_head [] all rest wire.HeadTooLong t a r = over_or_cut (head_end all) r (ap head_end a)
-  where
-    over_or_cut : (e : Ending) → e ≡ ending.Over → e ≡ ending.Cut → ⊥
-    over_or_cut e p q = cc
-no_bad_head [] all rest wire.EndedEarly t a r = length_none all a r.1
-no_bad_head [] all rest wire.BodyTooLong t a r = r
-no_bad_head [] all rest wire.BadChunk t a r = r
-no_bad_head [] all rest wire.ReadFault t a r = absurd (cc)
-no_bad_head [] all rest wire.WriteFault t a r = r
-no_bad_head [] all rest wire.NoMemory t a r = absurd (cc)
-no_bad_head (w ∷ ws) all rest wire.BadHead t a r =
-    let head = a.1.1 in
-    let here : IsHead (take head.0 all) (Err wire.BadHead) = subst (λ (k : ℕ). IsHead (take k all) (Err wire.BadHead)) (at_one_place (head_end all) r.0 head.0 r.1 head.1) r.2 in
-    not_both w.0 wire.BadHead (head_of head.2.0) head.2.3 (here head.2.0 head.2.1 head.2.2)
-no_bad_head (w ∷ ws) all rest wire.HeadTooLong t a r = not_over (head_end all) a.1.1.0 a.1.1.1 r
-no_bad_head (w ∷ ws) all rest wire.EndedEarly t a r = not_cut (head_end all) a.1.1.0 a.1.1.1 r.0
-no_bad_head (w ∷ ws) all rest wire.BodyTooLong t a r = r
-no_bad_head (w ∷ ws) all rest wire.BadChunk t a r = r
-no_bad_head (w ∷ ws) all rest wire.ReadFault t a r = absurd (cc)
-no_bad_head (w ∷ ws) all rest wire.WriteFault t a r = r
-no_bad_head (w ∷ ws) all rest wire.NoMemory t a r = absurd (cc)
+no_bad_head [] all rest fault t a r = no_fault_at_end all rest fault t a r
+no_bad_head (w ∷ ws) all rest fault t a r = no_fault_here all a.1.0 rest w.0 fault t a.1.1 r
 
 -- and have no bad body
 pub no_bad_body : (ws : List (Head × List ℕ)) (all mid rest : List ℕ) (head : Head) (fault : WireFault) → IsTrue (is_of_bytes fault) → AreRequests ws all

@@ -1,6 +1,6 @@
 -- A connection whose requests all have their replies: nothing outside failed it, its bytes are whole requests, no step of it failed, and its
 -- tickets were enough.
-use Rattle.std.specs.Prelude.{◌≡◌, ℕ, ◌+◌, ◌<◌, Bool, true, false, List, [], ◌∷◌, length, Option, None, Some, Result, Ok, Err, ◌⊎◌}
+use Rattle.std.specs.Prelude.{◌≡◌, ℕ, ◌+◌, ◌<◌, Bool, true, false, List, [], ◌∷◌, length, Option, None, Some, Result, Err, ◌⊎◌}
 use Rattle.outside.specs.Faults.{Rose}
 use Rattle.http_wire.specs.declared.message.Head.{Head}
 use Rattle.core_model.specs.declared.event.Outcome.{Outcome}
