@@ -1,27 +1,29 @@
 ghost use Rattle.std.specs.Prelude.{◌≡◌, IfOk};
-ghost use Rattle.work_model.specs.Calls.{IsCalled, call_of, lost_on};
+ghost use Rattle.work_model.specs.Calls.{IsCalled, call_of, kept_call_of, lost_on};
 
 use crate::hear::hear;
 use api_request::encode_request;
 use etcd_types::{Answer, Bytes, NoMemory, Request};
-use http_wire::{Persistence, write_call};
+use http_wire::{write_call, write_kept_call};
 use outside::{CallKind, Link, LinkFault};
 use std::alloc::Global;
 use work_model::CallFault;
 
-/// The bytes of a request's call to a host, by whether its connection is to stay.
-pub fn call_bytes(
-    alloc: Global,
-    persistence: Persistence,
-    host: &[u8],
-    request: &Request,
-) -> Result<Bytes, NoMemory>
-    ensures { IfOk result (λ bytes. bytes ≡ call_of persistence host.now request.now) }
+/// The bytes of a request's call to a host, which asks for the connection's end behind its answer.
+pub fn call_bytes(alloc: Global, host: &[u8], request: &Request) -> Result<Bytes, NoMemory>
+    ensures { IfOk result (λ bytes. bytes ≡ call_of host.now request.now) }
 {
     let (path, body) = encode_request(alloc, request)?;
-    Ok(write_call(
+    Ok(write_call(alloc, host, path.as_slice(), body.as_slice())?)
+}
+
+/// The bytes of a request's call to a host, behind whose answer the connection may stay.
+fn kept_call_bytes(alloc: Global, host: &[u8], request: &Request) -> Result<Bytes, NoMemory>
+    ensures { IfOk result (λ bytes. bytes ≡ kept_call_of host.now request.now) }
+{
+    let (path, body) = encode_request(alloc, request)?;
+    Ok(write_kept_call(
         alloc,
-        persistence,
         host,
         path.as_slice(),
         body.as_slice(),
@@ -51,7 +53,7 @@ pub fn make_call<L: Link>(
     ensures { IsCalled host.now member kind request.now (L.made link.old) (L.made link.new)
         (L.faults link.old) (L.faults link.new) result }
 {
-    let Ok(bytes) = call_bytes(alloc, Persistence::Stays, host, request) else {
+    let Ok(bytes) = kept_call_bytes(alloc, host, request) else {
         return Err(CallFault::NoMemory);
     };
     match link.begin(member, kind, bytes.as_slice()) {

@@ -2,11 +2,10 @@
 use Rattle.std.specs.Prelude.{◌≡◌, ℕ, List}
 use Rattle.outside.specs.declared.parts.Part.{Part}
 use Rattle.etcd_types.specs.declared.request.Request.{Request}
-use Rattle.http_wire.specs.declared.written.Persistence.TheVariants.{Closes}
 use Rattle.work_model.specs.Calls.{call_of}
 use Rattle.work_model.specs.Working.{IsAt, follower}
 
 -- the stream of a request to a host, with a place at this home
 abbrev pub IsFollower : {P C H : Type 0} → (P → H) → H → List ℕ → ℕ → ℕ → Request → Part P C → Type 0
 IsFollower {P} home_of home host stream member request part =
-    (place : P) × IsAt home_of home place × (part ≡ follower place stream member (call_of Closes host request))
+    (place : P) × IsAt home_of home place × (part ≡ follower place stream member (call_of host request))

@@ -6,7 +6,6 @@ use crate::seats::Seats;
 use crate::steps::{feed, report};
 use core_model::{CoreEvent, Job};
 use etcd_types::{Bytes, List, NoMemory, Request};
-use http_wire::Persistence;
 use outside::{Clock, Follow, Link, Part, Spawner};
 use proxy_calls::{call_bytes, kind_of, make_call};
 use proxy_server::Turn;
@@ -72,7 +71,7 @@ fn follower<T: Seats, C>(
     ensures allowed { T.allowed turn.old → T.allowed turn.new }
     ensures part { IfOk result (λ part. IsFollower T.place_home (T.home turn.old) host.now stream member request.now part) }
 {
-    let call = call_bytes(alloc, Persistence::Closes, host, request)?;
+    let call = call_bytes(alloc, host, request)?;
     let place = turn.another()?;
     Ok(Part::Follower(
         place,

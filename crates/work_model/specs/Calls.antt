@@ -20,14 +20,12 @@ use Rattle.json_model.specs.declared.fault.NotReply.{NotReply}
 use Rattle.json_model.specs.declared.fault.NotReply.TheVariants as reply
 use Rattle.http_wire.specs.Bodies.{WholeRead, is_of_bytes}
 use Rattle.http_wire.specs.Heads.{AnswerRead}
-use Rattle.http_wire.specs.Written.{call}
+use Rattle.http_wire.specs.Written.{call, kept_call}
 use Rattle.http_wire.specs.declared.fault.WireFault.{WireFault}
 use Rattle.http_wire.specs.declared.fault.WireFault.TheVariants as wire
 use Rattle.http_wire.specs.declared.message.AnswerHead.{AnswerHead}
 use Rattle.http_wire.specs.declared.message.Framing.{Framing}
 use Rattle.http_wire.specs.declared.message.Framing.TheVariants.{ToEnd}
-use Rattle.http_wire.specs.declared.written.Persistence.{Persistence}
-use Rattle.http_wire.specs.declared.written.Persistence.TheVariants.{Stays}
 use Rattle.core_model.specs.Heard.{is_known}
 use Rattle.serve_model.specs.Steps.{Every}
 use Rattle.work_model.specs.declared.fault.CallFault.{CallFault}
@@ -35,10 +33,13 @@ use Rattle.work_model.specs.declared.fault.CallFault.TheVariants as fault
 
 -- ---- what is sent
 
--- the bytes of a request's call to a host, by whether its connection is to stay
-abbrev pub call_of : Persistence → List ℕ → Request → List ℕ
-call_of persistence host request =
-    call persistence host (path_text (request_path request)) (request_text request)
+-- the bytes of a request's call to a host, behind whose answer the connection may stay
+abbrev pub kept_call_of : List ℕ → Request → List ℕ
+kept_call_of host request = kept_call host (path_text (request_path request)) (request_text request)
+
+-- the same for a connection that it asks to be closed behind it
+abbrev pub call_of : List ℕ → Request → List ℕ
+call_of host request = call host (path_text (request_path request)) (request_text request)
 
 -- ---- what a whole answer says
 
@@ -115,7 +116,7 @@ lost_on link.NoMemory = fault.NoMemory
 
 -- a call of a request on a link, and what came of it
 abbrev pub begun : List ℕ → ℕ → CallKind → Request → Result (Option (List ℕ)) LinkFault → LinkCall
-begun host member kind request came = Begun member kind (call_of Stays host request) came
+begun host member kind request came = Begun member kind (kept_call_of host request) came
 
 -- A request is called once: its answer was heard and given back; the link failed, or had no memory; or for want of memory there was no
 -- call.

@@ -1,7 +1,7 @@
 -- A worker: it draws what is due, one job after the other, and makes it. A call is made once, and its answer or its loss is fed;
 -- a stream is handed over to be followed, or is cut; a closing needs no step and no call. What is due is the core's own rule. Each part of
 -- it ends early for want of memory, or where the machine is worn: `worn` says that it is, at the end, where it still is.
-use Rattle.std.specs.Prelude.{◌≡◌, ℕ, ◌+◌, ◌-◌, ◌<◌, ◌≤◌, Bool, true, false, List, [], ◌∷◌, ◌++◌, Option, None, Some, Result, Ok, Err, ◌⊎◌, ⊤, slice_get, unwrap_or}
+use Rattle.std.specs.Prelude.{◌≡◌, ℕ, ◌+◌, ◌-◌, ◌<◌, ◌≤◌, Bool, true, false, List, [], ◌∷◌, ◌++◌, Option, None, Some, Result, Ok, Err, IsTrue, slice_get, unwrap_or}
 use Rattle.outside.specs.Calls.{Adds as Tells, LinkCall, Handed}
 use Rattle.outside.specs.Faults.{Rose}
 use Rattle.outside.specs.declared.parts.Part.{Part}
@@ -17,8 +17,7 @@ use Rattle.core_model.specs.declared.event.Outcome.{Outcome}
 use Rattle.core_model.specs.declared.event.Outcome.TheVariants.{Job as Due}
 use Rattle.core_model.specs.declared.event.StepFault.{StepFault}
 use Rattle.core_model.specs.declared.event.StepFault.TheVariants as step
-use Rattle.http_wire.specs.declared.written.Persistence.TheVariants.{Closes}
-use Rattle.serve_model.specs.Steps.{Step, Every, Adds, IsOfRest, IsOfOwnStep}
+use Rattle.serve_model.specs.Steps.{Step, Every, Adds, IsOfRest, is_late}
 use Rattle.serve_model.specs.declared.fault.TurnFault.{TurnFault}
 use Rattle.serve_model.specs.declared.fault.TurnFault.TheVariants as turn
 use Rattle.work_model.specs.declared.ends.WorkEnd.{WorkEnd}
@@ -66,7 +65,7 @@ follower place stream member bytes = Follower place (record { stream = stream; m
 -- a request's stream, handed over to be followed, and whether that was started
 abbrev pub handed_as : {P C : Type 0} → List ℕ → P → ℕ → ℕ → Request → Bool → Handed (Part P C)
 handed_as host place stream member request started =
-    record { part = follower place stream member (call_of Closes host request); started = started }
+    record { part = follower place stream member (call_of host request); started = started }
 
 -- A call is made once, and its answer or its loss is fed: the steps, the calls on the link, and an end, where it is one
 pub data CallDoes (worn : Type 0) (host : List ℕ) (call member : ℕ) (request : Request) : List Step → List LinkCall → Option WorkEnd → Type 0 where
@@ -115,7 +114,7 @@ pub data Draws (rests : CoreEvent → Type 0) (worn : Type 0) : List Step → Re
   drew : (idle : List Step) (now : ℕ) (job : Job) → Idles rests idle
       → Draws rests worn (idle ++ (entry_of Work now (Ok (Due (Some job))) ∷ [])) (Ok job)
   restless : (idle : List Step) (now : ℕ) (rested : List Step) (why : TurnFault) → Idles rests idle → Every (λ e. rests e.event) rested
-      → IsOfRest why → IsOfOwnStep rests why → (why ≡ turn.Worn → worn)
+      → IsOfRest why → (IsTrue (is_late why) → worn)
       → Draws rests worn (idle ++ (entry_of Work now (Ok (Due None)) ∷ rested)) (Err (ended_by why))
   spent : (idle : List Step) (now : ℕ) → Idles rests idle
       → Draws rests worn (idle ++ (entry_of Work now (Err step.Worn) ∷ [])) (Err how.Worn)
