@@ -3,6 +3,7 @@ use Rattle.std.specs.Prelude.{◌≡◌, ℕ, ◌≤◌, Bool, true, false, List
 use Rattle.etcd_types.specs.declared.watch.WatchItem.{WatchItem}
 use Rattle.outside.specs.Calls.{Adds as Tells, LinkCall, Begun, Ended}
 use Rattle.outside.specs.declared.link.AnswerEnd.{AnswerEnd}
+use Rattle.outside.specs.declared.link.AnswerEnd.TheVariants as answer
 use Rattle.outside.specs.declared.link.CallKind.TheVariants.{Watches}
 use Rattle.outside.specs.declared.link.LinkFault.{LinkFault}
 use Rattle.outside.specs.declared.link.LinkFault.TheVariants as link
@@ -10,6 +11,7 @@ use Rattle.outside.specs.declared.parts.Follow.{Follow}
 use Rattle.outside.specs.Faults.{Rose}
 use Rattle.json_model.specs.declared.fault.NotReply.TheVariants.{Unreadable}
 use Rattle.json_model.specs.WatchItems.{item_of}
+use Rattle.http_wire.specs.declared.fault.WireFault.{WireFault}
 use Rattle.http_wire.specs.declared.limits.TheConstants.{LINE_LIMIT}
 use Rattle.http_wire.specs.declared.message.Framing.{Framing}
 use Rattle.http_wire.specs.Held.{ReadsAhead}
@@ -24,8 +26,16 @@ use Rattle.serve_model.specs.Steps.{Step, Adds}
 use Rattle.stream_model.specs.declared.ends.StreamEnd.{StreamEnd}
 use Rattle.stream_model.specs.declared.ends.StreamEnd.TheVariants as how
 use Rattle.stream_model.specs.declared.ends.Stop.{Stop}
-use Rattle.stream_model.specs.Following.{Cause, IsGood, Reads, Stands, HasRisen, IsQuiet, wanted, read_to, Cuts, Following}
+use Rattle.stream_model.specs.Following.{Cause, IsGood, Reads, Stands, HasRisen, IsQuiet, wanted, end_by, read_to, Cuts, Following}
 use Rattle.stream_model.specs.Following.Cause.{Broken, Ended, Unread, NoMessage}
+
+-- a stream ends so, and its answer isn't read on
+abbrev pub cut_at : StreamEnd → Stop
+cut_at end = record { end = end; read = answer.Broken }
+
+-- how a stream stops whose body is broken by this fault
+abbrev pub stop_by : WireFault → Stop
+stop_by fault = record { end = end_by fault; read = read_to (Broken fault) }
 
 -- a cause by which the stream stops so, which comes of no message
 abbrev pub Stops : Cause → Stop → ℕ → ℕ → Type 0

@@ -22,7 +22,7 @@ use Rattle.http_wire.specs.declared.fault.WireFault.TheVariants as wire
 use Rattle.http_wire.specs.declared.message.AnswerHead.{AnswerHead}
 use Rattle.work_model.specs.declared.fault.CallFault.{CallFault}
 use Rattle.work_model.specs.declared.fault.CallFault.TheVariants as fault
-use Rattle.work_model.specs.Calls.{kept_call_of, tells, IsUnclear, Says, end_of, Hears, Heard, lost_by, lost_on, begun, Calls, OnLink, IsCalled}
+use Rattle.work_model.specs.Calls.{kept_call_of, tells, IsUnclear, Says, end_of, Hears, Heard, lost_by, lost_on, begun, Calls, IsCalled}
 use Rattle.work_model.proofs.Links.{tells_then, link_none}
 
 -- ---- what a whole answer says
@@ -161,3 +161,8 @@ exchanged host bytes member kind request made mid made' n m k had left count how
       called = Calls.exchanged had left count how result h;
       link = record { told = tells_then made mid made' (first ∷ []) (Ended left count how ∷ []) b' t; kept = omega arith; caused = (tt, (tt, tt)) };
     }
+
+-- a call whose kind has another name
+pub called_as : (host : List ℕ) (member : ℕ) (kind other : CallKind) (request : Request) (made made' : Option (List LinkCall)) (n m : ℕ) (result : Result Answer CallFault) → kind ≡ other
+    → IsCalled host member kind request made made' n m result → IsCalled host member other request made made' n m result
+called_as host member kind other request made made' n m result e c = subst (λ (x : CallKind). IsCalled host member x request made made' n m result) e c

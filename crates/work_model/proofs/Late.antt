@@ -1,5 +1,5 @@
 -- What ended by a worn machine did so at any later moment, since a machine stays worn.
-use Rattle.std.proofs.Common.{ℕ, List, Option, Result, Ok, Err, None, Some, IsTrue}
+use Rattle.std.proofs.Common.{ℕ, List, Option, Result, Ok, Err, None, Some}
 use Rattle.outside.specs.Calls.{LinkCall, Handed}
 use Rattle.outside.specs.declared.parts.Part.{Part}
 use Rattle.etcd_types.specs.declared.answer.Answer.{Answer}
@@ -8,7 +8,7 @@ use Rattle.core_model.specs.declared.event.CoreEvent.{CoreEvent}
 use Rattle.core_model.specs.declared.event.Job.{Job}
 use Rattle.serve_model.specs.Steps.{Step}
 use Rattle.work_model.specs.declared.ends.WorkEnd.{WorkEnd}
-use Rattle.work_model.specs.Working.{Fed, Reports, CallDoes, BeginDoes, Does, Draws, Working, Works, Ledger, IsWorked, IsWorking}
+use Rattle.work_model.specs.Working.{Fed, Reports, CallDoes, BeginDoes, Does, Draws, Working, Works, Ledger, IsWorked}
 
 fed_late : {v w : Type 0} (event : CoreEvent) (end result : Option WorkEnd) (steps : List Step) → (v → w) → Fed v event end steps result → Fed w event end steps result
 fed_late event end _ _ f (Fed.stepped now given) = Fed.stepped now given

@@ -1,5 +1,5 @@
 -- What is told of the calls on a link, from one moment to a later one.
-use Rattle.std.proofs.Common.{◌≡◌, ℕ, ◌≤◌, arith, List, [], ◌∷◌, ◌++◌, Option, None, Some, Ok, Err, sym, ap, ◌∙◌, append_assoc, append-nil}
+use Rattle.std.proofs.Common.{ℕ, ◌≤◌, arith, List, [], ◌∷◌, ◌++◌, Option, None, Some, Ok, Err, sym, ap, ◌∙◌, append_assoc, append-nil}
 use Rattle.outside.specs.Calls.{Adds, LinkCall, Begun, Ended}
 use Rattle.outside.specs.declared.link.LinkFault.TheVariants as link
 use Rattle.serve_model.specs.Steps.{Every}

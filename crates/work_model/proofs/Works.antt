@@ -1,5 +1,5 @@
 -- A worker's turns: each step, each job, and all of them, one after the other.
-use Rattle.std.proofs.Common.{◌≡◌, ℕ, ◌+◌, ◌<◌, ◌≤◌, arith, Bool, true, false, List, [], ◌∷◌, ◌++◌, Option, None, Some, Result, Ok, Err, IsTrue, refl, sym, ◌∙◌, subst, append-nil}
+use Rattle.std.proofs.Common.{◌≡◌, ℕ, ◌+◌, ◌<◌, ◌≤◌, arith, true, false, List, [], ◌∷◌, ◌++◌, Option, None, Some, Result, Ok, Err, IsTrue, refl, sym, subst, append-nil}
 use Rattle.outside.specs.Calls.{Adds as Tells, LinkCall, Handed}
 use Rattle.outside.specs.Faults.{Rose}
 use Rattle.outside.specs.declared.parts.Part.{Part}
@@ -17,14 +17,14 @@ use Rattle.core_model.specs.declared.event.StepFault.TheVariants as step
 use Rattle.serve_model.specs.declared.fault.TurnFault.{TurnFault}
 use Rattle.serve_model.specs.declared.fault.TurnFault.TheVariants as turn
 use Rattle.serve_model.specs.Dialog.{is_worn}
-use Rattle.serve_model.specs.Steps.{Step, Every, Adds, MadeBy, Rested, Fits, IsOfRest, is_late}
+use Rattle.serve_model.specs.Steps.{Step, Adds, MadeBy, Rested, Fits, IsOfRest, is_late}
 use Rattle.serve_model.proofs.Steps.{adds_then, adds_none, every_append}
 use Rattle.work_model.specs.declared.ends.WorkEnd.{WorkEnd}
 use Rattle.work_model.specs.declared.ends.WorkEnd.TheVariants as how
 use Rattle.work_model.specs.declared.fault.CallFault.{CallFault}
-use Rattle.work_model.specs.Calls.{call_of, OnLink, IsCalled}
+use Rattle.work_model.specs.Calls.{IsCalled}
 use Rattle.work_model.specs.Kinds.{kind_of}
-use Rattle.work_model.specs.Working.{host_of, is_full, Fed, Reports, lost_end, follower, handed_as, CallDoes, BeginDoes, Does, ended_by, Idles, Draws, Working, Works, IsRefused, OnSpawner, Ledger, ledger, Between, IsAt, IsFed, IsReported, IsCallMade, IsHandedOver, IsDrawn, IsIdle, IsDone, IsWorked, IsWorking}
+use Rattle.work_model.specs.Working.{host_of, is_full, Fed, Reports, lost_end, handed_as, CallDoes, BeginDoes, Does, ended_by, Idles, Draws, Working, Works, IsRefused, OnSpawner, Ledger, ledger, Between, IsAt, IsFed, IsReported, IsCallMade, IsHandedOver, IsDrawn, IsIdle, IsDone, IsWorked, IsWorking}
 use Rattle.work_model.proofs.Late.{working_late, drawn_late}
 use Rattle.work_model.proofs.Links.{tells_then, tells_none, every_as, link_none, link_then}
 
@@ -207,9 +207,6 @@ was_drawn rests worn a b c now job i m = record {
   draws = Draws.drew i.steps now job i.idles;
   adds = adds_then a b c i.steps (entry_of Work now (Ok (Due (Some job))) ∷ []) i.adds m;
 }
-
-drawn_none : (rests : CoreEvent → Type 0) (worn : Type 0) (a b : Option (List Step)) → IsIdle rests a b → worn → IsDrawn rests worn a b (Err how.Worn)
-drawn_none rests worn a b i l = record { steps = i.steps; draws = Draws.late i.steps i.idles l; adds = i.adds }
 
 pub not_drawn : (rests : CoreEvent → Type 0) (worn : Type 0) (a b c : Option (List Step)) (now : ℕ) (why : TurnFault) → IsIdle rests a b → Fits Work (Err why) → MadeBy b c Work now (Err why)
     → (why ≡ turn.Worn → worn) → IsDrawn rests worn a c (Err (ended_by why))
