@@ -18,7 +18,7 @@ use Rattle.serve_model.specs.declared.ends.SessionEnd.TheVariants as end
 use Rattle.serve_model.specs.declared.fault.TurnFault.{TurnFault}
 use Rattle.serve_model.specs.declared.fault.TurnFault.TheVariants as turn
 use Rattle.serve_model.specs.Steps.{Step, steps_by, MadeBy, Rested, Did, Fits, FitsFault, IsOfRest, is_late}
-use Rattle.serve_model.specs.Dialog.{ArePartial, TakesAll, Whole, Stopping, Stops, Gone, Breaks, AreInUse, IsUntold, is_worn, is_in_use, end_of, end_of_step, is_final, is_cancel, goes_on, begins, said_at, said_from}
+use Rattle.serve_model.specs.Dialog.{ArePartial, TakesAll, Whole, Stopping, Stops, Gone, Breaks, IsUntold, is_worn, is_in_use, end_of, end_of_step, is_final, is_cancel, goes_on, begins, said_at, said_from}
 use Rattle.serve_model.proofs.Steps.{did_then, did_nothing, did_rest, did_turn, every_append}
 use Rattle.serve_model.specs.declared.progress.Attempt.{Attempt}
 use Rattle.serve_model.specs.declared.progress.Attempt.TheVariants as attempt
@@ -26,7 +26,7 @@ use Rattle.serve_model.specs.declared.progress.Stop.{Stop}
 use Rattle.serve_model.specs.declared.progress.Stop.TheVariants as stop
 use Rattle.serve_model.specs.declared.progress.Taken.{Taken}
 use Rattle.serve_model.specs.declared.progress.Taken.TheVariants as taken
-use Rattle.serve_model.specs.Parts.{Partly, PassesOn, Took, Takes, FollowsAll, Follows, Stopped, AskedOnce, Asks, Left, IsTaken, IsOfTicket, begun_by}
+use Rattle.serve_model.specs.Parts.{Partly, PassesOn, Took, Takes, FollowsAll, Follows, AskedOnce, Asks, Left, IsOfTicket, begun_by}
 use Rattle.serve_model.proofs.Said.{front_all, front_none, front_after, front_more, keeps_itself, appends_nothing}
 
 -- the same result by another name

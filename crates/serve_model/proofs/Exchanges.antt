@@ -16,7 +16,7 @@ use Rattle.serve_model.specs.declared.ends.SessionEnd.TheVariants as end
 use Rattle.serve_model.specs.declared.progress.Attempt.TheVariants as attempt
 use Rattle.serve_model.specs.declared.refused.Refused.{Refused}
 use Rattle.serve_model.specs.Steps.{Step, Did}
-use Rattle.serve_model.specs.Dialog.{Last, Suits, SuitsUnread, Said, Ahead, IsRequest, Exchange, Ends, GoesOn, StopsIn, Breaks, Breaking, IsUntold, AreInUse, begins, said_at, said_from, said_for, said_in, refusal_to, go_on_of, asked_of}
+use Rattle.serve_model.specs.Dialog.{Last, Suits, SuitsUnread, Said, Ahead, IsRequest, Exchange, Ends, GoesOn, Breaks, Breaking, IsUntold, AreInUse, begins, said_at, said_from, said_for, said_in, refusal_to, go_on_of, asked_of}
 use Rattle.serve_model.specs.Parts.{EndsUnasked, AskedOnce, Asks, Tried, Responded, Responds, begun_by}
 use Rattle.serve_model.proofs.Steps.{did_nothing, did_then, every_append}
 use Rattle.serve_model.proofs.Said.{front_none, front_by, front_after, keeps_itself}
