@@ -82,6 +82,11 @@ test_same n m t = grind arith
 pub full_at_limit : (before after : Known (Opening Core) Step) → Stops CoreSteps before after → IsTrue (is_at_limit after)
 full_at_limit before after s = same_test (length after.seen + base_of after.hub) (2 ^ 62) s.full
 
+pub worn_at_limit : (before after : Known (Opening Core) Step) (event : CoreEvent) (now : ℕ) (x : HubFault StepFault) → x ≡ Worn → Fails CoreSteps before after event now x
+    → IsTrue (is_at_limit after)
+worn_at_limit before after event now x e f =
+    full_at_limit before after (subst (λ (y : HubFault StepFault). Fails CoreSteps before after event now y) e f)
+
 base_same : (x y : Known (Opening Core) Step) → y.hub ≡ x.hub → base_of y.hub ≡ base_of x.hub
 base_same x y e = ap (λ h. base_of h) e
 

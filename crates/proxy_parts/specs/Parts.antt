@@ -39,4 +39,4 @@ pub record Followed (follow : Follow) (worn : Type 0) (called called' : Option (
     (made made' : Option (List Step)) (end' : PartEnd) : Type 0 where
   pub end : StreamEnd
   pub ends : end' ≡ Follower end
-  pub followed : IsFollowed follow worn called called' faults faults' made made' end
+  pub followed : IsFollowed worn follow called called' faults faults' made made' end

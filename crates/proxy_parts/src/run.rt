@@ -126,7 +126,7 @@ fn run_follower<R: Wait, L: Link, C: Clock>(
 ) -> (Place, StreamEnd)
     ensures home { home_of result.0 ≡ home_of place }
     ensures grows { Grows place.pass result.0.pass }
-    ensures followed { IsFollowed follow.now (IsTrue (is_at_limit result.0.pass)) (L.made link.old) (L.made link.new)
+    ensures followed { IsFollowed (IsTrue (is_at_limit result.0.pass)) follow.now (L.made link.old) (L.made link.new)
         (L.faults link.old) (L.faults link.new) (Some (made place.pass)) (Some (made result.0.pass)) result.1 }
 {
     let Place { hub, hosts, pass } = place;

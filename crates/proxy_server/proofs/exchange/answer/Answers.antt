@@ -81,7 +81,7 @@ returns-in-Err-refuse_request-clause-responds g c =
     let wanted = asked_of c.args.received.now.head c.args.received.now.body in
     let is = sym c.in-Ok-Err.field-0-is ∙ c.in-Ok-Err.ensures in
     responds_as g.T.Turn.rests _ c.args.received.now.head.method (Err c.in-Ok-Err.refused) wanted _ _ _ _ c.end_by.result is
-    (not_refused g.T.Turn.rests _ c.args.received.now.head.method c.in-Ok-Err.refused _ _ _ _ _ c.in-Err-refuse_request.fault c.end_by.result
+    (not_refused g.T.Turn.rests ⊥ c.args.received.now.head.method c.in-Ok-Err.refused _ _ _ _ _ c.in-Err-refuse_request.fault c.end_by.result
     (c.end_by.ensures.untold c.in-Err-refuse_request.ensures.fault) (tried_as g.T.Turn.rests wanted (Err c.in-Ok-Err.refused) _ _ _ _ (sym is) c.tries.invariant.tried) c.in-Err-refuse_request.ensures.written)
 
 pub returns-in-Err-refuse_request-clause-numbered : goal.returns-in-Err-refuse_request-clause-numbered

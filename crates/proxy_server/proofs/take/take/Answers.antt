@@ -21,7 +21,7 @@ returns-in-Ok-clause-quiet g c = turn_asks_none _ _ _ _ (Ok c.in-Ok-Replied.fiel
 
 pub returns-in-Ok-Replied-clause-takes : goal.returns-in-Ok-Replied-clause-takes
 returns-in-Ok-Replied-clause-takes g c =
-    unsaid_last g.T.Turn.rests _ c.args.ticket _ c.args.begun _ _ _ _ (Replied c.in-Ok-Replied.answer) c.end_by.result (made_as _ _ _ _ _ (Replied c.in-Ok-Replied.answer) c.in-Ok-Replied.field-0-is c.in-Ok-Replied.ensures.made) refl (c.end_by.ensures.untold c.in-Err-tell.ensures.fault) c.in-Err-tell.ensures.written
+    unsaid_last g.T.Turn.rests ⊥ c.args.ticket _ c.args.begun _ _ _ _ (Replied c.in-Ok-Replied.answer) c.end_by.result (made_as _ _ _ _ _ (Replied c.in-Ok-Replied.answer) c.in-Ok-Replied.field-0-is c.in-Ok-Replied.ensures.made) refl (c.end_by.ensures.untold c.in-Err-tell.ensures.fault) c.in-Err-tell.ensures.written
 
 pub returns-in-Ok-Item-clause-takes : goal.returns-in-Ok-Item-clause-takes
 returns-in-Ok-Item-clause-takes g c =
