@@ -5,7 +5,7 @@ use Rattle.core_model.specs.declared.event.CoreEvent.{CoreEvent}
 use Rattle.work_model.specs.declared.ends.WorkEnd.{WorkEnd}
 use Rattle.work_model.specs.declared.ends.WorkEnd.TheVariants as how
 use Rattle.work_model.specs.Working.{Ledger, IsAt, IsWorked}
-use Rattle.work_model.proofs.Works.{worked_late}
+use Rattle.work_model.proofs.Late.{worked_late}
 use Rattle.part_model.specs.Rounds.{GoesOn, Rounds, IsSpent}
 
 -- what holds where the turn is worn holds where it is worn later
@@ -13,7 +13,7 @@ rounds_later : {P C : Type 0} (hosts : List (List ℕ)) (homed : P → Type 0) (
     → Rounds hosts homed rests worn turns a b → Rounds hosts homed rests worn' turns a b
 rounds_later hosts homed rests worn worn' turns _ _ k (Rounds.none at) = Rounds.none at
 rounds_later hosts homed rests worn worn' turns _ _ k (Rounds.more a b c end r w g) =
-    Rounds.more a b c end (rounds_later hosts homed rests worn worn' turns a b k r) (worked_late hosts homed rests worn worn' turns b c end k w) g
+    Rounds.more a b c end (rounds_later hosts homed rests worn worn' turns a b k r) (worked_late hosts homed rests turns b c end k w) g
 
 pub rounded : {P C : Type 0} (hosts : List (List ℕ)) (homed : P → Type 0) (rests : CoreEvent → Type 0) (worn worn' : Type 0) (turns : ℕ) (a b c : Ledger (Part P C)) (end : WorkEnd)
     → (worn → worn') → Rounds hosts homed rests worn turns a b → IsWorked hosts homed rests worn' turns b c end → GoesOn end → Rounds hosts homed rests worn' turns a c
