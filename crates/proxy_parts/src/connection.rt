@@ -36,14 +36,18 @@ pub fn serve_connection<R: Wait, S: Source, K: Sink, C: Clock, D: Draw>(
     ensures allowed { IsSound pass.new }
     ensures grows { Begins pass.old.seen pass.new.seen }
     ensures stands { StandsAt pass.new }
-    ensures read_cause { result ≡ SessionEnd.ReadFault → Rose (S.faults source.old) (S.faults source.new) }
-    ensures write_cause { result ≡ SessionEnd.WriteFault → Rose (K.faults sink.old) (K.faults sink.new) }
-    ensures numbered { LastNumbered result tickets.end tickets.next (D.given draw.old) (D.given draw.new)
-        (Some (made pass.old)) (Some (made pass.new)) }
+    ensures read_cause { result ≡ SessionEnd.ReadFault
+        → Rose (S.faults source.old) (S.faults source.new) }
+    ensures write_cause { result ≡ SessionEnd.WriteFault
+        → Rose (K.faults sink.old) (K.faults sink.new) }
+    ensures numbered { LastNumbered result tickets.end tickets.next (D.given draw.old)
+        (D.given draw.new) (Some (made pass.old)) (Some (made pass.new)) }
     ensures dialog { Dialog NoEvent (IsTrue (is_at_limit pass.new)) (S.left source.old)
-        (Some (made pass.old)) (Some (made pass.new)) (K.written sink.old) (K.written sink.new) result }
-    ensures complete { Completes (S.left source.old) (Some (made pass.old)) (Some (made pass.new)) (IsTrue (is_at_limit pass.new))
-        tickets.end tickets.next (S.faults source.old) (S.faults source.new) (K.faults sink.old) (K.faults sink.new) result }
+        (Some (made pass.old)) (Some (made pass.new)) (K.written sink.old)
+        (K.written sink.new) result }
+    ensures complete { Completes (S.left source.old) (Some (made pass.old)) (Some (made pass.new))
+        (IsTrue (is_at_limit pass.new)) tickets.end tickets.next (S.faults source.old)
+        (S.faults source.new) (K.faults sink.old) (K.faults sink.new) result }
 {
     let mine = hub.split(pass);
     let mut seated = Seated::new(rt, hub, mine);

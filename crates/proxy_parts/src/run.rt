@@ -53,9 +53,11 @@ where
     P::Conn: Drop,
     ensures home { home_of result ≡ home_of place }
     ensures grows { Grows place.pass result.pass }
-    ensures spent { IsSpent (arc_value place.hosts) (IsAt home_of (home_of place)) NoEvent (IsTrue (is_at_limit result.pass)) TURNS
-        (ledger (Some (made place.pass)) (L.made link.old) (P.handed spawner.old) (L.faults link.old) (P.faults spawner.old))
-        (ledger (Some (made result.pass)) (L.made link.new) (P.handed spawner.new) (L.faults link.new) (P.faults spawner.new)) }
+    ensures spent { IsSpent (arc_value place.hosts) (IsAt home_of (home_of place)) NoEvent
+        (IsTrue (is_at_limit result.pass)) TURNS (ledger (Some (made place.pass)) (L.made link.old)
+        (P.handed spawner.old) (L.faults link.old) (P.faults spawner.old))
+        (ledger (Some (made result.pass)) (L.made link.new) (P.handed spawner.new)
+        (L.faults link.new) (P.faults spawner.new)) }
 {
     let Place { hub, hosts, pass } = place;
     let mut seating = Seating::new(rt, &hub, &hosts, pass);
@@ -74,8 +76,8 @@ fn run_ticker<R: Wait, C: Clock, D: Draw>(
 ) -> Place
     ensures home { home_of result ≡ home_of place }
     ensures grows { Grows place.pass result.pass }
-    ensures ticking { Ticking (IsTrue (is_at_limit result.pass)) (Some (made place.pass)) (Some (made result.pass))
-        (D.given draw.old) (D.given draw.new) }
+    ensures ticking { Ticking (IsTrue (is_at_limit result.pass)) (Some (made place.pass))
+        (Some (made result.pass)) (D.given draw.old) (D.given draw.new) }
 {
     let Place { hub, hosts, pass } = place;
     let mut seated = Seated::new(rt, &hub, pass);
@@ -98,14 +100,19 @@ fn run_connection<R: Wait, S: Source, K: Sink, C: Clock, D: Draw>(
 ) -> (Place, SessionEnd)
     ensures home { home_of result.0 ≡ home_of place }
     ensures grows { Grows place.pass result.0.pass }
-    ensures read_cause { result.1 ≡ SessionEnd.ReadFault → Rose (S.faults source.old) (S.faults source.new) }
-    ensures write_cause { result.1 ≡ SessionEnd.WriteFault → Rose (K.faults sink.old) (K.faults sink.new) }
-    ensures numbered { LastNumbered result.1 tickets.end tickets.next (D.given draw.old) (D.given draw.new)
-        (Some (made place.pass)) (Some (made result.0.pass)) }
+    ensures read_cause { result.1 ≡ SessionEnd.ReadFault
+        → Rose (S.faults source.old) (S.faults source.new) }
+    ensures write_cause { result.1 ≡ SessionEnd.WriteFault
+        → Rose (K.faults sink.old) (K.faults sink.new) }
+    ensures numbered { LastNumbered result.1 tickets.end tickets.next (D.given draw.old)
+        (D.given draw.new) (Some (made place.pass)) (Some (made result.0.pass)) }
     ensures dialog { Dialog NoEvent (IsTrue (is_at_limit result.0.pass)) (S.left source.old)
-        (Some (made place.pass)) (Some (made result.0.pass)) (K.written sink.old) (K.written sink.new) result.1 }
-    ensures complete { Completes (S.left source.old) (Some (made place.pass)) (Some (made result.0.pass)) (IsTrue (is_at_limit result.0.pass))
-        tickets.end tickets.next (S.faults source.old) (S.faults source.new) (K.faults sink.old) (K.faults sink.new) result.1 }
+        (Some (made place.pass)) (Some (made result.0.pass)) (K.written sink.old)
+        (K.written sink.new) result.1 }
+    ensures complete { Completes (S.left source.old) (Some (made place.pass))
+        (Some (made result.0.pass)) (IsTrue (is_at_limit result.0.pass)) tickets.end tickets.next
+        (S.faults source.old) (S.faults source.new) (K.faults sink.old)
+        (K.faults sink.new) result.1 }
 {
     let Place { hub, hosts, mut pass } = place;
     let end = serve_connection(
@@ -126,8 +133,9 @@ fn run_follower<R: Wait, L: Link, C: Clock>(
 ) -> (Place, StreamEnd)
     ensures home { home_of result.0 ≡ home_of place }
     ensures grows { Grows place.pass result.0.pass }
-    ensures followed { IsFollowed (IsTrue (is_at_limit result.0.pass)) follow.now (L.made link.old) (L.made link.new)
-        (L.faults link.old) (L.faults link.new) (Some (made place.pass)) (Some (made result.0.pass)) result.1 }
+    ensures followed { IsFollowed (IsTrue (is_at_limit result.0.pass)) follow.now (L.made link.old)
+        (L.made link.new) (L.faults link.old) (L.faults link.new) (Some (made place.pass))
+        (Some (made result.0.pass)) result.1 }
 {
     let Place { hub, hosts, pass } = place;
     let mut seated = Seated::new(rt, &hub, pass);
@@ -153,20 +161,23 @@ where
     ensures home { home_of result.place ≡ home_of (place_in part) }
     ensures allowed { IsSound result.place.pass }
     ensures grows { Begins (place_in part).pass.seen result.place.pass.seen }
-    ensures worker { IfWorker part (λ place. (result.end ≡ PartEnd.Worn)
-        × IsSpent (arc_value place.hosts) (IsAt home_of (home_of place)) NoEvent (IsTrue (is_at_limit result.place.pass)) TURNS
-            (ledger (Some (made place.pass)) (L.made link.old) (P.handed spawner.old) (L.faults link.old) (P.faults spawner.old))
-            (ledger (Some (made result.place.pass)) (L.made link.new) (P.handed spawner.new) (L.faults link.new) (P.faults spawner.new))) }
-    ensures ticker { IfTicker part (λ place. (result.end ≡ PartEnd.Worn)
-        × Ticking (IsTrue (is_at_limit result.place.pass)) (Some (made place.pass)) (Some (made result.place.pass))
-            (D.given draw.old) (D.given draw.new)) }
-    ensures connection { IfConnection part (λ place connection tickets.
-        Served S.left S.faults K.written K.faults connection tickets (IsTrue (is_at_limit result.place.pass))
-            (Some (made place.pass)) (Some (made result.place.pass)) (D.given draw.old) (D.given draw.new)
-            result.source result.sink result.end) }
-    ensures follower { IfFollower part (λ place follow.
-        Followed follow (IsTrue (is_at_limit result.place.pass)) (L.made link.old) (L.made link.new) (L.faults link.old) (L.faults link.new)
-            (Some (made place.pass)) (Some (made result.place.pass)) result.end) }
+    ensures worker { IfWorker part (λ place. (result.end ≡ PartEnd.Worn) × IsSpent
+        (arc_value place.hosts) (IsAt home_of (home_of place)) NoEvent
+        (IsTrue (is_at_limit result.place.pass)) TURNS (ledger (Some (made place.pass))
+        (L.made link.old) (P.handed spawner.old) (L.faults link.old) (P.faults spawner.old))
+        (ledger (Some (made result.place.pass)) (L.made link.new) (P.handed spawner.new)
+        (L.faults link.new) (P.faults spawner.new))) }
+    ensures ticker { IfTicker part (λ place. (result.end ≡ PartEnd.Worn) × Ticking
+        (IsTrue (is_at_limit result.place.pass)) (Some (made place.pass))
+        (Some (made result.place.pass)) (D.given draw.old) (D.given draw.new)) }
+    ensures connection { IfConnection part (λ place connection tickets. Served S.left S.faults
+        K.written K.faults connection tickets (IsTrue (is_at_limit result.place.pass))
+        (Some (made place.pass)) (Some (made result.place.pass)) (D.given draw.old)
+        (D.given draw.new) result.source result.sink result.end) }
+    ensures follower { IfFollower part (λ place follow. Followed follow
+        (IsTrue (is_at_limit result.place.pass)) (L.made link.old) (L.made link.new)
+        (L.faults link.old) (L.faults link.new) (Some (made place.pass))
+        (Some (made result.place.pass)) result.end) }
     ensures unlinked { links part ≡ false → link.new ≡ link.old }
     ensures unspawned { spawns part ≡ false → spawner.new ≡ spawner.old }
     ensures undrawn { draws part ≡ false → draw.new ≡ draw.old }

@@ -53,7 +53,7 @@ impl<'a, R: Wait> Seated<'a, R> {
 
     /// A further pass, which has seen what this one has.
     pub(crate) fn split(&mut self) -> Pass<Core>
-        ensures { result ≡ record self.old.pass { own = [] } }
+        ensures apart { result ≡ record self.old.pass { own = [] } }
         ensures same { self.new ≡ self.old }
     {
         self.hub.split(&mut self.pass)

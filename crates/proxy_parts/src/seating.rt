@@ -36,7 +36,8 @@ impl<'a, R: Wait> Seating<'a, R> {
         pass: Pass<Core>,
     ) -> Seating<'a, R>
         requires mine { pass.hub ≡ arc_value hub.now }
-        requires numbered { (opening_of (arc_value hub.now)).settings.members ≡ length (arc_value hosts.now) }
+        requires numbered { (opening_of (arc_value hub.now)).settings.members ≡ length
+            (arc_value hosts.now) }
         ensures hub { result.seated.pass.hub ≡ pass.hub }
         ensures hosts { result.hosts.now ≡ hosts.now }
         ensures made { made result.seated.pass ≡ made pass }

@@ -18,7 +18,8 @@ pub fn tick<T: Turn, C: Clock, D: Draw>(
 ) -> Result<(), TurnFault>
     ensures home { T.home turn.new ≡ T.home turn.old }
     ensures allowed { T.allowed turn.old → T.allowed turn.new }
-    ensures ticked { OneTick (IsTrue (T.worn turn.new)) (T.made turn.old) (T.made turn.new) (D.given draw.old) (D.given draw.new) result }
+    ensures ticked { OneTick (IsTrue (T.worn turn.new)) (T.made turn.old) (T.made turn.new)
+        (D.given draw.old) (D.given draw.new) result }
 {
     let drawn = draw.word();
     let fault = match turn.turn(CoreEvent::Tick { word: drawn }, clock) {
@@ -37,7 +38,8 @@ pub fn keep_ticking<R: Wait, T: Turn, C: Clock, D: Draw>(
 )
     ensures home { T.home turn.new ≡ T.home turn.old }
     ensures allowed { T.allowed turn.old → T.allowed turn.new }
-    ensures ticking { Ticking (IsTrue (T.worn turn.new)) (T.made turn.old) (T.made turn.new) (D.given draw.old) (D.given draw.new) }
+    ensures ticking { Ticking (IsTrue (T.worn turn.new)) (T.made turn.old) (T.made turn.new)
+        (D.given draw.old) (D.given draw.new) }
 {
     'ticks: for _ in rt.forever() {
         match tick(turn, clock, draw) {

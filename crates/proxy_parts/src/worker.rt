@@ -28,9 +28,11 @@ where
     P::Conn: Drop,
     ensures home { T.home turn.new ≡ T.home turn.old }
     ensures allowed { T.allowed turn.old → T.allowed turn.new }
-    ensures spent { IsSpent hosts.now (IsAt T.place_home (T.home turn.old)) T.rests (IsTrue (T.worn turn.new)) TURNS
-        (ledger (T.made turn.old) (L.made link.old) (P.handed spawner.old) (L.faults link.old) (P.faults spawner.old))
-        (ledger (T.made turn.new) (L.made link.new) (P.handed spawner.new) (L.faults link.new) (P.faults spawner.new)) }
+    ensures spent { IsSpent hosts.now (IsAt T.place_home (T.home turn.old)) T.rests
+        (IsTrue (T.worn turn.new)) TURNS (ledger (T.made turn.old) (L.made link.old)
+        (P.handed spawner.old) (L.faults link.old) (P.faults spawner.old))
+        (ledger (T.made turn.new) (L.made link.new) (P.handed spawner.new) (L.faults link.new)
+        (P.faults spawner.new)) }
 {
     'rounds: for _ in rt.forever() {
         match work(rt, alloc, turn, clock, link, spawner, hosts, TURNS) {

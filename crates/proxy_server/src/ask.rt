@@ -40,7 +40,8 @@ fn leave<T: Turn, C: Clock>(turn: &mut T, clock: &mut C, ticket: u64, end: Sessi
     ensures writing { result ≡ SessionEnd.WriteFault → end ≡ SessionEnd.WriteFault }
     ensures quiet { Asked (T.made turn.old) (T.made turn.new) [] }
     ensures late { IsTrue (T.worn turn.old) → IsTrue (T.worn turn.new) }
-    ensures left { IsOfTicket ticket end → Left T.rests (IsTrue (T.worn turn.new)) ticket end result (T.made turn.old) (T.made turn.new) }
+    ensures left { IsOfTicket ticket end → Left T.rests (IsTrue (T.worn turn.new)) ticket end result
+        (T.made turn.old) (T.made turn.new) }
 {
     match end {
         SessionEnd::Worn => SessionEnd::Worn,
@@ -71,14 +72,17 @@ pub(crate) fn ask<R: Wait, T: Turn, S: Source, K: Sink, C: Clock>(
 ) -> Result<Attempt, SessionEnd>
     ensures home { T.home turn.new ≡ T.home turn.old }
     ensures allowed { T.allowed turn.old → T.allowed turn.new }
-    ensures read_cause { IfErr result (λ end. end ≡ SessionEnd.ReadFault → Rose (S.faults source.old) (S.faults source.new)) }
-    ensures write_cause { IfErr result (λ end. end ≡ SessionEnd.WriteFault → Rose (K.faults sink.old) (K.faults sink.new)) }
+    ensures read_cause { IfErr result (λ end. end ≡ SessionEnd.ReadFault
+        → Rose (S.faults source.old) (S.faults source.new)) }
+    ensures write_cause { IfErr result (λ end. end ≡ SessionEnd.WriteFault
+        → Rose (K.faults sink.old) (K.faults sink.new)) }
     ensures reads { S.faults source.old ≤ S.faults source.new }
     ensures writes { K.faults sink.old ≤ K.faults sink.new }
     ensures end { IfErr result IsOfAsking }
     ensures ahead { Keeps (S.left source.old) (S.left source.new) }
     ensures one { AsksOne ticket word (T.made turn.old) (T.made turn.new) result }
-    ensures asks { Asks T.rests (IsTrue (T.worn turn.new)) request (T.made turn.old) (T.made turn.new) (K.written sink.old) (K.written sink.new) result }
+    ensures asks { Asks T.rests (IsTrue (T.worn turn.new)) request (T.made turn.old)
+        (T.made turn.new) (K.written sink.old) (K.written sink.new) result }
 {
     let asked = CoreEvent::Ask {
         ticket,

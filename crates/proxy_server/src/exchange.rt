@@ -42,15 +42,20 @@ fn respond<R: Wait, T: Turn, S: Source, K: Sink, C: Clock, D: Draw>(
     ensures home { T.home turn.new ≡ T.home turn.old }
     ensures allowed { T.allowed turn.old → T.allowed turn.new }
     ensures limit { tickets.new.end ≡ tickets.old.end }
-    ensures next { IfOk result (λ attempt. tickets.old.next < tickets.old.end × tickets.new.next ≡ tickets.old.next + 1) }
+    ensures next { IfOk result (λ attempt. tickets.old.next < tickets.old.end
+        × tickets.new.next ≡ tickets.old.next + 1) }
     ensures breaking { IfErr result Breaking }
-    ensures read_cause { IfErr result (λ end. end ≡ SessionEnd.ReadFault → Rose (S.faults source.old) (S.faults source.new)) }
-    ensures write_cause { IfErr result (λ end. end ≡ SessionEnd.WriteFault → Rose (K.faults sink.old) (K.faults sink.new)) }
+    ensures read_cause { IfErr result (λ end. end ≡ SessionEnd.ReadFault
+        → Rose (S.faults source.old) (S.faults source.new)) }
+    ensures write_cause { IfErr result (λ end. end ≡ SessionEnd.WriteFault
+        → Rose (K.faults sink.old) (K.faults sink.new)) }
     ensures reads { S.faults source.old ≤ S.faults source.new }
     ensures writes { K.faults sink.old ≤ K.faults sink.new }
     ensures ahead { Keeps (S.left source.old) (S.left source.new) }
-    ensures numbered { NumberedBy tickets.old.end tickets.old.next tickets.new.next (D.given draw.old) (D.given draw.new) (T.made turn.old) (T.made turn.new) result }
-    ensures asks { Asks T.rests (IsTrue (T.worn turn.new)) request (T.made turn.old) (T.made turn.new) (K.written sink.old) (K.written sink.new) result }
+    ensures numbered { NumberedBy tickets.old.end tickets.old.next tickets.new.next
+        (D.given draw.old) (D.given draw.new) (T.made turn.old) (T.made turn.new) result }
+    ensures asks { Asks T.rests (IsTrue (T.worn turn.new)) request (T.made turn.old)
+        (T.made turn.new) (K.written sink.old) (K.written sink.new) result }
 {
     name_kind(source, RequestKind::of(&request));
     if tickets.next >= tickets.end {
@@ -91,13 +96,18 @@ fn answer<R: Wait, T: Turn, S: Source, K: Sink, C: Clock, D: Draw>(
     ensures allowed { T.allowed turn.old → T.allowed turn.new }
     ensures limit { tickets.new.end ≡ tickets.old.end }
     ensures breaking { IfSome result Breaking }
-    ensures read_cause { IfSome result (λ end. end ≡ SessionEnd.ReadFault → Rose (S.faults source.old) (S.faults source.new)) }
-    ensures write_cause { IfSome result (λ end. end ≡ SessionEnd.WriteFault → Rose (K.faults sink.old) (K.faults sink.new)) }
+    ensures read_cause { IfSome result (λ end. end ≡ SessionEnd.ReadFault
+        → Rose (S.faults source.old) (S.faults source.new)) }
+    ensures write_cause { IfSome result (λ end. end ≡ SessionEnd.WriteFault
+        → Rose (K.faults sink.old) (K.faults sink.new)) }
     ensures reads { S.faults source.old ≤ S.faults source.new }
     ensures writes { K.faults sink.old ≤ K.faults sink.new }
     ensures ahead { Keeps (S.left source.old) (S.left source.new) }
-    ensures numbered { NumberedSo tickets.old.end tickets.old.next tickets.new.next (D.given draw.old) (D.given draw.new) (T.made turn.old) (T.made turn.new) result }
-    ensures responds { Responds T.rests (IsTrue (T.worn turn.new)) received.now.head.method (asked_of received.now.head received.now.body) (T.made turn.old) (T.made turn.new) (K.written sink.old) (K.written sink.new) result }
+    ensures numbered { NumberedSo tickets.old.end tickets.old.next tickets.new.next
+        (D.given draw.old) (D.given draw.new) (T.made turn.old) (T.made turn.new) result }
+    ensures responds { Responds T.rests (IsTrue (T.worn turn.new)) received.now.head.method
+        (asked_of received.now.head received.now.body) (T.made turn.old) (T.made turn.new)
+        (K.written sink.old) (K.written sink.new) result }
 {
     'tries: loop {
         match asked(alloc, received) {
@@ -137,12 +147,17 @@ pub(crate) fn exchange<R: Wait, T: Turn, S: Source, K: Sink, C: Clock, D: Draw>(
     ensures allowed { T.allowed turn.old → T.allowed turn.new }
     ensures limit { tickets.new.end ≡ tickets.old.end }
     ensures sound { IfNone result (wire.new.fault ≡ None) }
-    ensures read_cause { IfSome result (λ end. end ≡ SessionEnd.ReadFault → Rose (S.faults source.old) (S.faults source.new)) }
-    ensures write_cause { IfSome result (λ end. end ≡ SessionEnd.WriteFault → Rose (K.faults sink.old) (K.faults sink.new)) }
+    ensures read_cause { IfSome result (λ end. end ≡ SessionEnd.ReadFault
+        → Rose (S.faults source.old) (S.faults source.new)) }
+    ensures write_cause { IfSome result (λ end. end ≡ SessionEnd.WriteFault
+        → Rose (K.faults sink.old) (K.faults sink.new)) }
     ensures reads { S.faults source.old ≤ S.faults source.new }
     ensures writes { K.faults sink.old ≤ K.faults sink.new }
-    ensures numbered { NumberedSo tickets.old.end tickets.old.next tickets.new.next (D.given draw.old) (D.given draw.new) (T.made turn.old) (T.made turn.new) result }
-    ensures turned { Turned T.rests (IsTrue (T.worn turn.new)) (bytes_ahead (S.left source.old) wire.old) (bytes_ahead (S.left source.new) wire.new) (T.made turn.old) (T.made turn.new) (K.written sink.old) (K.written sink.new) result }
+    ensures numbered { NumberedSo tickets.old.end tickets.old.next tickets.new.next
+        (D.given draw.old) (D.given draw.new) (T.made turn.old) (T.made turn.new) result }
+    ensures turned { Turned T.rests (IsTrue (T.worn turn.new))
+        (bytes_ahead (S.left source.old) wire.old) (bytes_ahead (S.left source.new) wire.new)
+        (T.made turn.old) (T.made turn.new) (K.written sink.old) (K.written sink.new) result }
 {
     let received = match receive(alloc, wire, source, sink) {
         Ok(received) => received,
