@@ -426,7 +426,7 @@ no_message old new had rest earlier later x line e r i = (
   Cause.NoMessage line,
   (tt, refl, refl, tt),
   both_stand (λ (all : List ℕ). (next : Framing) × (behind : List ℕ) × NextLine LINE_LIMIT old next all behind (Ok (Some line))) (item_of line ≡ Err Unreadable) had
-  (line_at old new had rest line (line_as old new had rest x line e r)) i,
+      (line_at old new had rest line (line_as old new had rest x line e r)) i,
 )
 
 pub not_read : (old new : Framing) (had rest : Option (List ℕ)) (earlier later : ℕ) (x : Option (List ℕ)) (line : List ℕ) → x ≡ Some line
