@@ -1,3 +1,7 @@
 pub mod Going
 pub mod Owning
 pub mod Answering
+pub mod Passing
+pub mod Claims
+pub mod Grounds
+pub mod Dues

@@ -2,7 +2,7 @@
 -- call that is out as an acquire is answered to the one that stands at its key (the leasing cache of etcd's clientv3).
 use Rattle.std.specs.Prelude.{◌≡◌, ℕ, true, List, Option, None, Some}
 use Rattle.proxy_model.specs.declared.session.Standing.{Standing}
-use Rattle.proxy_model.specs.Keyed.{Keyed, at}
+use Rattle.proxy_model.specs.Keyed.{Keyed, at, is_in_order}
 use Rattle.wait_model.specs.declared.sending.Sending.TheVariants as sending
 use Rattle.read_model.specs.declared.acquire.Acquire.{Acquire}
 use Rattle.read_model.specs.PlainRead.{is_ownable}
@@ -27,8 +27,15 @@ pub record IsOutAs (call : ℕ) (o : Option Acquire) : Type 0 where
   pub stands : o ≡ Some acquire
   pub out : acquire.sending ≡ sending.Out call
 
+-- this very acquire stands at the key, and is due
+pub record IsDueAt (acquires : Keyed Acquire) (k : List ℕ) (a : Acquire) : Type 0 where
+  pub stands : at acquires k ≡ Some a
+  pub due : is_due a.sending ≡ true
+
 -- by the leasing prefix and the session that stands
 pub record AcquiresFit (prefix : List ℕ) (session : Option ℕ) (acquires : Keyed Acquire) (out : List OutCall) : Type 0 where
+  -- they stand by rising keys
+  pub rising : is_in_order acquires ≡ true
   -- each is of a key that may be owned
   pub acquired : (k : List ℕ) (a : Acquire) → at acquires k ≡ Some a → is_ownable prefix k ≡ true
   -- one that is due is under the session that stands

@@ -6,13 +6,15 @@ use Rattle.proxy_model.specs.LeaseTable.{is_writing}
 use Rattle.wait_model.specs.declared.write.Write.{Write}
 use Rattle.wait_model.specs.Covers.{covers, leased}
 use Rattle.wait_model.specs.Writes.{first_by}
+use Rattle.read_model.specs.declared.acquire.Acquire.{Acquire}
 use Rattle.core_model.specs.declared.event.CoreEvent.{CoreEvent}
 use Rattle.core_model.specs.declared.settings.Settings.{Settings}
+use Rattle.core_model.specs.DueJobs.{ForAcquire, first_job}
 use Rattle.core_model.specs.Fits.{CoreOk}
 use Rattle.core_model.specs.State.{Core, first_core}
 use Rattle.core_model.specs.Step.{stepped}
 use Rattle.core_laws.specs.Kept.{IsHeard, Timed, after, ran, AllHeard}
-use Rattle.owner_fits.specs.Acquires.{standing_number, AcquiresFit}
+use Rattle.owner_fits.specs.Acquires.{standing_number, IsDueAt, AcquiresFit}
 use Rattle.owner_fits.specs.Entries.{EntriesFit}
 use Rattle.owner_fits.specs.Names.{NamesFit, NamesOwners}
 
@@ -28,6 +30,10 @@ StepsFit = (c : Core) (e : CoreEvent) (now : ℕ) → IsHeard c e → CoreOk c �
 
 abbrev pub RunsFit : Type 0
 RunsFit = (settings : Settings) (xs : List Timed) → AllHeard (first_core settings) xs → OwnersFit (ran (first_core settings) xs)
+
+-- An acquire that is the first due job is the one that stands at its key.
+abbrev pub DueAcquiresStand : Type 0
+DueAcquiresStand = (c : Core) (k : List ℕ) (a : Acquire) → OwnersFit c → first_job c ≡ Some (ForAcquire k a) → IsDueAt c.acquires k a
 
 -- The first write over a key that is being written is its owner's, which doesn't put it with a lease.
 abbrev pub WritesAreUnleased : Type 0
