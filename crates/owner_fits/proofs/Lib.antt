@@ -5,3 +5,5 @@ pub mod Passing
 pub mod Claims
 pub mod Grounds
 pub mod Dues
+pub mod Sending
+pub mod Ending
