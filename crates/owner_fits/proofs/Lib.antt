@@ -7,3 +7,6 @@ pub mod Grounds
 pub mod Dues
 pub mod Sending
 pub mod Ending
+pub mod Hearing
+pub mod Steps
+pub mod Runs
