@@ -12,3 +12,4 @@ pub mod Headers
 pub mod Beside
 pub mod Fit
 pub mod Ready
+pub mod Found

@@ -3,6 +3,7 @@
 
 ghost use Rattle.core_fits.specs.Fits.{AreServed, ReadsAlone, WritesAreAsked, CoreFits};
 ghost use Rattle.core_fits.specs.Laws.{Starts, Lasts, RunsFit};
+ghost use Rattle.core_fits.specs.Found.{WritingRequestsHaveWrites, SessionsCallIsOut};
 ghost use Rattle.core_fits.specs.Ready.{NothingReadyIsNoneReplied, ReadyIsTaken};
 
 /// What waits to be answered is served: no request that is refused is kept, nor is its write.
@@ -35,4 +36,11 @@ pub fn cores_fit()
 pub fn ready_replies_are_taken()
     ensures none { NothingReadyIsNoneReplied }
     ensures taken { ReadyIsTaken }
+{}
+
+/// So a request at the stage of writes has its write, which is the same request, and the call that is out for the session is there, as
+/// its grant, or as its keepalive where it stands.
+pub fn what_is_found_fits()
+    ensures writes { WritingRequestsHaveWrites }
+    ensures session { SessionsCallIsOut }
 {}
