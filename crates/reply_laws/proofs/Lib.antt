@@ -1,3 +1,4 @@
 pub mod Before
 pub mod Events
+pub mod Heard
 pub mod Sources
