@@ -1,19 +1,14 @@
 -- What the clock's work makes of the requests: one that then stands at a stage of a call that is out, waits for its key or for its write, or
 -- is replied ok, stood so before.
-use Rattle.std.proofs.Common.{◌≡◌, ℕ, ◌==◌, Bool, true, false, not, cond, ◌&&◌, ◌||◌, List, [], ◌∷◌, map, Option, None, Some, refl, sym, ◌∙◌, ap, subst}
-use Rattle.etcd_types.specs.declared.answer.Answer.{Answer}
-use Rattle.etcd_types.specs.declared.answer.Answer.TheVariants.{Done, Refused}
-use Rattle.etcd_types.specs.declared.request.Request.{Request}
+use Rattle.std.proofs.Common.{◌≡◌, ℕ, ◌==◌, Bool, true, false, not, cond, List, [], ◌∷◌, map, Some, refl, sym, ◌∙◌, ap}
 use Rattle.etcd_types.proofs.Bools.{and_first, and_second, or_first, or_second, not_true}
-use Rattle.wait_model.specs.declared.sending.Sending.{Sending}
 use Rattle.wait_model.specs.declared.sending.Sending.TheVariants as sending
 use Rattle.read_model.specs.declared.asked.Asked.{Asked}
 use Rattle.read_model.specs.declared.asked.Stage.{Stage}
 use Rattle.read_model.specs.declared.asked.Stage.TheVariants as stage
-use Rattle.read_model.specs.declared.asked.Verdict.{Verdict}
 use Rattle.read_model.specs.declared.asked.Verdict.TheVariants as verdict
 use Rattle.read_model.specs.PlainRead.{in_stage, called}
-use Rattle.read_model.specs.Release.{ask_stands, released_ask, released_ground, released_from}
+use Rattle.read_model.specs.Release.{ask_stands, released_ground, released_from}
 use Rattle.read_model.specs.State.{Moment, Ground}
 use Rattle.core_model.specs.ClockWork.{times_out, timed_out_ask, begun, clock_work}
 use Rattle.core_model.specs.Fits.{has_number, once, ask_tickets}
@@ -21,7 +16,7 @@ use Rattle.core_model.specs.Lookups.{ask_at}
 use Rattle.core_model.specs.Sessions.{seat_is_over, without_session, deadline_passed}
 use Rattle.core_model.specs.State.{Core}
 use Rattle.core_laws.proofs.Comes.{by_test}
-use Rattle.core_laws.proofs.Lists.{same_number, number_itself, number_turned}
+use Rattle.core_laws.proofs.Lists.{number_itself, number_turned}
 use Rattle.keep_laws.proofs.Rows.{All, all_mapped, all_kept, is_untold}
 use Rattle.reply_laws.specs.Sources.{Stood}
 

@@ -1,11 +1,8 @@
 -- An answer that is heard: each ok reply that stands after it stood before, or is this answer's, or is the record of a key that is held on the
 -- ground on which reads are decided again.
-use Rattle.std.proofs.Common.{◌≡◌, ℕ, ◌+◌, ◌==◌, nat_le, Bool, true, false, not, cond, ◌&&◌, List, [], ◌∷◌, map, Option, None, Some, is_some, refl, sym, ◌∙◌, ap, subst}
+use Rattle.std.proofs.Common.{◌≡◌, ℕ, ◌==◌, Bool, true, false, cond, List, [], ◌∷◌, map, Option, None, Some, refl, sym, ◌∙◌, ap, subst}
 use Rattle.etcd_types.specs.declared.answer.Answer.{Answer}
 use Rattle.etcd_types.specs.declared.answer.Answer.TheVariants.{Done, Refused}
-use Rattle.etcd_types.specs.declared.answer.Body.{Body}
-use Rattle.etcd_types.specs.declared.answer.Body.TheVariants as body
-use Rattle.etcd_types.specs.declared.answer.Refusal.{Refusal}
 use Rattle.etcd_types.specs.declared.answer.Reply.{Reply}
 use Rattle.etcd_types.specs.declared.record.Header.{Header}
 use Rattle.etcd_types.specs.declared.record.Kv.{Kv}
@@ -23,9 +20,6 @@ use Rattle.proxy_model.specs.Acquire.{claimed}
 use Rattle.proxy_model.specs.Guarded.{written}
 use Rattle.proxy_model.specs.Keyed.{at}
 use Rattle.proxy_model.specs.Leaving.{guard_held}
-use Rattle.proxy_model.specs.Members.{is_stale}
-use Rattle.wait_model.specs.declared.sending.Sending.{Sending}
-use Rattle.wait_model.specs.declared.sending.Sending.TheVariants as sending
 use Rattle.wait_model.specs.declared.wait.Settled.{Settled}
 use Rattle.wait_model.specs.declared.wait.Settled.TheVariants as settled
 use Rattle.wait_model.specs.declared.wait.WaitJob.{WaitJob}
@@ -41,38 +35,32 @@ use Rattle.read_model.specs.declared.asked.Asked.{Asked}
 use Rattle.read_model.specs.declared.asked.Stage.{Stage}
 use Rattle.read_model.specs.declared.asked.Stage.TheVariants as stage
 use Rattle.read_model.specs.declared.asked.Verdict.TheVariants as verdict
-use Rattle.read_model.specs.Acquires.{is_acquiring, acquires_at, told, won, acquire_gone, with_entry, acquired, owned_by, acquire_done, done_by, acquire_refused, is_to_be_held, answered_acquire, acquire_answered, AfterAcquire}
+use Rattle.read_model.specs.Acquires.{is_acquiring, acquires_at, told, acquired, acquire_done, done_by, is_to_be_held, answered_acquire, acquire_answered}
 use Rattle.read_model.specs.Fits.{ReadsOk}
-use Rattle.read_model.specs.PlainRead.{ask_key, shown, called, held_turn, read_turn, in_stage}
-use Rattle.read_model.specs.Release.{stands, ask_stands, in_place, released_in_place, released_from}
-use Rattle.read_model.specs.State.{Reads, Moment, Ground, ground_of}
+use Rattle.read_model.specs.PlainRead.{ask_key, shown, held_turn, read_turn, in_stage}
+use Rattle.read_model.specs.Release.{stands, ask_stands, in_place}
+use Rattle.read_model.specs.State.{Reads, Ground, ground_of}
 use Rattle.read_model.specs.TakingOff.{is_writes}
 use Rattle.read_model.specs.WriteAnswers.{settled_ask, ending, wait_answered}
 use Rattle.read_laws.specs.InPlace.{placed_by}
 use Rattle.read_laws.proofs.InPlace.{answers_in_place, wins_in_place}
 use Rattle.core_model.specs.declared.event.CoreEvent.{CoreEvent}
-use Rattle.core_model.specs.declared.out_call.CallKind.{CallKind}
 use Rattle.core_model.specs.declared.out_call.OutCall.{OutCall}
-use Rattle.core_model.specs.declared.out_call.OutJob.{OutJob}
 use Rattle.core_model.specs.declared.out_call.OutJob.TheVariants as job
 use Rattle.core_model.specs.ClockWork.{clock_work}
-use Rattle.core_model.specs.Ends.{member_failed, stale_once, stales_limit, said, is_stale_reply, ask_done, ask_answered, with_caller, acquire_if, reads_if, group_answered, answered_job as job_answered, or_lost, heard_call}
-use Rattle.core_model.specs.Ends.{is_keepalive as answers_keepalive}
-use Rattle.core_model.specs.Fits.{has_number, writing_tickets, write_tickets, ask_tickets, AsksOk, WritesOk}
-use Rattle.core_model.specs.Groups.{keeps, is_out_stage, waits_next, group_ended}
-use Rattle.core_model.specs.Kinds.{is_body_of}
-use Rattle.core_model.specs.Lookups.{moment, reads_of, stage_calls, calls_as, live_number}
-use Rattle.core_model.specs.Sessions.{without_session, seat_calls, granted_by, kept, kept_by}
+use Rattle.core_model.specs.Ends.{acquire_if, reads_if}
+use Rattle.core_model.specs.Fits.{has_number, writing_tickets, write_tickets, AsksOk, WritesOk}
+use Rattle.core_model.specs.Lookups.{moment, reads_of, live_number}
 use Rattle.core_model.specs.State.{Core}
 use Rattle.core_model.specs.Step.{stepped}
 use Rattle.core_laws.proofs.Comes.{by_test}
 use Rattle.core_laws.proofs.Lists.{same_number}
-use Rattle.core_laws.proofs.WaitEnds.{IsRemoved, EndsAs, Ended, EndedIf, answered_ends, found_ticket}
-use Rattle.keep_laws.proofs.Rows.{All, all_mapped, all_kept, is_untold, Settles, all_write}
+use Rattle.core_laws.proofs.WaitEnds.{IsRemoved, EndsAs, EndedIf, answered_ends, found_ticket}
+use Rattle.keep_laws.proofs.Rows.{All, all_mapped, all_kept, Settles, all_write}
 use Rattle.reply_laws.specs.Sources as sources
 use Rattle.reply_laws.specs.Sources.{waits_for_key, Hears, hearing, claimed_record, Wins, Decides, shows, IsHeld, Source}
 use Rattle.reply_laws.proofs.Before.{Since, since_stood, stood_on}
-use Rattle.reply_laws.proofs.Events.{is_unsaid, OfUnsaid, unsaid_if, released_all, over_all, grant_failed_all, keep_failed_all, lost_call_all}
+use Rattle.reply_laws.proofs.Events.{is_unsaid, OfUnsaid, released_all}
 
 -- where it is replied ok, that has a source
 abbrev pub Sourced : Core → CoreEvent → ℕ → Asked → Type 0
@@ -87,7 +75,7 @@ since_sourced c e now y h reply s = sources.stood (since_stood c y (stage.Replie
 pub all_sourced : (c : Core) (e : CoreEvent) (now : ℕ) (xs : List Asked) → All (Since c) xs → All (Sourced c e now) xs
 all_sourced c e now xs t = all_kept (Since c) (Sourced c e now) (since_sourced c e now) xs t
 
-same_reply : (x y : Reply) → stage.Replied (verdict.Said (Done x)) ≡ stage.Replied (verdict.Said (Done y)) → x ≡ y
+pub same_reply : (x y : Reply) → stage.Replied (verdict.Said (Done x)) ≡ stage.Replied (verdict.Said (Done y)) → x ≡ y
 same_reply x y e = cc
 
 -- where it is not replied now, it is as the clock's work left it
@@ -181,7 +169,7 @@ told_both c e now o answer h k claim j f y s = by (acquires_at k y) refl
         }
     by false t = record { sourced = since_sourced c e now y s; waiting = λ w. s }
 
-acquire_sourced : (c : Core) (e : CoreEvent) (now : ℕ) (o : OutCall) (answer : Reply) (h : Hears c e o (Done answer)) → Meets c e now (hearing now o.call h.answer c) → (k : List ℕ) → o.job ≡ job.Acquire k
+pub acquire_sourced : (c : Core) (e : CoreEvent) (now : ℕ) (o : OutCall) (answer : Reply) (h : Hears c e o (Done answer)) → Meets c e now (hearing now o.call h.answer c) → (k : List ℕ) → o.job ≡ job.Acquire k
     → let d = hearing now o.call h.answer c in AllIf (Sourced c e now) (acquire_if d (acquire_answered (moment d now) k (Done answer) (reads_of d)))
 acquire_sourced c e now o answer h m k j = by_acquire (at (hearing now o.call h.answer c).acquires k) refl
   where
@@ -331,7 +319,7 @@ all_settled : (P Q : Asked → Type 0) (s : Settled) → ((y : Asked) → Settle
 all_settled P Q s f [] h t = tt
 all_settled P Q s f (x ∷ xs) h t = (f x h.0 t.0, all_settled P Q s f xs h.1 t.1)
 
-wait_sourced : (c : Core) (e : CoreEvent) (now : ℕ) (o : OutCall) (a : Answer) (h : Hears c e o a) → Meets c e now (hearing now o.call h.answer c) → o.job ≡ job.Wait
+pub wait_sourced : (c : Core) (e : CoreEvent) (now : ℕ) (o : OutCall) (a : Answer) (h : Hears c e o a) → Meets c e now (hearing now o.call h.answer c) → o.job ≡ job.Wait
     → let d = hearing now o.call h.answer c in AllIf (Sourced c e now) (reads_if d (wait_answered (moment d now) o.call a (reads_of d)))
 wait_sourced c e now o a h m j =
     let d = hearing now o.call h.answer c in

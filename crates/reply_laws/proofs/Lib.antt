@@ -1,4 +1,6 @@
 pub mod Before
 pub mod Events
 pub mod Heard
+pub mod Answered
 pub mod Sources
+pub mod Given
