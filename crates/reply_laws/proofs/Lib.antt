@@ -4,3 +4,5 @@ pub mod Heard
 pub mod Answered
 pub mod Sources
 pub mod Given
+pub mod Lasting
+pub mod Naming
