@@ -1,0 +1,15 @@
+pub mod Eachs
+pub mod WriteRows
+pub mod AskRows
+pub mod ReadRows
+pub mod CoreRows
+pub mod Prefix
+pub mod Served
+pub mod Same
+pub mod Openings
+pub mod Seats
+pub mod Headers
+pub mod Beside
+pub mod Fit
+pub mod Ready
+pub mod Found
