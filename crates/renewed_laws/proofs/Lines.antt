@@ -205,11 +205,11 @@ recounted namespace items w n h = record {
 }
 
 -- what a line that is taken leaves and gains
-abbrev TakenSo : List ℕ → List Item → Taken → Type 0
+abbrev pub TakenSo : List ℕ → List Item → Taken → Type 0
 TakenSo namespace items (Ok gained) = AnswersShowBytes gained.1 → WorldOk namespace (items ++ gained.1) gained.0 × AllTell namespace items gained.1
 TakenSo namespace items (Err why) = Unit {0}
 
-taken_so : (namespace : List ℕ) (items : List Item) (w : World) (l : Line) → WorldOk namespace items w → TakenSo namespace items (taken w l)
+pub taken_so : (namespace : List ℕ) (items : List Item) (w : World) (l : Line) → WorldOk namespace items w → TakenSo namespace items (taken w l)
 taken_so namespace items w l h = by (done w l).gained refl
   where
     by : (r : Result (List Item) LineRefusal) → (done w l).gained ≡ r → TakenSo namespace items (counted_as (done w l).world r)
@@ -240,7 +240,7 @@ no_calls number call e = by (number == 0) e
     by true e = absurd (cc)
     by false e = absurd (cc)
 
-begun_ok : (members : ℕ) (namespace leasing : List ℕ) → WorldOk namespace (item.World members namespace leasing ∷ []) (starting_world members namespace leasing)
+pub begun_ok : (members : ℕ) (namespace leasing : List ℕ) → WorldOk namespace (item.World members namespace leasing ∷ []) (starting_world members namespace leasing)
 begun_ok members namespace leasing = record {
   namespace_is = refl;
   calls = λ number call e. no_calls number call e;

@@ -1,0 +1,25 @@
+-- Each ok reply of a proxy has a source, at the step at which it comes to stand and at the step that gives it.
+use Rattle.std.specs.Prelude.{◌≡◌, ℕ, Some, Ok}
+use Rattle.etcd_types.specs.declared.answer.Answer.TheVariants.{Done}
+use Rattle.etcd_types.specs.declared.answer.Reply.{Reply}
+use Rattle.read_model.specs.declared.asked.Asked.{Asked}
+use Rattle.read_model.specs.declared.asked.Stage.TheVariants as stage
+use Rattle.read_model.specs.declared.asked.Verdict.TheVariants as verdict
+use Rattle.core_model.specs.declared.event.CoreEvent.{CoreEvent}
+use Rattle.core_model.specs.declared.event.Outcome.TheVariants as outcome
+use Rattle.core_model.specs.Fits.{CoreOk}
+use Rattle.core_model.specs.Lookups.{ask_at}
+use Rattle.core_model.specs.State.{Core}
+use Rattle.core_model.specs.Step.{stepped}
+use Rattle.reply_laws.specs.Sources.{Source, Given}
+
+-- a request that stands ready
+abbrev pub RepliesHaveSources : Type 0
+RepliesHaveSources =
+    (c : Core) (e : CoreEvent) (now ticket : ℕ) (a : Asked) (reply : Reply) → CoreOk c → ask_at ticket (stepped c e now).core.asks ≡ Some a
+    → a.stage ≡ stage.Replied (verdict.Said (Done reply)) → Source c e now a reply
+
+-- a reply that the step gives
+abbrev pub GivenRepliesHaveSources : Type 0
+GivenRepliesHaveSources =
+    (c : Core) (e : CoreEvent) (now : ℕ) (reply : Reply) → CoreOk c → (stepped c e now).outcome ≡ Ok (outcome.Replied (Done reply)) → Given c e now reply
