@@ -162,6 +162,23 @@ names() {
     ' - $(find_in -E '^crates/[a-z_0-9]*/(src|specs)/.*\.(rt|antt)$' <<< "$files") docs/CRATES.md <<< "$files"
 }
 
+# Each question of CONTRIBUTING's last section is answered within three steps: README links the page, the page's section names the file, and the file has
+# the word.
+questions() {
+    local row page heading file word section count=0
+    while IFS='|' read -r page heading file word; do
+        count=$((count + 1))
+        grep -q -F "]($page)" README.md || echo "README doesn't link $page"
+        section=$(awk -v wanted="$heading" '
+            /^#+ / { text = tolower($0); sub(/^#+ /, "", text); gsub(/[^a-z0-9 _-]/, "", text); gsub(/ /, "-", text)
+                     depth = index($0, " "); if (text == wanted) { inside = depth; next } if (inside && depth <= inside) inside = 0 }
+            inside' "$page")
+        grep -q -F "${file##*/}" <<< "$section" || echo "$page#$heading doesn't name $file"
+        [ -z "$word" ] || grep -q -s -w -F -e "$word" "$file" || echo "$file has no $word"
+    done < <(sed -n 's/^| [^|*]*? | \[[^]]*\](\([^)#]*\)#\([^)]*\))[^|]*| `\([^`]*\)`\(: `\([^`]*\)`\)\{0,1\} |$/\1|\2|\3|\5/p' CONTRIBUTING.md)
+    [ "$count" -ge 12 ] || echo "there are $count questions"
+}
+
 # A page stands alone: it cites nothing by a number or a place that only those who wrote it know.
 numbers='\b(paper|issue|request|demand|rule|theorem) #?[0-9]+\b|\b(P([1-9]|1[0-9]|2[0-3])|[DR]([1-9]|1[0-9]|2[01])|W([1-9]|1[0-6])|T[1-5][a-h]?|H[1-3]|K[1-8]|F(17|18|19|20))\b|/work/|/opt/rattle|\b(papers|shared|design)/'
 citations() { find_in_pages -IE "$numbers" -- '*.md' | find_in -v RFC | cut -c -160; }
@@ -175,5 +192,6 @@ refuse 'a link to nothing' links
 refuse 'no such file' paths
 refuse docs/OPERATIONS.md limits
 refuse 'docs/PROOFS.md cites no such contract' contracts
+refuse "a question of CONTRIBUTING.md isn't answered" questions
 refuse 'cited by a number or a place' citations
 [ "$failures" -eq 0 ] || exit 1

@@ -5,7 +5,7 @@
 #     bash tests/map.sh > docs/MAP.md
 set -euo pipefail
 cd "$(dirname "$0")/.."
-. "$(ls tools/program.sh tests/program.sh 2> /dev/null | head -n 1)"
+. tools/program.sh
 program=etcd_proxy
 
 # The first sentence of the lines `//!` at the top of a crate's root file: first_sentence CRATE
