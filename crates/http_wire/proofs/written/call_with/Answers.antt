@@ -1,8 +1,8 @@
 -- The parts one after another.
-use Rattle.std.proofs.Common.{◌≡◌, ℕ, List, [], ◌++◌, length, refl, ◌∙◌, append_assoc, append-nil}
+use Rattle.std.proofs.Common.{◌≡◌, ℕ, List, [], ◌++◌, refl, ◌∙◌, append_assoc, append-nil}
 use Rattle.std.specs.Prelude.{codes}
-use Rattle.http_wire.specs.Written.{line_end, call_fields}
-use Rattle.http_wire.proofs.written.call.Goals as goal
+use Rattle.http_wire.specs.Written.{line_end}
+use Rattle.http_wire.proofs.written.call_with.Goals as goal
 
 next : (all part is : List ℕ) {old new : List ℕ} → old ≡ all → new ≡ old ++ part → part ≡ is → new ≡ all ++ is
 next all part is before more same = more ∙ (λ i. before i ++ same i)
@@ -15,7 +15,7 @@ returns c =
     let path = c.args.path.now in
     let host = c.args.host.now in
     let body = c.args.body.now in
-    let fields = c.as_bytes.ensures.value ∙ c.in_ok-fields.ensures in
+    let fields = c.args.fields.now in
     let post = codes "POST " in
     let version = codes " HTTP/1.1" ++ line_end ++ codes "Host: " in
     let one = next [] post post c.new-all.ensures.items c.in_ok-extend_from_slice.ensures.items refl in
@@ -23,6 +23,6 @@ returns c =
     let three = next (post ++ path) version version two c.in_ok-extend_from_slice-3.ensures.items refl in
     let four = next _ host host three c.in_ok-extend_from_slice-4.ensures.items refl in
     let five = next _ line_end line_end four c.in_ok-extend_from_slice-5.ensures.items refl in
-    let six = next _ c.as_bytes.result.now (call_fields (length body)) five c.in_ok-extend_from_slice-6.ensures.items fields in
+    let six = next _ c.as_bytes.result.now fields five c.in_ok-extend_from_slice-6.ensures.items c.as_bytes.ensures.value in
     let seven = next _ body body six c.in_ok-extend_from_slice-7.ensures.items refl in
-    seven ∙ regrouped post path version host line_end (call_fields (length body)) body
+    seven ∙ regrouped post path version host line_end fields body
