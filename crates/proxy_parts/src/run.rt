@@ -84,11 +84,21 @@ where
         (ledger (Some (made result.pass)) (L.made link.new) (P.handed spawner.new)
         (L.faults link.new) (P.faults spawner.new)) }
 {
-    let mut place = place;
-    let mut before = place.hub.split(&mut place.pass);
-    let mut place = keep_at_work(rt, alloc, place, link, spawner, clock);
-    place.hub.meet(&mut place.pass, &mut before);
-    place
+    let Place {
+        hub,
+        hosts,
+        mut pass,
+    } = place;
+    let mut before = hub.split(&mut pass);
+    let placed = Place { hub, hosts, pass };
+    let worked = keep_at_work(rt, alloc, placed, link, spawner, clock);
+    let Place {
+        hub,
+        hosts,
+        mut pass,
+    } = worked;
+    hub.meet(&mut pass, &mut before);
+    Place { hub, hosts, pass }
 }
 
 /// Ticks over a place until no further step can be made.
