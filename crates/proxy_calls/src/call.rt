@@ -22,12 +22,7 @@ fn kept_call_bytes(alloc: Global, host: &[u8], request: &Request) -> Result<Byte
     ensures { IfOk result (λ bytes. bytes ≡ kept_call_of host.now request.now) }
 {
     let (path, body) = encode_request(alloc, request)?;
-    Ok(write_kept_call(
-        alloc,
-        host,
-        path.as_slice(),
-        body.as_slice(),
-    )?)
+    Ok(write_kept_call(alloc, host, path.as_slice(), body.as_slice())?)
 }
 
 /// What a link's failure says of its call.

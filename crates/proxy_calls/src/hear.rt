@@ -87,7 +87,8 @@ pub(crate) fn hear<S: Source>(
     source: &mut S,
 ) -> (Result<Answer, CallFault>, AnswerEnd)
     requires fresh { S.faults source.old ≡ 0 }
-    ensures { Heard request.now (S.left source.old) (S.left source.new) (S.faults source.new) result.1 result.0 }
+    ensures { Heard request.now (S.left source.old) (S.left source.new) (S.faults source.new)
+        result.1 result.0 }
 {
     let Ok(mut wire) = Wire::new(alloc) else {
         return (Err(CallFault::NoMemory), AnswerEnd::Broken);

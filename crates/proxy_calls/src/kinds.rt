@@ -48,13 +48,19 @@ fn is_read(operation: &Op) -> bool
 fn all_read_one(operations: &List<Op>) -> bool
     ensures { result ≡ list_all reads_one operations.now }
 {
-    operations.as_slice().iter().all(|operation| reads_one(operation))
+    operations
+        .as_slice()
+        .iter()
+        .all(|operation| reads_one(operation))
 }
 
 fn all_read(operations: &List<Op>) -> bool
     ensures { result ≡ list_all is_read operations.now }
 {
-    operations.as_slice().iter().all(|operation| is_read(operation))
+    operations
+        .as_slice()
+        .iter()
+        .all(|operation| is_read(operation))
 }
 
 /// The kind of a call that makes a transaction.
@@ -78,10 +84,8 @@ pub fn kind_of(request: &Request) -> CallKind
         Request::Range(ask) => range_kind(&ask.range),
         Request::Txn(txn) => txn_kind(txn),
         Request::Grant { lease, .. } => grant_kind(*lease),
-        Request::Put(_)
-        | Request::Delete(_)
-        | Request::Compact { .. }
-        | Request::Revoke { .. } => CallKind::Writes,
+        Request::Put(_) | Request::Delete(_) | Request::Compact { .. } | Request::Revoke { .. } =>
+            CallKind::Writes,
         Request::KeepAlive { .. }
         | Request::TimeToLive { .. }
         | Request::Leases

@@ -54,7 +54,8 @@ pub(crate) fn cut<T: Turn, C: Clock>(
     ensures home { T.home turn.new ≡ T.home turn.old }
     ensures late { IsTrue (T.worn turn.old) → IsTrue (T.worn turn.new) }
     ensures allowed { T.allowed turn.old → T.allowed turn.new }
-    ensures cut { IsCut (IsTrue (T.worn turn.new)) stream end result (T.made turn.old) (T.made turn.new) }
+    ensures cut { IsCut (IsTrue (T.worn turn.new)) stream end result
+        (T.made turn.old) (T.made turn.new) }
 {
     let done = turn.turn(CoreEvent::Cut { stream }, clock);
     if is_worn(&done) { StreamEnd::Worn } else { end }
@@ -70,7 +71,8 @@ pub(crate) fn feed<T: Turn, C: Clock>(
     ensures home { T.home turn.new ≡ T.home turn.old }
     ensures late { IsTrue (T.worn turn.old) → IsTrue (T.worn turn.new) }
     ensures allowed { T.allowed turn.old → T.allowed turn.new }
-    ensures feeds { Feeds (IsTrue (T.worn turn.new)) stream item (T.made turn.old) (T.made turn.new) result }
+    ensures feeds { Feeds (IsTrue (T.worn turn.new)) stream item
+        (T.made turn.old) (T.made turn.new) result }
 {
     let fault = match turn.turn(CoreEvent::Item { stream, item }, clock) {
         Ok(_) => return None,
@@ -95,7 +97,8 @@ pub(crate) fn feed_from<T: Turn, S: Source, C: Clock>(
     ensures home { T.home turn.new ≡ T.home turn.old }
     ensures late { IsTrue (T.worn turn.old) → IsTrue (T.worn turn.new) }
     ensures allowed { T.allowed turn.old → T.allowed turn.new }
-    ensures feeds { Feeds (IsTrue (T.worn turn.new)) stream item (T.made turn.old) (T.made turn.new) result }
+    ensures feeds { Feeds (IsTrue (T.worn turn.new)) stream item
+        (T.made turn.old) (T.made turn.new) result }
     ensures bytes { S.left source.new ≡ S.left source.old }
     ensures kept { S.faults source.new ≡ S.faults source.old }
 {

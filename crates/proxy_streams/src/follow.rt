@@ -46,7 +46,8 @@ fn follow_on<R: Wait, T: Turn, S: Source, C: Clock>(
     ensures home { T.home turn.new ≡ T.home turn.old }
     ensures late { IsTrue (T.worn turn.old) → IsTrue (T.worn turn.new) }
     ensures allowed { T.allowed turn.old → T.allowed turn.new }
-    ensures following { Following (IsTrue (T.worn turn.new)) stream (S.left source.old) (S.faults source.old) (S.faults source.new)
+    ensures following { Following (IsTrue (T.worn turn.new)) stream
+        (S.left source.old) (S.faults source.old) (S.faults source.new)
         (T.made turn.old) (T.made turn.new) result.read result.end }
 {
     let Ok(mut wire) = Wire::new(alloc) else {
@@ -97,7 +98,8 @@ pub fn follow_stream<R: Wait, T: Turn, L: Link, C: Clock>(
     ensures home { T.home turn.new ≡ T.home turn.old }
     ensures late { IsTrue (T.worn turn.old) → IsTrue (T.worn turn.new) }
     ensures allowed { T.allowed turn.old → T.allowed turn.new }
-    ensures followed { IsFollowed (IsTrue (T.worn turn.new)) follow.now (L.made link.old) (L.made link.new) (L.faults link.old) (L.faults link.new)
+    ensures followed { IsFollowed (IsTrue (T.worn turn.new)) follow.now
+        (L.made link.old) (L.made link.new) (L.faults link.old) (L.faults link.new)
         (T.made turn.old) (T.made turn.new) result }
 {
     let kind = CallKind::Watches(follow.stream);

@@ -55,7 +55,9 @@ pub(crate) fn open<S: Source>(wire: &mut Wire, source: &mut S) -> Result<Framing
     requires sound { wire.old.fault ≡ None }
     ensures sound { IfOk result (λ framing. wire.new.fault ≡ None) }
     ensures kept { S.faults source.old ≤ S.faults source.new }
-    ensures opens { Opens (bytes_ahead (S.left source.old) wire.old) (bytes_ahead (S.left source.new) wire.new) (S.faults source.old) (S.faults source.new) result }
+    ensures opens { Opens
+        (bytes_ahead (S.left source.old) wire.old) (bytes_ahead (S.left source.new) wire.new)
+        (S.faults source.old) (S.faults source.new) result }
 {
     match wire.read_answer(source) {
         Ok(head) => {
@@ -79,7 +81,9 @@ pub(crate) fn next<S: Source>(
     requires sound { wire.old.fault ≡ None }
     ensures sound { IfOk result (λ item. wire.new.fault ≡ None) }
     ensures kept { S.faults source.old ≤ S.faults source.new }
-    ensures nexts { Nexts framing.old framing.new (bytes_ahead (S.left source.old) wire.old) (bytes_ahead (S.left source.new) wire.new) (S.faults source.old) (S.faults source.new) result }
+    ensures nexts { Nexts framing.old framing.new
+        (bytes_ahead (S.left source.old) wire.old) (bytes_ahead (S.left source.new) wire.new)
+        (S.faults source.old) (S.faults source.new) result }
 {
     let line = match wire.next_line(source, framing, LINE_LIMIT) {
         Ok(Some(line)) => line,

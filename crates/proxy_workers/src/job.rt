@@ -46,7 +46,8 @@ fn do_call<T: Turn, L: Link, C: Clock>(
     ensures home { T.home turn.new ≡ T.home turn.old }
     ensures late { IsTrue (T.worn turn.old) → IsTrue (T.worn turn.new) }
     ensures allowed { T.allowed turn.old → T.allowed turn.new }
-    ensures made { IsCallMade (IsTrue (T.worn turn.new)) host.now call member request.now (T.made turn.old) (T.made turn.new)
+    ensures made { IsCallMade (IsTrue (T.worn turn.new)) host.now call member request.now
+        (T.made turn.old) (T.made turn.new)
         (L.made link.old) (L.made link.new) (L.faults link.old) (L.faults link.new) result }
 {
     let kind = kind_of(request);
@@ -69,7 +70,8 @@ fn follower<T: Seats, C>(
     ensures home { T.home turn.new ≡ T.home turn.old }
     ensures late { IsTrue (T.worn turn.old) → IsTrue (T.worn turn.new) }
     ensures allowed { T.allowed turn.old → T.allowed turn.new }
-    ensures part { IfOk result (λ part. IsFollower T.place_home (T.home turn.old) host.now stream member request.now part) }
+    ensures part { IfOk result (λ part. IsFollower T.place_home (T.home turn.old)
+        host.now stream member request.now part) }
 {
     let call = call_bytes(alloc, host, request)?;
     let place = turn.another()?;
@@ -99,8 +101,10 @@ where
     ensures home { T.home turn.new ≡ T.home turn.old }
     ensures late { IsTrue (T.worn turn.old) → IsTrue (T.worn turn.new) }
     ensures allowed { T.allowed turn.old → T.allowed turn.new }
-    ensures over { IsHandedOver (IsTrue (T.worn turn.new)) host.now (IsAt T.place_home (T.home turn.old)) stream member request.now
-        (T.made turn.old) (T.made turn.new) (P.handed spawner.old) (P.handed spawner.new) (P.faults spawner.old) (P.faults spawner.new) result }
+    ensures over { IsHandedOver (IsTrue (T.worn turn.new)) host.now
+        (IsAt T.place_home (T.home turn.old)) stream member request.now
+        (T.made turn.old) (T.made turn.new) (P.handed spawner.old) (P.handed spawner.new)
+        (P.faults spawner.old) (P.faults spawner.new) result }
 {
     let Ok(part) = follower(alloc, turn, host, stream, member, request) else {
         return feed(
@@ -132,9 +136,12 @@ where
     ensures home { T.home turn.new ≡ T.home turn.old }
     ensures late { IsTrue (T.worn turn.old) → IsTrue (T.worn turn.new) }
     ensures allowed { T.allowed turn.old → T.allowed turn.new }
-    ensures done { IsDone hosts.now (IsAt T.place_home (T.home turn.old)) (IsTrue (T.worn turn.new)) job.now
-        (ledger (T.made turn.old) (L.made link.old) (P.handed spawner.old) (L.faults link.old) (P.faults spawner.old))
-        (ledger (T.made turn.new) (L.made link.new) (P.handed spawner.new) (L.faults link.new) (P.faults spawner.new)) result }
+    ensures done { IsDone hosts.now (IsAt T.place_home (T.home turn.old))
+        (IsTrue (T.worn turn.new)) job.now
+        (ledger (T.made turn.old) (L.made link.old) (P.handed spawner.old)
+        (L.faults link.old) (P.faults spawner.old))
+        (ledger (T.made turn.new) (L.made link.new) (P.handed spawner.new)
+        (L.faults link.new) (P.faults spawner.new)) result }
 {
     match job {
         Job::Call {

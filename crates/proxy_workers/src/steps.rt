@@ -33,7 +33,8 @@ pub(crate) fn feed<T: Turn, C: Clock>(
     ensures home { T.home turn.new ≡ T.home turn.old }
     ensures late { IsTrue (T.worn turn.old) → IsTrue (T.worn turn.new) }
     ensures allowed { T.allowed turn.old → T.allowed turn.new }
-    ensures fed { IsFed (IsTrue (T.worn turn.new)) event end (T.made turn.old) (T.made turn.new) result }
+    ensures fed { IsFed (IsTrue (T.worn turn.new)) event end
+        (T.made turn.old) (T.made turn.new) result }
 {
     let fault = match turn.turn(event, clock) {
         Ok(_) => return end,
@@ -56,7 +57,8 @@ pub(crate) fn report<T: Turn, C: Clock>(
     ensures home { T.home turn.new ≡ T.home turn.old }
     ensures late { IsTrue (T.worn turn.old) → IsTrue (T.worn turn.new) }
     ensures allowed { T.allowed turn.old → T.allowed turn.new }
-    ensures reports { IsReported (IsTrue (T.worn turn.new)) call answer (T.made turn.old) (T.made turn.new) result }
+    ensures reports { IsReported (IsTrue (T.worn turn.new)) call answer
+        (T.made turn.old) (T.made turn.new) result }
 {
     let fault = match turn.turn(CoreEvent::Answer { call, answer }, clock) {
         Ok(_) => return None,

@@ -43,7 +43,8 @@ fn draw<R: Wait, T: Turn, C: Clock>(rt: &R, turn: &mut T, clock: &mut C) -> Resu
     ensures home { T.home turn.new ≡ T.home turn.old }
     ensures late { IsTrue (T.worn turn.old) → IsTrue (T.worn turn.new) }
     ensures allowed { T.allowed turn.old → T.allowed turn.new }
-    ensures drawn { IsDrawn T.rests (IsTrue (T.worn turn.new)) (T.made turn.old) (T.made turn.new) result }
+    ensures drawn { IsDrawn T.rests (IsTrue (T.worn turn.new))
+        (T.made turn.old) (T.made turn.new) result }
 {
     'looks: for _ in rt.forever() {
         let outcome = match turn.turn(CoreEvent::Work, clock) {
@@ -79,9 +80,12 @@ where
     ensures home { T.home turn.new ≡ T.home turn.old }
     ensures late { IsTrue (T.worn turn.old) → IsTrue (T.worn turn.new) }
     ensures allowed { T.allowed turn.old → T.allowed turn.new }
-    ensures worked { IsWorked hosts.now (IsAt T.place_home (T.home turn.old)) T.rests (IsTrue (T.worn turn.new)) turns
-        (ledger (T.made turn.old) (L.made link.old) (P.handed spawner.old) (L.faults link.old) (P.faults spawner.old))
-        (ledger (T.made turn.new) (L.made link.new) (P.handed spawner.new) (L.faults link.new) (P.faults spawner.new)) result }
+    ensures worked { IsWorked hosts.now (IsAt T.place_home (T.home turn.old)) T.rests
+        (IsTrue (T.worn turn.new)) turns
+        (ledger (T.made turn.old) (L.made link.old) (P.handed spawner.old)
+        (L.faults link.old) (P.faults spawner.old))
+        (ledger (T.made turn.new) (L.made link.new) (P.handed spawner.new)
+        (L.faults link.new) (P.faults spawner.new)) result }
 {
     'jobs: for _ in 0..turns {
         let job = match draw(rt, turn, clock) {

@@ -35,7 +35,7 @@ use Rattle.stream_model.specs.declared.ends.StreamEnd.{StreamEnd}
 use Rattle.stream_model.specs.declared.ends.StreamEnd.TheVariants as how
 use Rattle.stream_model.specs.declared.ends.Stop.{Stop}
 use Rattle.stream_model.specs.Following.{Cause, Message, is_cancel, AllGo, Goes, Lines, IsGood, Opened, Reads, OpenedMore, lines_of, Stands, HasRisen, IsQuiet, wanted, read_to, end_by, steps_of, failed, Cuts, Ends, Following, Fed}
-use Rattle.stream_model.specs.Parts.{Opens, StandsNext, Nexts, is_for_memory, end_of, Refuses, Feeds, IsCut, cut_at, stop_by, begun, Follows, IsFollowed}
+use Rattle.stream_model.specs.Parts.{Opens, StandsNext, Nexts, is_for_memory, end_of, Refuses, IsTaken, Feeds, IsCut, cut_at, stop_by, begun, Follows, IsFollowed}
 
 -- ---- lines
 
@@ -64,9 +64,9 @@ just_opened stream (Some all) None framing made r = absurd r
 just_opened stream (Some all) (Some bytes) framing made r =
     record { messages = []; read = tt; goes = tt; opened = (framing, bytes, r, (refl, refl)); adds = adds_none made }
 
-pub fed_more : (worn : Type 0) (stream : ℕ) (left mid rest : Option (List ℕ)) (old new : Framing) (a b c : Option (List Step)) (earlier later : ℕ) (item : WatchItem) → Fed stream left mid old a b
-    → Nexts old new mid rest earlier later (Ok item) → is_cancel item ≡ false → Feeds worn stream item b c None → Fed stream left rest new a c
-fed_more worn stream left mid rest old new a b c earlier later item f n g s =
+pub fed_more : (stream : ℕ) (left mid rest : Option (List ℕ)) (old new : Framing) (a b c : Option (List Step)) (earlier later : ℕ) (item : WatchItem) → Fed stream left mid old a b
+    → Nexts old new mid rest earlier later (Ok item) → is_cancel item ≡ false → IsTaken stream item b c → Fed stream left rest new a c
+fed_more stream left mid rest old new a b c earlier later item f n g s =
     let m : Message = record { line = n.0; item = item; now = s.0 } in
     record {
       messages = f.messages ++ m ∷ [];
@@ -214,7 +214,7 @@ opened_at ms (Some all) (Some bytes) framing o = (framing, bytes, o)
 
 -- the last message ended the watch
 pub was_over : (worn : Type 0) (stream : ℕ) (left mid rest : Option (List ℕ)) (old new : Framing) (start later before behind : ℕ) (a b c d : Option (List Step)) (item : WatchItem) (end : StreamEnd)
-    → Fed stream left mid old a b → Nexts old new mid rest before behind (Ok item) → is_cancel item ≡ true → Feeds worn stream item b c None → IsCut worn stream how.Cut end c d
+    → Fed stream left mid old a b → Nexts old new mid rest before behind (Ok item) → is_cancel item ≡ true → IsTaken stream item b c → IsCut worn stream how.Cut end c d
     → Following worn stream left start later a d answer.Broken end
 was_over worn stream left mid rest old new start later before behind a b c d item end f n g s t =
     let m : Message = record { line = n.0; item = item; now = s.0 } in
@@ -289,10 +289,10 @@ not_fed worn stream had mid rest old new start earlier later a b c item end f n 
 
 -- ---- one message
 
-pub was_fed : (worn : Type 0) (stream now : ℕ) (item : WatchItem) (a b : Option (List Step)) (outcome : Outcome) → Fits (Item stream item) (Ok outcome)
-    → MadeBy a b (Item stream item) now (Ok outcome) → Feeds worn stream item a b None
-was_fed worn stream now item a b Noted f m = (now, m)
-was_fed worn stream now item a b _ f m = absurd f
+pub was_fed : (stream now : ℕ) (item : WatchItem) (a b : Option (List Step)) (outcome : Outcome) → Fits (Item stream item) (Ok outcome)
+    → MadeBy a b (Item stream item) now (Ok outcome) → IsTaken stream item a b
+was_fed stream now item a b Noted f m = (now, m)
+was_fed stream now item a b _ f m = absurd f
 
 pub cut_for_memory : (worn : Type 0) (stream now : ℕ) (item : WatchItem) (a b c : Option (List Step)) (fault : TurnFault) (end : StreamEnd) → is_for_memory fault ≡ true
     → MadeBy a b (Item stream item) now (Err fault) → IsCut worn stream how.NoMemory end b c → Feeds worn stream item a c (Some end)
@@ -426,7 +426,7 @@ no_message old new had rest earlier later x line e r i = (
   Cause.NoMessage line,
   (tt, refl, refl, tt),
   both_stand (λ (all : List ℕ). (next : Framing) × (behind : List ℕ) × NextLine LINE_LIMIT old next all behind (Ok (Some line))) (item_of line ≡ Err Unreadable) had
-  (line_at old new had rest line (line_as old new had rest x line e r)) i,
+      (line_at old new had rest line (line_as old new had rest x line e r)) i,
 )
 
 pub not_read : (old new : Framing) (had rest : Option (List ℕ)) (earlier later : ℕ) (x : Option (List ℕ)) (line : List ℕ) → x ≡ Some line

@@ -81,9 +81,13 @@ pub data Refuses (worn : Type 0) (stream : ℕ) (item : WatchItem) : StreamEnd �
   spent : (now : ℕ) → Refuses worn stream item how.Worn (entry_of (Item stream item) now (Err step.Worn) ∷ [])
   late : worn → Refuses worn stream item how.Worn []
 
--- a message was fed
+-- a message was fed, and the core took it
+abbrev pub IsTaken : ℕ → WatchItem → Option (List Step) → Option (List Step) → Type 0
+IsTaken stream item made made' = (now : ℕ) × Adds made made' (entry_of (Item stream item) now (Ok Noted) ∷ [])
+
+-- a message was fed. Where an end is named the stream goes on no more
 abbrev pub Feeds : Type 0 → ℕ → WatchItem → Option (List Step) → Option (List Step) → Option StreamEnd → Type 0
-Feeds worn stream item made made' None = (now : ℕ) × Adds made made' (entry_of (Item stream item) now (Ok Noted) ∷ [])
+Feeds worn stream item made made' None = IsTaken stream item made made'
 Feeds worn stream item made made' (Some end) = (steps : List Step) × Refuses worn stream item end steps × Adds made made' steps
 
 -- the stream was cut

@@ -4,7 +4,7 @@ use Rattle.stream_model.proofs.Follows.{was_fed, cut_for_memory, refused_as}
 use Rattle.proxy_streams.proofs.feed.feed.Goals as goal
 
 pub returns-in-Ok-clause-feeds : goal.returns-in-Ok-clause-feeds
-returns-in-Ok-clause-feeds g c = was_fed _ c.args.stream _ c.args.item _ _ c.in-Ok.field-0 c.in-Ok.ensures.fits c.in-Ok.ensures.made
+returns-in-Ok-clause-feeds g c = was_fed c.args.stream _ c.args.item _ _ c.in-Ok.field-0 c.in-Ok.ensures.fits c.in-Ok.ensures.made
 
 pub returns-then-is_for_memory-clause-feeds : goal.returns-then-is_for_memory-clause-feeds
 returns-then-is_for_memory-clause-feeds g c =

@@ -9,7 +9,7 @@ returns-in_default-clause-following g c =
 
 pub returns-in-Err-clause-following : goal.returns-in-Err-clause-following
 returns-in-Err-clause-following g c =
-    not_opened_at _ c.args.stream _ _ c.in-Ok.wire _ _ _ _ c.in-Err.stop c.cut-end.result c.in-Ok.ensures.held c.in-Err.ensures.opens c.cut-end.ensures.cut
+    not_opened_at _ c.args.stream _ None c.in-Ok.wire _ _ _ _ c.in-Err.stop c.cut-end.result c.in-Ok.ensures.held c.in-Err.ensures.opens c.cut-end.ensures.cut
 
 pub messages-init : goal.messages-init
 messages-init g c = record {
@@ -28,14 +28,14 @@ messages-preserved g c = record {
   home = c.in-None-feed_from.ensures.home ∙ c.messages.invariant.home;
   late = λ w. c.in-None-feed_from.ensures.late (c.messages.invariant.late w);
   allowed = λ a. c.in-None-feed_from.ensures.allowed (c.messages.invariant.allowed a);
-  fed = rest_as c.args.stream _ _ _ _ _ _ _ c.in-None-feed_from.ensures.bytes
-      (fed_more _ c.args.stream _ _ _ _ _ _ _ _ 0 0 c.in-Ok-next.item c.messages.invariant.fed c.in-Ok-next.ensures.nexts (sym c.is_cancel-is_last.ensures ∙ c.if-is_last.false)
+  fed = rest_as c.args.stream _ _ _ c.next-in-messages.new.wire _ _ _ c.in-None-feed_from.ensures.bytes
+      (fed_more c.args.stream _ _ _ _ _ _ _ _ 0 0 c.in-Ok-next.item c.messages.invariant.fed c.in-Ok-next.ensures.nexts (sym c.is_cancel-is_last.ensures ∙ c.if-is_last.false)
       c.in-None-feed_from.ensures.feeds);
 }
 
 pub returns-in-Err-next-clause-following : goal.returns-in-Err-next-clause-following
 returns-in-Err-next-clause-following g c =
-    none_came _ c.args.stream _ _ _ _ _ _ _ _ _ _ _ c.in-Err-next.stop c.cut-end-in-Err-next.result c.messages.invariant.fed c.messages.invariant.reads c.in-Err-next.ensures.nexts
+    none_came _ c.args.stream _ _ None _ c.in-Ok-open.framing _ _ _ _ _ _ c.in-Err-next.stop c.cut-end-in-Err-next.result c.messages.invariant.fed c.messages.invariant.reads c.in-Err-next.ensures.nexts
     c.cut-end-in-Err-next.ensures.cut
 
 pub returns-in-Some-feed_from-clause-following : goal.returns-in-Some-feed_from-clause-following

@@ -14,8 +14,8 @@ returns-in-Err-Failed-clause-followed g c =
     was_failed _ c.args.follow.now _ _ _ _ _ _ c.in-Err-Failed.field-0 c.cut.result c.in-Err-Failed.field-0-is
     (begun_as c.args.follow.now c.as_slice.result.now _ _ (Err c.in-Err-Failed.field-0) c.as_slice.ensures c.in-Err-Failed.ensures.made) c.in-Err-Failed.ensures.cause c.cut.ensures.cut
 
-pub returns-clause-followed : goal.returns-clause-followed
-returns-clause-followed g c =
+pub returns-in-Err-NoMemory-clause-followed : goal.returns-in-Err-NoMemory-clause-followed
+returns-in-Err-NoMemory-clause-followed g c =
     was_unbegun _ c.args.follow.now _ _ _ _ _ _ c.in-Err-NoMemory.field-0 c.cut-in-Err-NoMemory.result c.in-Err-NoMemory.field-0-is
     (begun_as c.args.follow.now c.as_slice.result.now _ _ (Err c.in-Err-NoMemory.field-0) c.as_slice.ensures c.in-Err-NoMemory.ensures.made) c.in-Err-NoMemory.ensures.cause
     c.cut-in-Err-NoMemory.ensures.cut
