@@ -2,7 +2,7 @@ use etcd_types::{Bytes, List, NoMemory};
 use outside::{Draw, SeededDraw, SystemClock, SystemDraw};
 use part_threads::Ends;
 use sockets::{
-    AnswerStream, LinkLimits, Members, Permits, SocketLink, SocketSink, SocketSource, ends_of,
+    LinkLimits, Members, Permits, SocketAnswer, SocketLink, SocketSink, SocketSource, ends_of,
     linger,
 };
 use std::alloc::Global;
@@ -82,7 +82,7 @@ impl<
 
     type Sink = SocketSink<R>;
 
-    type Stream = AnswerStream<R>;
+    type Answer = SocketAnswer<R>;
 
     type Link = SocketLink<R>;
 
@@ -124,6 +124,6 @@ impl<
     }
 
     fn close(&self, source: SocketSource<R>, sink: SocketSink<R>) {
-        linger(source, sink);
+        let _ = linger(source, sink);
     }
 }

@@ -1,12 +1,12 @@
 -- What changes of the acquires, and of the calls that are out, keep.
-use Rattle.std.proofs.Common.{◌≡◌, ℕ, ◌==◌, Bool, true, false, not, cond, ◌&&◌, List, [], ◌∷◌, ◌++◌, filter, Option, None, Some, is_some, refl, sym, ◌∙◌, ap, subst}
+use Rattle.std.proofs.Common.{◌≡◌, ℕ, ◌==◌, Bool, true, false, not, cond, List, [], ◌∷◌, ◌++◌, Option, None, Some, refl, sym, ◌∙◌, ap, subst}
 use Rattle.std.specs.Option.{option_map}
 use Rattle.std.specs.Ordering.{nat_cmp}
 use Rattle.std.specs.Cmp.Lexicographic.{slice_cmp}
 use Rattle.std.specs.FinMap.Entries.{is_sorted-where_key}
 use Rattle.etcd_types.specs.Keys.{same}
 use Rattle.etcd_types.proofs.KeyOrder.{same-equal, same-itself}
-use Rattle.proxy_model.specs.Keyed.{Keyed, at, with_at, is_in_order}
+use Rattle.proxy_model.specs.Keyed.{Keyed, at, with_at}
 use Rattle.proxy_model.proofs.KeyedLaws.{to_T, from_T, at-with_at, in_order-with_at}
 use Rattle.wait_model.specs.declared.sending.Sending.{Sending}
 use Rattle.wait_model.specs.declared.sending.Sending.TheVariants as sending
@@ -22,7 +22,6 @@ use Rattle.core_model.specs.declared.out_call.OutJob.TheVariants as job
 use Rattle.core_model.specs.Fits.{job_at}
 use Rattle.core_model.specs.Lookups.{without_out}
 use Rattle.core_laws.proofs.Calls.{job_without}
-use Rattle.core_laws.proofs.Comes.{by_test}
 use Rattle.core_laws.proofs.Lists.{same_number, number_itself}
 use Rattle.owner_fits.specs.Acquires.{IsOutAs, AcquiresFit}
 

@@ -1,5 +1,5 @@
 -- Clock work and calls that end keep the facts of a whole proxy.
-use Rattle.std.proofs.Common.{◌≡◌, ℕ, ◌+◌, ◌==◌, Bool, true, false, cond, List, map, Option, None, Some, refl, sym, ◌∙◌, ap, subst}
+use Rattle.std.proofs.Common.{◌≡◌, ℕ, ◌==◌, Bool, true, false, cond, List, map, Option, None, Some, refl, sym, ◌∙◌, ap, subst}
 use Rattle.etcd_types.specs.declared.answer.Answer.{Answer}
 use Rattle.etcd_types.specs.declared.answer.Answer.TheVariants as answer
 use Rattle.etcd_types.specs.declared.answer.Body.{Body}
@@ -7,7 +7,6 @@ use Rattle.etcd_types.specs.declared.answer.Body.TheVariants as body
 use Rattle.proxy_model.specs.declared.session.Standing.{Standing}
 use Rattle.proxy_model.specs.Session.{is_live}
 use Rattle.wait_model.specs.Fits.{Fits}
-use Rattle.wait_model.specs.Passes.{proceeded}
 use Rattle.read_model.specs.declared.asked.Verdict.TheVariants as verdict
 use Rattle.read_model.specs.Acquires.{AfterAcquire, acquire_answered}
 use Rattle.read_model.specs.State.{Reads, Ground, ground_of}
@@ -23,14 +22,14 @@ use Rattle.core_model.specs.Fits.{is_seat_out, is_session_job, job_at}
 use Rattle.core_model.specs.Groups.{groups_ended}
 use Rattle.core_model.specs.Heard.{heard, answer_taken}
 use Rattle.core_model.specs.Kinds.{is_body_of}
-use Rattle.core_model.specs.Lookups.{number_if, live_number, moment, reads_of, with_reads, without_out}
+use Rattle.core_model.specs.Lookups.{number_if, live_number, moment, reads_of, without_out}
 use Rattle.core_model.specs.Sessions.{without_session, seat_is_over, deadline_passed, seat_calls, seat_granted, granted_by, grant_failed, grant_answered, seat_free, keep_failed, seat_renewed, kept, kept_by, keep_answered}
 use Rattle.core_model.specs.State.{Seat, Core}
 use Rattle.core_laws.proofs.Comes.{by_test}
 use Rattle.core_laws.proofs.Ends.{seat_standing}
 use Rattle.core_laws.proofs.Middle.{deadline_mid, times_mid}
 use Rattle.core_laws.proofs.Whole.{Mid, begun_mid}
-use Rattle.owner_fits.specs.Acquires.{number_by, standing_number, AcquiresFit}
+use Rattle.owner_fits.specs.Acquires.{number_by, standing_number}
 use Rattle.owner_fits.specs.Names.{stage_named}
 use Rattle.owner_fits.proofs.Answering.{AnswersName}
 use Rattle.owner_fits.proofs.Claims.{left_claims}

@@ -1,6 +1,6 @@
 -- What most steps do to entries and writes, as far as the facts go: an entry comes no nearer to being owned or written, or it is of an
 -- own key that is given up; and a write becomes no owner's.
-use Rattle.std.proofs.Common.{◌≡◌, ℕ, Bool, true, false, cond, ◌&&◌, ◌||◌, List, [], ◌∷◌, map, Option, None, Some, refl, sym, ◌∙◌, ap, subst}
+use Rattle.std.proofs.Common.{◌≡◌, ℕ, Bool, true, false, not, cond, ◌&&◌, ◌||◌, List, [], ◌∷◌, map, Option, None, Some, refl, sym, ◌∙◌, ap, subst}
 use Rattle.std.specs.List.{list_all}
 use Rattle.std.specs.Option.{option_map}
 use Rattle.etcd_types.specs.Keys.{is_empty, same}
@@ -23,6 +23,16 @@ use Rattle.wait_laws.proofs.FoundWrite.{head_found, rest_found}
 use Rattle.read_model.specs.Fits.{is_owned}
 use Rattle.core_laws.proofs.Comes.{by_test}
 use Rattle.owner_fits.specs.Names.{stage_named}
+
+-- A test under a condition.
+
+pub implies : (a b : Bool) → (a ≡ true → b ≡ true) → not a || b ≡ true
+implies true b f = f refl
+implies false b f = refl
+
+pub implied : (a b : Bool) → not a || b ≡ true → a ≡ true → b ≡ true
+implied true b h t = h
+implied false b h t = absurd (cc)
 
 -- Entries.
 

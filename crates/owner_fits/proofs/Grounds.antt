@@ -1,6 +1,6 @@
 -- What the parts of a step keep of acquires, entries and writes together: releases, requests that end, calls that end, and a
 -- session's end.
-use Rattle.std.proofs.Common.{◌≡◌, ℕ, Bool, true, false, not, cond, ◌&&◌, ◌||◌, ◌==◌, List, [], ◌∷◌, map, Option, None, Some, is_some, refl, sym, ◌∙◌, ap, subst}
+use Rattle.std.proofs.Common.{◌≡◌, ℕ, Bool, true, false, not, cond, ◌&&◌, ◌||◌, ◌==◌, List, [], ◌∷◌, Option, None, Some, is_some, refl, sym, ◌∙◌, ap, subst}
 use Rattle.std.specs.List.{list_any, list_all}
 use Rattle.etcd_types.specs.declared.answer.Answer.{Answer}
 use Rattle.etcd_types.specs.declared.answer.Answer.TheVariants as answer
@@ -9,14 +9,14 @@ use Rattle.etcd_types.specs.declared.record.Header.{Header}
 use Rattle.etcd_types.specs.declared.record.Kv.{Kv}
 use Rattle.etcd_types.specs.Keys.{is_empty, same}
 use Rattle.etcd_types.specs.Ranges.{contains}
-use Rattle.etcd_types.proofs.Bools.{and_first, and_second, false_not, not_true, or_true}
+use Rattle.etcd_types.proofs.Bools.{and_first, and_second, false_not, not_true}
 use Rattle.etcd_types.proofs.KeyOrder.{same-equal}
 use Rattle.proxy_model.specs.declared.lease.Entry.{Entry}
 use Rattle.proxy_model.specs.declared.ownership.Claim.{Claim}
 use Rattle.proxy_model.specs.declared.ownership.Claim.TheVariants.{Acquired, OwnedBy}
 use Rattle.proxy_model.specs.declared.ownership.Owner.{Owner}
 use Rattle.proxy_model.specs.Acquire.{claimed}
-use Rattle.proxy_model.specs.Keyed.{Keyed, at, with_at}
+use Rattle.proxy_model.specs.Keyed.{Keyed, at}
 use Rattle.proxy_model.specs.LeaseTable.{is_writing}
 use Rattle.proxy_model.specs.Prefixes.{leasing_range}
 use Rattle.proxy_model.proofs.KeyedLaws.{at-with_at}
@@ -33,7 +33,7 @@ use Rattle.wait_model.specs.Stages.{is_owner, staged}
 use Rattle.wait_model.specs.State.{Ownership}
 use Rattle.read_model.specs.declared.acquire.Acquire.{Acquire}
 use Rattle.read_model.specs.declared.asked.Asked.{Asked}
-use Rattle.read_model.specs.Acquires.{read_asked, acquires_at, acquire_gone, with_entry, won, found_own, acquired, owned_by, AfterAcquire, done_by, acquire_refused, answered_acquire, acquire_answered, acquire_lost}
+use Rattle.read_model.specs.Acquires.{acquires_at, acquire_gone, with_entry, won, found_own, acquired, owned_by, AfterAcquire, done_by, acquire_refused, answered_acquire, acquire_answered, acquire_lost}
 use Rattle.read_model.specs.Fits.{is_owned}
 use Rattle.read_model.specs.PlainRead.{ask_key, is_ownable, is_restful, is_written, is_free, acquirable, read_turn, decision, begun_under, decided_ground}
 use Rattle.read_model.specs.Release.{ask_stands, released_ground, released_from, released}
@@ -52,8 +52,8 @@ use Rattle.owner_fits.specs.Acquires.{AcquiresFit}
 use Rattle.owner_fits.specs.Entries.{is_unleased, EntriesFit}
 use Rattle.owner_fits.specs.Names.{stage_named, NamesFit}
 use Rattle.owner_fits.proofs.Answering.{GoesIf, AnswersName, answered_goes, lost_goes}
-use Rattle.owner_fits.proofs.Claims.{ClaimFits, one_claim, left_claims, gone_claim, dropped_claims}
-use Rattle.owner_fits.proofs.Going.{Lasts, EntryGoes, EntriesGo, at_one, Holds, WritesGo}
+use Rattle.owner_fits.proofs.Claims.{one_claim, left_claims, gone_claim, dropped_claims}
+use Rattle.owner_fits.proofs.Going.{implies, implied, Lasts, EntryGoes, at_one, Holds}
 use Rattle.owner_fits.proofs.Owning.{OwnGoes, goes_nowhere, goes_further, session_end_goes, forgotten_goes}
 use Rattle.owner_fits.proofs.Passing.{unowned}
 
@@ -61,16 +61,6 @@ pub record GroundFit (named : Bool) (session : Option ℕ) (out : List OutCall) 
   pub acquires : AcquiresFit g.own.waits.prefix session g.acquires out
   pub entries : EntriesFit g.own.waits.prefix g.own.entries g.own.waits.writes
   pub names : named ≡ true → NamesFit g.own.entries g.own.waits.writes
-
--- A test under a condition.
-
-pub implies : (a b : Bool) → (a ≡ true → b ≡ true) → not a || b ≡ true
-implies true b f = f refl
-implies false b f = refl
-
-pub implied : (a b : Bool) → not a || b ≡ true → a ≡ true → b ≡ true
-implied true b h t = h
-implied false b h t = absurd (cc)
 
 -- What most steps do to what is owned.
 
@@ -146,13 +136,13 @@ begun_fits named session out ticket k (Some n) g f h =
     let a : Acquire = record { ticket = ticket; session = n; sending = sending.Due g.own.waits.step } in
     record {
       acquires =
-        one_claim g.own.waits.prefix session k (Some a) g.acquires out out
-        (record {
-          acquired = λ b e. x.1;
-          under = λ b e d. x.2 ∙ ap (λ (o : Option Acquire). number_of o) e;
-          awaits = λ call e. absurd (let z = h.acquires.awaits call k e in let y = sym x.0 ∙ z.stands in cc);
-        })
-        (λ call j t e. e) h.acquires;
+          one_claim g.own.waits.prefix session k (Some a) g.acquires out out
+          (record {
+            acquired = λ b e. x.1;
+            under = λ b e d. x.2 ∙ ap (λ (o : Option Acquire). number_of o) e;
+            awaits = λ call e. absurd (let z = h.acquires.awaits call k e in let y = sym x.0 ∙ z.stands in cc);
+          })
+          (λ call j t e. e) h.acquires;
       entries = h.entries;
       names = h.names;
     }

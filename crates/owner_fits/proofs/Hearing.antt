@@ -1,5 +1,5 @@
 -- What an answer names it names still once the clock work of its step is done: that sends no write, and changes the request of none.
-use Rattle.std.proofs.Common.{◌≡◌, ℕ, Bool, true, false, not, cond, ◌&&◌, ◌||◌, List, [], ◌∷◌, map, filter, Option, None, Some, refl, sym, ◌∙◌, ap, subst}
+use Rattle.std.proofs.Common.{◌≡◌, ℕ, Bool, true, false, not, cond, ◌&&◌, ◌||◌, List, [], ◌∷◌, map, Option, None, Some, refl, sym, ◌∙◌, ap, subst}
 use Rattle.std.specs.List.{list_any, list_all}
 use Rattle.etcd_types.specs.declared.answer.Answer.{Answer}
 use Rattle.etcd_types.specs.declared.answer.Answer.TheVariants as answer
@@ -7,21 +7,20 @@ use Rattle.etcd_types.proofs.Bools.{and_first, and_second, and_both, or_first, o
 use Rattle.wait_model.specs.declared.write.Write.{Write}
 use Rattle.wait_model.specs.Covers.{is_single}
 use Rattle.wait_model.specs.Endings.{forgotten_by, forgotten}
-use Rattle.wait_model.specs.SessionEnd.{stage_ended, write_ended}
-use Rattle.wait_model.specs.Stages.{staged}
+use Rattle.wait_model.specs.SessionEnd.{write_ended}
 use Rattle.wait_model.specs.State.{Ownership}
-use Rattle.wait_model.specs.Writes.{first_by, stage_sends, sends, has_ticket}
+use Rattle.wait_model.specs.Writes.{first_by, sends, has_ticket}
 use Rattle.wait_laws.proofs.FoundWrite.{head_found, rest_found}
 use Rattle.wait_laws.proofs.Kept.{first_passes}
 use Rattle.read_model.specs.declared.asked.Asked.{Asked}
-use Rattle.read_model.specs.SessionEnd.{dropped, over, session_over, is_due_acquire}
+use Rattle.read_model.specs.SessionEnd.{dropped, over, session_over}
 use Rattle.read_model.specs.State.{Reads, Moment, ground_of, on}
 use Rattle.read_model.specs.TakingOff.{is_writes, forgotten_all, falls, taken_off}
 use Rattle.read_laws.proofs.InPlace.{plain_in_place}
 use Rattle.core_model.specs.declared.event.CoreEvent.{CoreEvent}
 use Rattle.core_model.specs.declared.event.CoreEvent.TheVariants as event
 use Rattle.core_model.specs.ClockWork.{begun, times_out, timed_out_ask, requests_timed_out, clock_work}
-use Rattle.core_model.specs.Fits.{at_most_one, Agrees}
+use Rattle.core_model.specs.Fits.{Agrees}
 use Rattle.core_model.specs.Heard.{heard}
 use Rattle.core_model.specs.Lookups.{moment, reads_of}
 use Rattle.core_model.specs.Sessions.{without_session, seat_is_over, deadline_passed}
@@ -34,8 +33,7 @@ use Rattle.core_laws.proofs.Comes.{by_test, stage_ended_calms}
 use Rattle.core_laws.proofs.Lists.{all_mapped, one, one_is}
 use Rattle.core_laws.proofs.Prefixes.{session_over_same, taken_off_same}
 use Rattle.owner_fits.specs.Names.{answer_named, AnswerNames, events_named, NamesOwners}
-use Rattle.owner_fits.proofs.Going.{all_but}
-use Rattle.owner_fits.proofs.Grounds.{implies, implied}
+use Rattle.owner_fits.proofs.Going.{implies, implied, all_but}
 use Rattle.owner_fits.proofs.Passing.{Rests, passes_rest}
 
 -- A test of the first that passes another is one of all.

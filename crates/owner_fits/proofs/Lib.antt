@@ -8,5 +8,7 @@ pub mod Dues
 pub mod Sending
 pub mod Ending
 pub mod Hearing
+pub mod AskSteps
+pub mod ItemSteps
 pub mod Steps
 pub mod Runs

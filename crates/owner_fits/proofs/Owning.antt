@@ -1,59 +1,39 @@
 -- What most steps do to what a proxy owns and to its writes: notices, calls that end, requests that are forgotten, and a session's end.
-use Rattle.std.proofs.Common.{◌≡◌, ℕ, Bool, true, false, not, cond, nat_lt, ◌&&◌, ◌||◌, ◌==◌, List, [], ◌∷◌, map, filter, Option, None, Some, is_some, refl, sym, ◌∙◌, ap, subst}
+use Rattle.std.proofs.Common.{◌≡◌, ℕ, Bool, true, false, not, nat_lt, ◌||◌, ◌==◌, List, [], ◌∷◌, map, Option, None, Some, is_some, refl, sym, ◌∙◌, ap}
 use Rattle.std.specs.List.{list_all}
-use Rattle.std.specs.Option.{option_map}
-use Rattle.std.specs.Ordering.{nat_cmp}
-use Rattle.std.specs.Cmp.Lexicographic.{slice_cmp}
-use Rattle.std.specs.FinMap.{put}
-use Rattle.std.specs.FinMap.Entries.{by_order}
-use Rattle.std.specs.declared.cmp.Ordering.{Ordering}
-use Rattle.std.specs.declared.cmp.Ordering.TheVariants.{Less, Equal, Greater}
-use Rattle.etcd_types.specs.declared.answer.Answer.{Answer}
-use Rattle.etcd_types.specs.declared.answer.Answer.TheVariants as answer
 use Rattle.etcd_types.specs.declared.watch.Change.{Change}
 use Rattle.etcd_types.specs.declared.watch.Change.TheVariants as change
 use Rattle.etcd_types.specs.declared.watch.Event.{Event}
 use Rattle.etcd_types.specs.Keys.{is_empty, same}
-use Rattle.etcd_types.proofs.Bools.{and_first, and_second, and_both, or_false, not_true}
+use Rattle.etcd_types.proofs.Bools.{and_first, and_second, not_true}
 use Rattle.proxy_model.specs.declared.lease.Entry.{Entry}
 use Rattle.proxy_model.specs.declared.lease.Phase.{Phase}
 use Rattle.proxy_model.specs.declared.lease.Phase.TheVariants.{Held, Writing, Leaving}
-use Rattle.proxy_model.specs.declared.ownership.Owner.{Owner}
-use Rattle.proxy_model.specs.declared.ownership.Written.{Written}
-use Rattle.proxy_model.specs.declared.ownership.Written.TheVariants.{Wrote, Blocked}
 use Rattle.proxy_model.specs.Foreign.{revoke_word}
-use Rattle.proxy_model.specs.Guarded.{written}
-use Rattle.proxy_model.specs.Keyed.{Keyed, at, with_at, changed_at}
-use Rattle.proxy_model.specs.Leaving.{guard_held}
-use Rattle.proxy_model.specs.LeaseTable.{is_writing_phase, given_up, marked, unwritten}
+use Rattle.proxy_model.specs.Keyed.{Keyed, at, with_at}
+use Rattle.proxy_model.specs.LeaseTable.{is_writing_phase, given_up, marked}
 use Rattle.wait_model.specs.declared.found.Asking.TheVariants as asking
 use Rattle.wait_model.specs.declared.found.Found.{Found}
-use Rattle.wait_model.specs.declared.sending.Sending.{Sending}
 use Rattle.wait_model.specs.declared.sending.Sending.TheVariants as sending
-use Rattle.wait_model.specs.declared.wait.WaitJob.{WaitJob}
-use Rattle.wait_model.specs.declared.wait.WaitJob.TheVariants as job
 use Rattle.wait_model.specs.declared.write.Write.{Write}
 use Rattle.wait_model.specs.declared.write.WriteStage.{WriteStage}
 use Rattle.wait_model.specs.declared.write.WriteStage.TheVariants.{Waiting, Sends, Finds}
 use Rattle.wait_model.specs.Asked.{acquire_spoiled}
 use Rattle.wait_model.specs.Covers.{is_single}
-use Rattle.wait_model.specs.Edits.{each, without}
-use Rattle.wait_model.specs.Endings.{revoke_back, revoke_answered, answered_job, without_out, answered, lost_job, lost, given_back, forgotten_by, forgotten}
-use Rattle.wait_model.specs.ForeignOwnership.{by_key, is_own, owned_left, found_of, others, finding, asked_back, stage_asked, gone_if, stage_gone, found_gone}
-use Rattle.wait_model.specs.GuardedAnswers.{Ending, ended_by, staged_by, owns, owns_at, change_owned, wrote_entries, unwrote_entries, left_entries, is_kept, is_gone, kept_entries, other_owners, failed, done_if, write_answered, write_lost}
+use Rattle.wait_model.specs.Endings.{given_back, forgotten_by, forgotten}
+use Rattle.wait_model.specs.ForeignOwnership.{asked_back, stage_asked, gone_if, stage_gone, found_gone}
+use Rattle.wait_model.specs.GuardedAnswers.{ended_by, owns, change_owned, unwrote_entries, left_entries}
 use Rattle.wait_model.specs.LeasingStream.{resynced, all_given_up}
-use Rattle.wait_model.specs.Leaving.{rescinded, if_read, rescind_answered}
-use Rattle.wait_model.specs.Notices.{owned_key, revoked_turn, put_noticed, deleted_phase, deleted_turn, delete_noticed, noticed, all_noticed}
-use Rattle.wait_model.specs.Phases.{own_entry, rescind_sent, is_of, is_session, if_written}
+use Rattle.wait_model.specs.Notices.{owned_key, revoked_turn, put_noticed, deleted_phase, deleted_turn, noticed, all_noticed}
+use Rattle.wait_model.specs.Phases.{own_entry, is_session, if_written}
 use Rattle.wait_model.specs.SessionEnd.{due_again, stage_ended, session_ended}
-use Rattle.wait_model.specs.Stages.{is_due, is_owner, staged}
+use Rattle.wait_model.specs.Stages.{is_due}
 use Rattle.wait_model.specs.State.{Ownership}
-use Rattle.wait_model.specs.Writes.{first_by, with_first, without_first, sends, asks, has_ticket, job_of, is_asked_as}
-use Rattle.core_laws.proofs.Comes.{by_test, owner_gone, owner_ended, owner_asked}
-use Rattle.core_laws.proofs.Lists.{all_mapped, all_filtered}
-use Rattle.core_laws.proofs.Prefixes.{Same, all_noticed_same}
-use Rattle.owner_fits.specs.Names.{is_named, found_named, stage_named, owner_named, written_named, answer_named, change_named, events_named}
-use Rattle.owner_fits.proofs.Going.{Eases, Lasts, EntryGoes, EntriesGo, entries_stay, entries_on, at_one, at_each, at_most, at_none, writing_eases, eases_itself, eases_if, written_eases, given_up_eases, unsent_eases, Calmer, Holds, WritesGo, writes_stay, each_staged, first_staged, first_gone}
+use Rattle.wait_model.specs.Writes.{first_by, has_ticket, is_asked_as}
+use Rattle.core_laws.proofs.Comes.{by_test, owner_gone, owner_ended}
+use Rattle.core_laws.proofs.Lists.{all_mapped}
+use Rattle.owner_fits.specs.Names.{found_named, stage_named, change_named, events_named}
+use Rattle.owner_fits.proofs.Going.{EntryGoes, EntriesGo, entries_stay, at_one, at_each, at_none, writing_eases, written_eases, given_up_eases, WritesGo, writes_stay, each_staged, first_gone}
 
 -- of a whole ownership
 pub record OwnGoes (named : Bool) (own next : Ownership) : Type 0 where

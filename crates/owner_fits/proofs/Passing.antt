@@ -1,30 +1,29 @@
 -- What a pass over the waiting writes keeps: of a key that it begins to write, no owner's write puts it with a lease, since what is put
 -- so was let go before.
-use Rattle.std.proofs.Common.{◌≡◌, ℕ, Bool, true, false, not, cond, ◌&&◌, ◌||◌, List, [], ◌∷◌, Option, None, Some, is_some, refl, sym, ◌∙◌, ap, subst}
+use Rattle.std.proofs.Common.{◌≡◌, ℕ, Bool, true, false, not, cond, ◌&&◌, ◌||◌, List, [], ◌∷◌, Option, None, Some, is_some, refl, sym, ◌∙◌, ap}
 use Rattle.std.specs.List.{list_any, list_all}
 use Rattle.std.specs.Option.{option_map}
-use Rattle.etcd_types.proofs.Bools.{and_first, and_second, and_both, and_false, or_left, true_or_false}
+use Rattle.etcd_types.proofs.Bools.{and_first, and_second, and_both, and_false, or_left}
 use Rattle.proxy_model.specs.declared.lease.Entry.{Entry}
 use Rattle.proxy_model.specs.declared.lease.Phase.{Phase}
 use Rattle.proxy_model.specs.declared.lease.Phase.TheVariants.{Held, Writing, Leaving}
 use Rattle.proxy_model.specs.Keyed.{Keyed, at}
 use Rattle.proxy_model.specs.LeaseTable.{is_writing, is_writing_phase}
-use Rattle.wait_model.specs.declared.sending.Sending.TheVariants as sending
 use Rattle.wait_model.specs.declared.write.Write.{Write}
 use Rattle.wait_model.specs.declared.write.WriteStage.{WriteStage}
-use Rattle.wait_model.specs.declared.write.WriteStage.TheVariants.{Waiting, Sends, Finds}
+use Rattle.wait_model.specs.declared.write.WriteStage.TheVariants.{Waiting}
 use Rattle.wait_model.specs.Covers.{covers, shares, is_by_keys, leased}
 use Rattle.wait_model.specs.Edits.{each}
 use Rattle.wait_model.specs.Fits.{is_quiet, StageOk, KeyOk, Fits}
-use Rattle.wait_model.specs.Passes.{goes, turn, Pass, passed, proceeded}
-use Rattle.wait_model.specs.Phases.{is_leaving, is_leaving_phase, let_go, begun}
-use Rattle.wait_model.specs.SeveralKeys.{given_up_over, spoiled_over, any_covered, ranges_begun, by_ranges}
+use Rattle.wait_model.specs.Passes.{goes, turn, passed, proceeded}
+use Rattle.wait_model.specs.Phases.{is_leaving, let_go}
+use Rattle.wait_model.specs.SeveralKeys.{given_up_over, spoiled_over, any_covered, by_ranges}
 use Rattle.wait_model.specs.SingleKeys.{Turn, let_go_leased, begun_over, any_key, keys_begun, by_keys}
 use Rattle.wait_model.specs.Stages.{staged, gone_on, is_waiting, is_owner, is_found_over, stage_on}
 use Rattle.wait_model.specs.State.{Ownership}
 use Rattle.wait_model.proofs.Covering.{none_key}
 use Rattle.wait_model.proofs.Tables.{at-each}
-use Rattle.wait_laws.proofs.Passes.{any_over, key_first, key_later, moved_key, same_cover, Left, quiet_first, quiet_later, covered_pass}
+use Rattle.wait_laws.proofs.Passes.{any_over, key_first, key_later, moved_key, same_cover, quiet_first, quiet_later, covered_pass}
 use Rattle.wait_laws.proofs.Phases.{some-mapped, some-writing, waiting_owns_nothing}
 use Rattle.wait_laws.proofs.Turns.{is_free, turn_ok, owner-stage_on}
 use Rattle.core_laws.proofs.Comes.{by_test}

@@ -1,9 +1,6 @@
 -- A proxy at its start has the facts, each step keeps them, and so they hold after each step of a run; and what is read off them.
-use Rattle.std.proofs.Common.{◌≡◌, ℕ, Bool, true, false, not, cond, ◌&&◌, List, [], ◌∷◌, Option, None, Some, refl, sym, ◌∙◌, ap, subst}
-use Rattle.std.specs.List.{list_all}
+use Rattle.std.proofs.Common.{◌≡◌, ℕ, true, false, not, cond, ◌&&◌, List, [], ◌∷◌, Some, refl, sym, ◌∙◌, ap, subst}
 use Rattle.etcd_types.proofs.Bools.{not_true}
-use Rattle.proxy_model.specs.Keyed.{at}
-use Rattle.proxy_model.specs.LeaseTable.{is_writing}
 use Rattle.wait_model.specs.declared.write.Write.{Write}
 use Rattle.wait_model.specs.Covers.{covers, leased}
 use Rattle.wait_model.specs.Fits.{stage_over}
@@ -11,10 +8,8 @@ use Rattle.wait_model.specs.Stages.{is_owner}
 use Rattle.wait_model.specs.Writes.{first_by}
 use Rattle.wait_laws.proofs.FoundWrite.{head_found, rest_found}
 use Rattle.wait_laws.proofs.Kept.{first_passes}
-use Rattle.core_model.specs.DueJobs.{DueJob}
 use Rattle.core_model.specs.Fits.{CoreOk}
 use Rattle.core_model.specs.State.{Core, first_core}
-use Rattle.core_model.specs.Step.{stepped}
 use Rattle.core_laws.specs.Kept.{Timed, after, ran, AllHeard}
 use Rattle.core_laws.proofs.Start.{start_fits}
 use Rattle.core_laws.proofs.Stepping.{steps_keep}

@@ -1,6 +1,5 @@
 -- The first due job of entries and writes is sent.
-use Rattle.std.proofs.Common.{◌≡◌, ℕ, Bool, true, false, cond, ◌&&◌, List, [], ◌∷◌, map, Option, None, Some, refl}
-use Rattle.std.specs.List.{list_all}
+use Rattle.std.proofs.Common.{◌≡◌, ℕ, Bool, true, ◌&&◌, List, Option, None, Some, refl, sym, ◌∙◌}
 use Rattle.std.specs.Option.{option_map}
 use Rattle.etcd_types.specs.Keys.{same}
 use Rattle.proxy_model.specs.declared.lease.Entry.{Entry}
@@ -28,7 +27,7 @@ revoking_calmer named call k w s o n = record { owner = λ t. owner s o t; found
   where
     owner : (s : WriteStage) → is_owner s ≡ is_owner w.stage → is_owner (stage_revoking call k s) ≡ true → is_owner w.stage ≡ true
     owner Waiting o t = absurd (cc)
-    owner (Sends b s) o t = cc
+    owner (Sends b s) o t = sym o ∙ t
     owner (Finds found) o t = absurd (cc)
 
     same_names : (f : Found) → found_named (found_sent call k f) ≡ found_named f
@@ -37,23 +36,20 @@ revoking_calmer named call k w s o n = record { owner = λ t. owner s o t; found
     found : (s : WriteStage) → stage_named s ≡ stage_named w.stage → stage_named w.stage ≡ true → stage_named (stage_revoking call k s) ≡ true
     found Waiting n h = refl
     found (Sends b s) n h = refl
-    found (Finds fs) n h = all_mapped found_named found_named (found_sent call k) (λ f t. cc_named f t) fs (cc)
-      where
-        cc_named : (f : Found) → found_named f ≡ true → found_named (found_sent call k f) ≡ true
-        cc_named f t = let e = same_names f in cc
+    found (Finds fs) n h = all_mapped found_named found_named (found_sent call k) (λ f t. same_names f ∙ t) fs (n ∙ h)
 
 sent_calmer : (named : Bool) (call : ℕ) (w : Write) (s : WriteStage) → is_owner s ≡ is_owner w.stage → stage_named s ≡ stage_named w.stage → Calmer named w (stage_sent call s)
 sent_calmer named call w s o n = record { owner = λ t. owner s o t; found = λ b h. found s n h }
   where
     owner : (s : WriteStage) → is_owner s ≡ is_owner w.stage → is_owner (stage_sent call s) ≡ true → is_owner w.stage ≡ true
     owner Waiting o t = absurd (cc)
-    owner (Sends b s) o t = cc
+    owner (Sends b s) o t = sym o ∙ t
     owner (Finds found) o t = absurd (cc)
 
     found : (s : WriteStage) → stage_named s ≡ stage_named w.stage → stage_named w.stage ≡ true → stage_named (stage_sent call s) ≡ true
     found Waiting n h = refl
     found (Sends b s) n h = refl
-    found (Finds fs) n h = cc
+    found (Finds fs) n h = n ∙ h
 
 abbrev pub SentGoes : Bool → Ownership → Option JobSent → Type 0
 SentGoes named own None = Unit {0}

@@ -1,42 +1,21 @@
 -- Every step keeps the facts of a whole proxy.
-use Rattle.std.proofs.Common.{◌≡◌, ℕ, ◌+◌, ◌==◌, Bool, true, false, cond, List, [], ◌∷◌, ◌++◌, Option, None, Some, is_some, Result, Ok, Err, refl, sym, ◌∙◌, ap, subst}
-use Rattle.std.specs.List.{list_all}
+use Rattle.std.proofs.Common.{◌≡◌, ℕ, Bool, true, false, [], ◌∷◌, ◌++◌, Option, None, Some, Result, Ok, Err, refl, sym, ◌∙◌, ap, subst}
 use Rattle.etcd_types.specs.declared.answer.Answer.{Answer}
-use Rattle.etcd_types.specs.declared.answer.Body.{Body}
-use Rattle.etcd_types.specs.declared.answer.Refusal.{Refusal}
-use Rattle.etcd_types.specs.declared.record.Header.{Header}
-use Rattle.etcd_types.specs.declared.request.Request.{Request}
-use Rattle.etcd_types.specs.declared.request.Request.TheVariants as request
-use Rattle.etcd_types.specs.declared.watch.Event.{Event}
 use Rattle.etcd_types.specs.declared.watch.WatchItem.{WatchItem}
-use Rattle.etcd_types.specs.declared.watch.WatchItem.TheVariants as item
-use Rattle.etcd_types.proofs.Bools.{or_first}
 use Rattle.proxy_model.specs.declared.session.Standing.{Standing}
-use Rattle.proxy_model.specs.Keyed.{at}
 use Rattle.proxy_model.specs.Session.{Session}
-use Rattle.proxy_model.specs.Unwrapped.{Unwrapped, item_without}
-use Rattle.proxy_model.specs.Upstream.{created, advance, opened}
-use Rattle.wait_model.specs.Asked.{new_write, submitted}
-use Rattle.wait_model.specs.Fits.{Fits}
-use Rattle.wait_model.specs.LeasingStream.{resynced, all_given_up}
-use Rattle.wait_model.specs.Notices.{all_noticed}
 use Rattle.wait_model.specs.Sent.{JobSent, job_sent}
-use Rattle.wait_model.specs.State.{Ownership}
-use Rattle.wait_laws.proofs.Steps as waits
 use Rattle.watch_model.specs.declared.stream.StreamJob.{StreamJob}
 use Rattle.watch_model.specs.declared.stream.StreamJob.TheVariants as stream
 use Rattle.watch_model.specs.Due.{next_job}
-use Rattle.watch_model.specs.Lookups.{stream_at, watch_at, is_begun}
-use Rattle.watch_model.specs.State.{Stream, Watch, Broadcasts}
+use Rattle.watch_model.specs.Lookups.{watch_at}
+use Rattle.watch_model.specs.State.{Watch, Broadcasts}
 use Rattle.watch_model.specs.Takes as watches
-use Rattle.read_model.specs.declared.acquire.Acquire.{Acquire}
 use Rattle.read_model.specs.declared.asked.Asked.{Asked}
 use Rattle.read_model.specs.declared.asked.Stage.{Stage}
 use Rattle.read_model.specs.declared.asked.Stage.TheVariants as stage
-use Rattle.read_model.specs.Acquires.{read_asked}
-use Rattle.read_model.specs.PlainRead.{decided_ask}
 use Rattle.read_model.specs.SessionEnd.{is_due_acquire}
-use Rattle.read_model.specs.State.{Moment, ground_of}
+use Rattle.read_model.specs.State.{ground_of}
 use Rattle.core_model.specs.declared.event.CoreEvent.{CoreEvent}
 use Rattle.core_model.specs.declared.event.CoreEvent.TheVariants as event
 use Rattle.core_model.specs.declared.event.Outcome.{Outcome}
@@ -45,125 +24,37 @@ use Rattle.core_model.specs.declared.event.StepFault.TheVariants as fault
 use Rattle.core_model.specs.declared.out_call.OutCall.{OutCall}
 use Rattle.core_model.specs.declared.out_call.OutJob.{OutJob}
 use Rattle.core_model.specs.declared.out_call.OutJob.TheVariants as job
-use Rattle.core_model.specs.declared.settings.Settings.{Settings}
-use Rattle.core_model.specs.Asking.{asked_at, is_leased_read, read_by, read_is_asked, with_ask, write_is_asked, held_body, if_live, call_stage, call_is_asked, answered_or_called, leased_ask, taken_in, request_asked, refused_or_taken, on_ask}
-use Rattle.core_model.specs.ClockWork.{writes_go_on, clock_work}
+use Rattle.core_model.specs.ClockWork.{clock_work}
 use Rattle.core_model.specs.DueJobs.{DueJob, ForSession, ForWrites, ForAcquire, ForAsk, ForGroup, ToOpen, ForStream, first_job}
 use Rattle.core_model.specs.Ends.{call_gone, answered_call, lost_call, answer_of, on_answer, loss_of, on_lost}
-use Rattle.core_model.specs.Fits.{has_number, job_at, ask_tickets, CoreOk}
-use Rattle.core_model.specs.Heard.{heard, header_taken}
-use Rattle.core_model.specs.Kinds.{writes_keys}
-use Rattle.core_model.specs.LeasingStream.{leasing_ticked, leasing_cut, due_anew, stream_is, own_created, leasing_created, leasing_cancelled, told_revision, is_readable, leasing_told, leasing_message, message_if_sent, item_header, leasing_item}
-use Rattle.core_model.specs.LeasingStream as leasing
-use Rattle.core_model.specs.Lookups.{leases, live_number, reads_of, with_reads, has_ticket, without_ask, ask_at, is_known, out_at, moment}
-use Rattle.core_model.specs.Refusals.{refusal_of}
+use Rattle.core_model.specs.Fits.{job_at, CoreOk}
+use Rattle.core_model.specs.Heard.{heard}
+use Rattle.core_model.specs.LeasingStream.{leasing_ticked}
+use Rattle.core_model.specs.Lookups.{leases, reads_of, has_ticket, without_ask, ask_at, out_at, moment}
 use Rattle.core_model.specs.Sending.{next_call, out_call, session_out, seat_sent, writes_sent, sent_by, on_work}
 use Rattle.core_model.specs.Sessions.{seat_ticked}
-use Rattle.core_model.specs.State.{Seat, Opening, Core, first_core}
-use Rattle.core_model.specs.Step.{ticked, on_tick, opening_at, client_item, item_of, on_item, client_cut, cut_of, on_cut, happened, is_worn, stepped}
+use Rattle.core_model.specs.State.{Seat, Opening, Core}
+use Rattle.core_model.specs.Step.{ticked, on_tick, opening_at, on_item, on_cut, happened, is_worn, stepped}
 use Rattle.core_model.specs.Stepped.{Stepped, faults, counted, counted_by}
 use Rattle.core_model.specs.Takes.{item_taken, taken, on_take, has_left, watcher_left, left, on_leave}
 use Rattle.core_model.specs.Takes as takes
-use Rattle.core_model.specs.Watching.{stream_message, stream_item, taken_item, stream_job, with_watches}
-use Rattle.core_model.specs.Watching as watching
-use Rattle.core_laws.specs.Kept.{HeardBytes, IsHeard, Timed, after, ran, AllHeard}
-use Rattle.core_laws.proofs.Asks.{unknown, call_mid, write_mid, read_mid}
+use Rattle.core_model.specs.Watching.{taken_item, stream_job, with_watches}
+use Rattle.core_laws.specs.Kept.{HeardBytes, IsHeard}
 use Rattle.core_laws.proofs.Calls.{IsFound, found_is}
 use Rattle.core_laws.proofs.Comes.{by_test}
 use Rattle.core_laws.proofs.Due.{DueIf, first_due}
-use Rattle.core_laws.proofs.Lists.{all_pushed}
 use Rattle.core_laws.proofs.Middle.{left_mid, clock_whole, lost_mid, answered_mid}
 use Rattle.core_laws.proofs.Whole.{Mid, Whole, of_ok}
 use Rattle.owner_fits.specs.Acquires.{number_by, standing_number, AcquiresFit}
-use Rattle.owner_fits.specs.Entries.{is_unleased}
-use Rattle.owner_fits.specs.Names.{stage_named, AnswerNames, events_named, ItemNames, NamesOwners}
+use Rattle.owner_fits.specs.Names.{AnswerNames, NamesOwners}
 use Rattle.owner_fits.proofs.Claims.{is_acquire, pushed_claims, sent_claim}
 use Rattle.owner_fits.proofs.Dues.{StandsIf, first_stands}
-use Rattle.owner_fits.proofs.Ending.{CoreFit, passed_fits, live_stands, clock_fits, lost_fits, HeardName, answered_fits}
-use Rattle.owner_fits.proofs.Grounds.{GroundFit, own_fits, decided_fits, off_fits}
+use Rattle.owner_fits.proofs.Ending.{CoreFit, passed_fits, clock_fits, lost_fits, HeardName, answered_fits}
+use Rattle.owner_fits.proofs.Grounds.{GroundFit, own_fits, off_fits}
 use Rattle.owner_fits.proofs.Hearing.{still_named, still_heard}
-use Rattle.owner_fits.proofs.Owning.{OwnGoes, message_goes, resync_goes, given_up_goes}
 use Rattle.owner_fits.proofs.Sending.{SentGoes, sent_goes}
-
--- what stands after a step of its event
-abbrev After : Bool → Stepped → Type 0
-After named s = CoreFit named s.core
-
-keys_of : (c : Core) → Mid 0 c → Fits c.own
-keys_of c h = h.reads.ground.keys
-
--- Ask.
-
-call_after : (named : Bool) (a : Asked) (c : Core) → has_number (ask_tickets c.asks) a.ticket ≡ false → Whole 0 c → CoreFit named c → After named (call_is_asked a c)
-call_after named a c n w h = passed_fits named (with_ask (call_stage a.request c) a c) (keys_of (with_ask (call_stage a.request c) a c) (call_mid 0 c a n w.mid)) h
-
-read_after : (named : Bool) (now : ℕ) (a : Asked) (c : Core) → has_number (ask_tickets c.asks) a.ticket ≡ false → Whole 0 c → CoreFit named c → After named (read_is_asked (moment c now) a c)
-read_after named now a c n w h = by_stage (decided_ask (moment c now) (ground_of (reads_of c)) a).stage
-  where
-    d : Core
-    d = with_reads c (read_asked (moment c now) a (reads_of c))
-
-    waits : CoreFit named (writes_go_on (with_reads c (read_asked (moment c now) a (reads_of c))))
-    waits = passed_fits named d (keys_of d (read_mid 0 (moment c now) c a n w.mid)) (decided_fits named (standing_number c.seat) c.out (moment c now) (ground_of (reads_of c)) a (live_stands c.seat now) h)
-
-    by_stage : (s : Stage) → After named (read_by s c (with_reads c (read_asked (moment c now) a (reads_of c))))
-    by_stage (stage.Calling s) = waits
-    by_stage stage.Acquiring = waits
-    by_stage stage.Joined = waits
-    by_stage stage.Behind = waits
-    by_stage stage.Writes = waits
-    by_stage (stage.Grouped s) = waits
-    by_stage (stage.Replied v) = h
-
-write_after : (named : Bool) (a : Asked) (c : Core) → has_number (ask_tickets c.asks) a.ticket ≡ false → writes_keys a.request ≡ true → Whole 0 c → CoreFit named c → After named (write_is_asked a c)
-write_after named a c n v w h =
-    let d = with_ask stage.Writes a (record c { own = submitted a.ticket a.request c.own }) in
-    let x = new_write a.ticket a.request in
-    passed_fits named d (keys_of d (write_mid 0 c a n v w.mid)) (record {
-      acquires = h.acquires;
-      entries = record { owned = h.entries.owned; unleased = λ k t. all_pushed (is_unleased k) x c.own.waits.writes (h.entries.unleased k t) refl };
-      names = λ b. record { keys = (h.names b).keys; found = all_pushed (λ y. stage_named y.stage) x c.own.waits.writes (h.names b).found refl };
-    })
-
-answered_after : (named : Bool) (o : Option Body) (a : Asked) (c : Core) → has_number (ask_tickets c.asks) a.ticket ≡ false → Whole 0 c → CoreFit named c → After named (answered_or_called o a c)
-answered_after named None a c n w h = call_after named a c n w h
-answered_after named (Some b) a c n w h = h
-
-taken_after : (named : Bool) (now : ℕ) (a : Asked) (c : Core) → has_number (ask_tickets c.asks) a.ticket ≡ false → Whole 0 c → CoreFit named c → After named (taken_in (moment c now) a c)
-taken_after named now a c n w h =
-    let m = moment c now in
-    let other = answered_or_called (if_live m.session (held_body c.own.entries a.request)) a c in
-    by_test (After named) (leases c) (leased_ask m a c) (call_is_asked a c)
-    (λ t. by_test (After named) (is_leased_read c.own.waits.prefix a.request) (read_is_asked m a c) (cond (writes_keys a.request) (write_is_asked a c) other)
-    (λ u. read_after named now a c n w h)
-    (λ u. by_test (After named) (writes_keys a.request) (write_is_asked a c) other
-    (λ v. write_after named a c n v w h)
-    (λ v. answered_after named (if_live m.session (held_body c.own.entries a.request)) a c n w h)))
-    (λ t. call_after named a c n w h)
-
-request_after : (named : Bool) (q : Request) (now : ℕ) (a : Asked) (c : Core) → has_number (ask_tickets c.asks) a.ticket ≡ false → Whole 0 c → CoreFit named c → After named (request_asked q (moment c now) a c)
-request_after named (request.Watch ask) now a c n w h = h
-request_after named (request.Range ask) now a c n w h = taken_after named now a c n w h
-request_after named (request.Put ask) now a c n w h = taken_after named now a c n w h
-request_after named (request.Delete ask) now a c n w h = taken_after named now a c n w h
-request_after named (request.Txn t) now a c n w h = taken_after named now a c n w h
-request_after named (request.Compact revision physical) now a c n w h = taken_after named now a c n w h
-request_after named (request.Grant ttl lease) now a c n w h = taken_after named now a c n w h
-request_after named (request.Revoke lease) now a c n w h = taken_after named now a c n w h
-request_after named (request.KeepAlive lease) now a c n w h = taken_after named now a c n w h
-request_after named (request.TimeToLive lease keys) now a c n w h = taken_after named now a c n w h
-request_after named request.Leases now a c n w h = taken_after named now a c n w h
-
-ask_after : (named : Bool) (now ticket : ℕ) (q : Request) (word : ℕ) (c : Core) → Whole 0 c → CoreFit named c → After named (on_ask now ticket q word c)
-unfolding on_ask
-ask_after named now ticket q word c w h =
-    by_test (After named) (is_known ticket c) (faults c (fault.TicketUsed ticket)) (refused_or_taken (refusal_of c.own.waits.prefix q) (moment c now) (asked_at now ticket q word) c)
-    (λ t. h)
-    (λ t. by_refusal (refusal_of c.own.waits.prefix q) (unknown ticket c.asks (or_first (is_some (ask_at ticket c.asks)) (is_some (watch_at ticket c.watches.watches)) t)))
-  where
-    by_refusal : (r : Option Refusal) → has_number (ask_tickets c.asks) ticket ≡ false → After named (refused_or_taken r (moment c now) (asked_at now ticket q word) c)
-    by_refusal None n = request_after named q now (asked_at now ticket q word) c n w h
-    by_refusal (Some r) n = h
+use Rattle.owner_fits.proofs.AskSteps.{After, keys_of, ask_after}
+use Rattle.owner_fits.proofs.ItemSteps.{item_after, cut_after}
 
 -- Answer, Lost.
 
@@ -211,95 +102,6 @@ tick_after named now word c h = by_test (CoreFit named) (leases c) (ticked now w
     by_opening : (o : Option Opening) → CoreFit named (leasing_ticked o (record c { seat = Some (seat_ticked word c.settings.ttl c.own.waits.step now c.seat) }))
     by_opening None = seated
     by_opening (Some o) = seated
-
--- Item, Cut.
-
--- before the waiting writes go on
-record Ready (named : Bool) (c : Core) : Type 0 where
-  fit : CoreFit named c
-  keys : Fits c.own
-
-own_ready : (named : Bool) (c : Core) (next : Ownership) → OwnGoes named c.own next → Fits next → CoreFit named c → Ready named (record c { own = next })
-own_ready named c next g f h = record { fit = own_fits named (standing_number c.seat) c.out c.own next c.acquires g h; keys = f }
-
-created_ready : (named : Bool) (o : Opening) (d : Header) (c : Core) → Ready named c → Ready named (leasing_created o d c)
-created_ready named o d c r =
-    by_test (Ready named) o.stream.created c (record (stream_is o (created o.stream d.revision) c) { own = own_created o.stream.next c.own }) (λ t. r)
-    (λ t. by_test (λ (own : Ownership). Ready named (record (stream_is o (created o.stream d.revision) c) { own = own })) (o.stream.next == 0) (resynced c.own) c.own
-    (λ u. own_ready named (stream_is o (created o.stream d.revision) c) (resynced c.own) (resync_goes named c.own) (waits.notices_keep c.own r.keys).resync r.fit)
-    (λ u. record { fit = r.fit; keys = r.keys }))
-
-told_ready : (named : Bool) (now : ℕ) (o : Opening) (d : Header) (es : List Event) (c : Core) → (named ≡ true → events_named c.own.waits.prefix es ≡ true) → Ready named c → Ready named (leasing_told now o d es c)
-told_ready named now o d es c n r =
-    let s = stream_is o (advance o.stream (told_revision d es)) c in
-    let session = live_number c.seat now in
-    by_test (Ready named) (is_readable o.stream es) (record s { own = all_noticed session es c.own }) (leasing_cut o c)
-    (λ t. own_ready named s (all_noticed session es c.own) (message_goes named session es c.own n) ((waits.notices_keep c.own r.keys).message session es) r.fit)
-    (λ t. record { fit = r.fit; keys = r.keys })
-
-cancelled_ready : (named : Bool) (o : Opening) (compaction : ℕ) (c : Core) → Ready named c → Ready named (leasing_cancelled o compaction c)
-cancelled_ready named o compaction c r =
-    let d = record c { own = all_given_up c.own } in
-    let x = own_ready named c (all_given_up c.own) (given_up_goes named c.own) (waits.notices_keep c.own r.keys).compaction r.fit in
-    by_test (Ready named) (compaction == 0) (leasing_cut o c) (due_anew (opened o.stream.range 0) d) (λ t. record { fit = r.fit; keys = r.keys }) (λ t. record { fit = x.fit; keys = x.keys })
-
--- the events of this message are named
-abbrev Told : Bool → WatchItem → Core → Type 0
-Told named x c = named ≡ true → (h : Header) (events : List Event) → item_without c.settings.namespace x ≡ Ok (item.Events h events) → events_named c.own.waits.prefix events ≡ true
-
-leasing_ready : (named : Bool) (now : ℕ) (o : Opening) (x : WatchItem) (c : Core) → (o.due ≡ None → Told named x c) → Ready named c → Ready named (leasing_item now o x c)
-leasing_ready named now o x c n r = by_due o.due refl
-  where
-    d : Core
-    d = header_taken (item_header x) c
-
-    header : Ready named (header_taken (item_header x) c)
-    header = record { fit = r.fit; keys = r.keys }
-
-    by_message : (y : WatchItem) → item_without c.settings.namespace x ≡ Ok y → Told named x c → Ready named (leasing_message now o y (header_taken (item_header x) c))
-    by_message (item.Created h) e t = created_ready named o h d header
-    by_message (item.Events h es) e t = told_ready named now o h es d (λ b. t b h es e) header
-    by_message (item.Canceled h compaction) e t = cancelled_ready named o compaction d header
-
-    by_text : (u : Unwrapped WatchItem) → item_without c.settings.namespace x ≡ u → Told named x c → Ready named (leasing.unwrapped_message now o u (header_taken (item_header x) c))
-    by_text (Ok y) e t = by_message y e t
-    by_text (Err foreign) e t = record { fit = r.fit; keys = r.keys }
-
-    by_due : (s : Option ℕ) → o.due ≡ s → Ready named (message_if_sent now o s x (header_taken (item_header x) c))
-    by_due None e = by_text (item_without c.settings.namespace x) refl (n e)
-    by_due (Some since) e = header
-
-stream_ready : (named : Bool) (s : Stream) (x : WatchItem) (c : Core) → Ready named c → Ready named (stream_item s x c)
-stream_ready named s x c r =
-    by_test (Ready named) (is_begun s.phase) (watching.unwrapped_message s (item_without c.settings.namespace x) (header_taken (item_header x) c)) (header_taken (item_header x) c)
-    (λ t. by_text (item_without c.settings.namespace x)) (λ t. record { fit = r.fit; keys = r.keys })
-  where
-    by_message : (y : WatchItem) → Ready named (stream_message s y (header_taken (item_header x) c))
-    by_message (item.Created d) = record { fit = r.fit; keys = r.keys }
-    by_message (item.Events d es) = record { fit = r.fit; keys = r.keys }
-    by_message (item.Canceled d compaction) = record { fit = r.fit; keys = r.keys }
-
-    by_text : (u : Unwrapped WatchItem) → Ready named (watching.unwrapped_message s u (header_taken (item_header x) c))
-    by_text (Ok y) = by_message y
-    by_text (Err foreign) = record { fit = r.fit; keys = r.keys }
-
-item_after : (named : Bool) (now number : ℕ) (x : WatchItem) (c : Core) → (named ≡ true → ItemNames c number x) → Whole 0 c → CoreFit named c → (o : Option Opening) → opening_at number c.leasing ≡ o → After named (item_of now number x o c)
-item_after named now number x c n w h None e = by_stream (stream_at number c.watches.streams)
-  where
-    by_stream : (s : Option Stream) → After named (client_item number x s c)
-    by_stream None = h
-    by_stream (Some s) = let r = stream_ready named s x c (record { fit = h; keys = keys_of c w.mid }) in passed_fits named (stream_item s x c) r.keys r.fit
-item_after named now number x c n w h (Some o) e =
-    let r = leasing_ready named now o x c (λ d b header es i. n b o header es e d i) (record { fit = h; keys = keys_of c w.mid }) in
-    passed_fits named (leasing_item now o x c) r.keys r.fit
-
-cut_after : (named : Bool) (number : ℕ) (c : Core) → CoreFit named c → (o : Option Opening) → After named (cut_of number o c)
-cut_after named number c h None = by_stream (stream_at number c.watches.streams)
-  where
-    by_stream : (s : Option Stream) → After named (client_cut number s c)
-    by_stream None = h
-    by_stream (Some s) = h
-cut_after named number c h (Some o) = h
 
 -- Take, Leave.
 

@@ -27,3 +27,9 @@ spent hosts homed rests worn worn' turns a b c k r w = record { mid = b; rounds 
 pub worked_at : {P C H : Type 0} (home_of : P → H) (hosts : List (List ℕ)) (rests : CoreEvent → Type 0) (worn : Type 0) (turns : ℕ) (old new : H) (a b : Ledger (Part P C)) (end : WorkEnd) → new ≡ old
     → IsWorked hosts (IsAt home_of new) rests worn turns a b end → IsWorked hosts (IsAt home_of old) rests worn turns a b end
 worked_at home_of hosts rests worn turns old new a b end e w = subst (λ (h : _). IsWorked hosts (IsAt home_of h) rests worn turns a b end) e w
+
+-- a worker that is spent is so where the turn is worn later
+pub spent_later : {P C : Type 0} (hosts : List (List ℕ)) (homed : P → Type 0) (rests : CoreEvent → Type 0) (worn worn' : Type 0) (turns : ℕ) (a b : Ledger (Part P C)) → (worn → worn')
+    → IsSpent hosts homed rests worn turns a b → IsSpent hosts homed rests worn' turns a b
+spent_later hosts homed rests worn worn' turns a b k s =
+    record { mid = s.mid; rounds = rounds_later hosts homed rests worn worn' turns a s.mid k s.rounds; last = worked_late hosts homed rests turns s.mid b how.Worn k s.last }

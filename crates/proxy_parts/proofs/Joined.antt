@@ -25,6 +25,19 @@ pub record Joins (old apart first last new : Known (Opening Core) Step) : Type 0
   pub seen : new.seen ≡ longer old.seen last.seen
   pub made_both : made new ≡ made old ++ made last
 
+-- the same by other names of `old` and `last`
+pub joins_as : (old same apart first last other new : Known (Opening Core) Step) → same ≡ old → apart ≡ record old { own = [] } → made first ≡ made apart → Grows apart last → last.hub ≡ old.hub
+    → other ≡ last → new.hub ≡ same.hub → new.seen ≡ longer same.seen other.seen → made new ≡ made same ++ made other → Joins old apart first last new
+joins_as old same apart first last other new e a b g h o n s m = record {
+  split = a;
+  begun = b;
+  grows = g;
+  hub = h;
+  joined_hub = n ∙ ap (λ (k : Known (Opening Core) Step). k.hub) e;
+  seen = s ∙ (λ i. longer (e i).seen (o i).seen);
+  made_both = m ∙ (λ i. made (e i) ++ made (o i));
+}
+
 module _ (old apart first last new : Known (Opening Core) Step) (j : Joins old apart first last new) where
   -- it has seen what the connection's pass has
   seen_last : new.seen ≡ last.seen

@@ -1,12 +1,12 @@
 -- The steps of a pass at a hub.
-use Rattle.std.proofs.Common.{◌≡◌, ℕ, ◌+◌, ◌<◌, ◌≤◌, ◌^◌, ◌==◌, Bool, true, false, IsTrue, List, [], ◌∷◌, ◌++◌, length, Option, None, Some, Result, Ok, Err, refl, sym, ap, ◌∙◌, append-nil, append_assoc, subst, arith}
+use Rattle.std.proofs.Common.{◌≡◌, ℕ, ◌+◌, ◌<◌, ◌≤◌, ◌^◌, ◌==◌, Bool, true, false, IsTrue, List, [], ◌∷◌, ◌++◌, length, Option, None, Some, Result, Ok, Err, refl, sym, ap, ◌∙◌, append-nil, append_assoc, length-append, subst, arith}
 use Rattle.std.proofs.lemmas.Grind.{common_steps}
 use Rattle.turn_hub.specs.declared.view.Opening.{Opening}
 use Rattle.turn_hub.specs.declared.fault.HubFault.{HubFault}
 use Rattle.turn_hub.specs.declared.fault.HubFault.TheVariants.{Worn, Machine}
 use Rattle.turn_hub.specs.History.{Runs, Begins, entry_of}
 use Rattle.turn_hub.specs.Known.{Known, made, opening_of, base_of}
-use Rattle.turn_hub.specs.Steps.{Makes, Stops, Fails, IsAllowed}
+use Rattle.turn_hub.specs.Steps.{Makes, Stops, Fails, StandsAt}
 use Rattle.turn_hub.specs.Views.{longer}
 use Rattle.core_model.specs.declared.event.CoreEvent.{CoreEvent}
 use Rattle.core_model.specs.declared.event.Outcome.{Outcome}
@@ -15,6 +15,11 @@ use Rattle.core_model.specs.State.{Core}
 use Rattle.serve_model.specs.declared.fault.TurnFault.TheVariants as turn
 use Rattle.serve_model.specs.Steps.{Step, MadeBy, Rested, NoEvent}
 use Rattle.proxy_core.specs.Faults.{CoreSteps}
+use Rattle.outside.specs.Calls.{LinkCall, Handed}
+use Rattle.outside.specs.declared.parts.Part.{Part}
+use Rattle.work_model.specs.Working.{Ledger, ledger}
+use Rattle.part_model.specs.Rounds.{IsSpent}
+use Rattle.part_model.proofs.Rounded.{spent_later}
 use Rattle.proxy_parts.specs.Passes.{is_at_limit, IsSound, Grows}
 
 module _ {M : Type 0} (steps : M → CoreEvent → ℕ → Result Outcome StepFault → M → Type 0) where
@@ -109,9 +114,18 @@ pub limit_stays_failing : (before after : Known (Opening Core) Step) (event : Co
 limit_stays_failing before after event now Worn h s l = full_at_limit before after s
 limit_stays_failing before after event now (Machine fault) h m l = limit_stays before after event now (Err fault) h m l
 
+-- what was seen more leaves it at the limit
+pub limit_grows : (x y : Known (Opening Core) Step) → y.hub ≡ x.hub → Begins x.seen y.seen → StandsAt y → IsTrue (is_at_limit x) → IsTrue (is_at_limit y)
+limit_grows x y h b s l =
+    let at = test_same (length x.seen + base_of x.hub) (2 ^ 62) l in
+    let base = base_same x y h in
+    let room = s.room in
+    let long : length y.seen ≡ length x.seen + length b.0 = ap length b.1 ∙ length-append x.seen b.0 in
+    same_test (length y.seen + base_of y.hub) (2 ^ 62) (omega arith)
+
 -- ---- a pass that was split off, and is joined again
 
-longer_one : (a b : List Step) → Begins a b → longer a b ≡ b
+pub longer_one : (a b : List Step) → Begins a b → longer a b ≡ b
 longer_one a b p = by_length p.0 refl
   where
     by_length : (rest : List Step) → p.0 ≡ rest → longer a b ≡ b
@@ -122,3 +136,25 @@ longer_one a b p = by_length p.0 refl
         longer_itself : (c : List Step) → longer c c ≡ c
         longer_itself c = grind arith
     by_length (x ∷ xs) e = grind (arith, common_steps, p.1, e)
+
+-- ---- a part's pass, from the place that it came with to the one that it leaves
+
+-- `begun` and `begun'` are the pass that was seated, as the seat has it before and after
+pub seat_grows : (old begun begun' first last final : Known (Opening Core) Step) → begun ≡ old → begun' ≡ begun → Grows old first → (Grows begun first → Grows begun' last) → final ≡ last
+    → Grows old final
+seat_grows old begun begun' first last final e f g k o =
+    let at_first : Grows begun first = subst (λ (x : Known (Opening Core) Step). Grows x first) (sym e) g in
+    let at_last : Grows old last = subst (λ (x : Known (Opening Core) Step). Grows x last) (f ∙ e) (k at_first) in
+    subst (λ (x : Known (Opening Core) Step). Grows old x) (sym o) at_last
+
+-- `before` was split off the old pass, and the new one met it
+pub met_grows : (old before before' new : Known (Opening Core) Step) → before ≡ record old { own = [] } → before' ≡ before → IsSound new → Begins before'.seen new.seen → Grows old new
+met_grows old before before' new a e s b = (s, subst (λ (x : Known (Opening Core) Step). Begins x.seen new.seen) (e ∙ a) b)
+
+pub spent_met : {P C : Type 0} (hosts : List (List ℕ)) (homed : P → Type 0) (turns : ℕ) (a : Ledger (Part P C)) (calls : Option (List LinkCall)) (handed : Option (List (Handed (Part P C)))) (links spawns : ℕ)
+    (mid new : Known (Opening Core) Step) → new.hub ≡ mid.hub → Begins mid.seen new.seen → StandsAt new → made new ≡ made mid
+    → IsSpent hosts homed NoEvent (IsTrue (is_at_limit mid)) turns a (ledger (Some (made mid)) calls handed links spawns)
+    → IsSpent hosts homed NoEvent (IsTrue (is_at_limit new)) turns a (ledger (Some (made new)) calls handed links spawns)
+spent_met hosts homed turns a calls handed links spawns mid new h b s m e =
+    subst (λ (xs : List Step). IsSpent hosts homed NoEvent (IsTrue (is_at_limit new)) turns a (ledger (Some xs) calls handed links spawns)) (sym m)
+    (spent_later hosts homed NoEvent (IsTrue (is_at_limit mid)) (IsTrue (is_at_limit new)) turns a (ledger (Some (made mid)) calls handed links spawns) (limit_grows mid new h b s) e)

@@ -41,6 +41,31 @@ pub struct PartDone<S, K> {
 
 /// Works over a place until no further step can be made.
 #[inline(never)]
+fn keep_at_work<R: Wait, L: Link, P: Spawner<Pass = Place>, C: Clock>(
+    rt: &R,
+    alloc: Global,
+    place: Place,
+    link: &mut L,
+    spawner: &mut P,
+    clock: &mut C,
+) -> Place
+where
+    P::Conn: Drop,
+    ensures home { home_of result ≡ home_of place }
+    ensures spent { IsSpent (arc_value place.hosts) (IsAt home_of (home_of place)) NoEvent
+        (IsTrue (is_at_limit result.pass)) TURNS (ledger (Some (made place.pass)) (L.made link.old)
+        (P.handed spawner.old) (L.faults link.old) (P.faults spawner.old))
+        (ledger (Some (made result.pass)) (L.made link.new) (P.handed spawner.new)
+        (L.faults link.new) (P.faults spawner.new)) }
+{
+    let Place { hub, hosts, pass } = place;
+    let mut seating = Seating::new(rt, &hub, &hosts, pass);
+    keep_working(rt, alloc, &mut seating, clock, link, spawner, &hosts);
+    let pass = seating.into_pass();
+    Place { hub, hosts, pass }
+}
+
+/// The same, and the place's pass has then seen all that it had seen before.
 fn run_worker<R: Wait, L: Link, P: Spawner<Pass = Place>, C: Clock>(
     rt: &R,
     alloc: Global,
@@ -59,10 +84,20 @@ where
         (ledger (Some (made result.pass)) (L.made link.new) (P.handed spawner.new)
         (L.faults link.new) (P.faults spawner.new)) }
 {
-    let Place { hub, hosts, pass } = place;
-    let mut seating = Seating::new(rt, &hub, &hosts, pass);
-    keep_working(rt, alloc, &mut seating, clock, link, spawner, &hosts);
-    let pass = seating.into_pass();
+    let Place {
+        hub,
+        hosts,
+        mut pass,
+    } = place;
+    let mut before = hub.split(&mut pass);
+    let placed = Place { hub, hosts, pass };
+    let worked = keep_at_work(rt, alloc, placed, link, spawner, clock);
+    let Place {
+        hub,
+        hosts,
+        mut pass,
+    } = worked;
+    hub.meet(&mut pass, &mut before);
     Place { hub, hosts, pass }
 }
 

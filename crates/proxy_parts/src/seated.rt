@@ -54,18 +54,21 @@ impl<'a, R: Wait> Seated<'a, R> {
     /// A further pass, which has seen what this one has.
     pub(crate) fn split(&mut self) -> Pass<Core>
         ensures apart { result ≡ record self.old.pass { own = [] } }
-        ensures same { self.new ≡ self.old }
+        ensures pass { self.new.pass ≡ self.old.pass }
+        ensures begun { self.new.begun ≡ self.old.begun }
+        ensures hub { self.new.hub.now ≡ self.old.hub.now }
     {
         self.hub.split(&mut self.pass)
     }
 }
 
 impl<'a, R: Wait> Turn for Seated<'a, R> {
-    type Home = Pass<Core>;
+    type Home = (Pass<Core>, Pass<Core>);
 
     ghost use Rattle.std.specs.Prelude.{[]};
 
-    ghost home = { λ s. record s.pass { seen = []; own = [] } };
+    // its hub, and the pass that was seated
+    ghost home = { λ s. (record s.pass { seen = []; own = [] }, s.begun.value) };
 
     ghost made = { λ s. Some (made s.pass) };
 

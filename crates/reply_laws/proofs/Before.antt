@@ -56,14 +56,14 @@ others : (ticket : ℕ) (xs : List Asked) → has_number (ask_tickets xs) ticket
 others ticket [] h = tt
 others ticket (x ∷ xs) h = (number_turned x.ticket ticket (or_first (x.ticket == ticket) (has_number (ask_tickets xs) ticket) h), others ticket xs (or_second (x.ticket == ticket) (has_number (ask_tickets xs) ticket) h))
 
-abbrev Found : List Asked → Asked → Type 0
+abbrev pub Found : List Asked → Asked → Type 0
 Found all y = ask_at y.ticket all ≡ Some y
 
 found_behind : (x : Asked) (all xs : List Asked) → All (λ y. (x.ticket == y.ticket) ≡ false) xs → All (Found all) xs → All (Found (x ∷ all)) xs
 found_behind x all [] n t = tt
 found_behind x all (y ∷ ys) n t = (ap (λ b. cond b (Some x) (ask_at y.ticket all)) n.0 ∙ t.0, found_behind x all ys n.1 t.1)
 
-found_all : (xs : List Asked) → once (ask_tickets xs) ≡ true → All (Found xs) xs
+pub found_all : (xs : List Asked) → once (ask_tickets xs) ≡ true → All (Found xs) xs
 found_all [] h = tt
 found_all (x ∷ xs) h =
     let n = not_true (has_number (ask_tickets xs) x.ticket) (and_first (not (has_number (ask_tickets xs) x.ticket)) (once (ask_tickets xs)) h) in

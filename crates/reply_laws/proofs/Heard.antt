@@ -58,8 +58,9 @@ use Rattle.core_laws.proofs.Lists.{same_number}
 use Rattle.core_laws.proofs.WaitEnds.{IsRemoved, EndsAs, EndedIf, answered_ends, found_ticket}
 use Rattle.keep_laws.proofs.Rows.{All, all_mapped, all_kept, Settles, all_write}
 use Rattle.reply_laws.specs.Sources as sources
-use Rattle.reply_laws.specs.Sources.{waits_for_key, Hears, hearing, claimed_record, Wins, Decides, shows, IsHeld, Source}
-use Rattle.reply_laws.proofs.Before.{Since, since_stood, stood_on}
+use Rattle.core_fits.specs.Fits.{is_reading}
+use Rattle.reply_laws.specs.Sources.{Hears, hearing, claimed_record, Wins, Decides, shows, IsHeld, Source}
+use Rattle.reply_laws.proofs.Before.{is_quiet, Since, since_stood, stood_on}
 use Rattle.reply_laws.proofs.Events.{is_unsaid, OfUnsaid, released_all}
 
 -- where it is replied ok, that has a source
@@ -80,7 +81,7 @@ same_reply x y e = cc
 
 -- where it is not replied now, it is as the clock's work left it
 abbrev Waiting : Core → Asked → Type 0
-Waiting c y = waits_for_key y.stage ≡ true → Since c y
+Waiting c y = is_reading y.stage ≡ true → Since c y
 
 record Both (c : Core) (e : CoreEvent) (now : ℕ) (y : Asked) : Type 0 where
   sourced : Sourced c e now y
@@ -88,7 +89,7 @@ record Both (c : Core) (e : CoreEvent) (now : ℕ) (y : Asked) : Type 0 where
 
 -- ---- reads are decided again in place
 
-waits_unmet : (ticket : ℕ) (e : Option Entry) (x : Option Acquire) (s : Stage) → stands ticket e x s ≡ false → waits_for_key s ≡ true
+waits_unmet : (ticket : ℕ) (e : Option Entry) (x : Option Acquire) (s : Stage) → stands ticket e x s ≡ false → is_reading s ≡ true
 waits_unmet ticket e x stage.Acquiring h = refl
 waits_unmet ticket e x stage.Joined h = refl
 waits_unmet ticket e x stage.Behind h = refl
@@ -97,7 +98,7 @@ waits_unmet ticket e x stage.Writes h = absurd (cc)
 waits_unmet ticket e x (stage.Grouped s) h = absurd (cc)
 waits_unmet ticket e x (stage.Replied v) h = absurd (cc)
 
-waiting_loud : (s : Stage) → waits_for_key s ≡ true → Rattle.reply_laws.proofs.Before.is_quiet s ≡ false
+waiting_loud : (s : Stage) → is_reading s ≡ true → is_quiet s ≡ false
 waiting_loud stage.Acquiring h = refl
 waiting_loud stage.Joined h = refl
 waiting_loud stage.Behind h = refl
@@ -109,7 +110,7 @@ waiting_loud (stage.Replied v) h = absurd (cc)
 placed_sourced : (c : Core) (e : CoreEvent) (now : ℕ) (h : Header) (g : Ground) → Decides c e now g → (stepped c e now).core.header ≡ h → (y : Asked) → Both c e now y → Sourced c e now (in_place true h g y)
 placed_sourced c e now h g d top y b = by (ask_stands g y) refl
   where
-    decided : waits_for_key y.stage ≡ true → (o : Option Entry) → at g.own.entries (ask_key y) ≡ o → Sourced c e now (in_stage (read_turn h g.own.waits.step o false None).stage y)
+    decided : is_reading y.stage ≡ true → (o : Option Entry) → at g.own.entries (ask_key y) ≡ o → Sourced c e now (in_stage (read_turn h g.own.waits.step o false None).stage y)
     decided w None f reply s = absurd (cc)
     decided w (Some x) f reply s = by_phase x.phase refl s
       where

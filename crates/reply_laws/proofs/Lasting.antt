@@ -1,6 +1,6 @@
 -- What all events but a sending do to requests and acquires: no request comes to stand at a call that is out, and each acquire that is out was
 -- out before.
-use Rattle.std.proofs.Common.{◌≡◌, ℕ, ◌+◌, ◌==◌, nat_le, Bool, true, false, not, cond, ◌&&◌, ◌||◌, List, [], ◌∷◌, ◌++◌, map, Option, None, Some, is_some, Ok, Err, refl, sym, ◌∙◌, ap, subst}
+use Rattle.std.proofs.Common.{◌≡◌, ℕ, ◌+◌, ◌==◌, nat_le, Bool, true, false, not, cond, ◌&&◌, ◌||◌, List, [], ◌∷◌, map, Option, None, Some, is_some, Ok, Err, refl}
 use Rattle.etcd_types.specs.declared.answer.Answer.{Answer}
 use Rattle.etcd_types.specs.declared.answer.Answer.TheVariants.{Done, Refused}
 use Rattle.etcd_types.specs.declared.answer.Body.{Body}
@@ -10,7 +10,6 @@ use Rattle.etcd_types.specs.declared.record.Header.{Header}
 use Rattle.etcd_types.specs.declared.record.Kv.{Kv}
 use Rattle.etcd_types.specs.declared.request.Request.{Request}
 use Rattle.etcd_types.specs.declared.request.Request.TheVariants as request
-use Rattle.etcd_types.specs.declared.watch.Event.{Event}
 use Rattle.etcd_types.specs.declared.watch.WatchItem.{WatchItem}
 use Rattle.etcd_types.specs.declared.watch.WatchItem.TheVariants as item
 use Rattle.proxy_model.specs.declared.lease.Entry.{Entry}
@@ -22,39 +21,35 @@ use Rattle.proxy_model.specs.Acquire.{claimed}
 use Rattle.proxy_model.specs.Keyed.{Keyed, at, with_at}
 use Rattle.proxy_model.specs.Limits.{capped}
 use Rattle.proxy_model.specs.Unwrapped.{Unwrapped, item_without}
-use Rattle.wait_model.specs.declared.sending.Sending.{Sending}
 use Rattle.wait_model.specs.declared.sending.Sending.TheVariants as sending
 use Rattle.wait_model.specs.declared.wait.Settled.{Settled}
 use Rattle.wait_model.specs.declared.wait.Settled.TheVariants as settled
 use Rattle.wait_model.specs.Edits.{without}
 use Rattle.wait_model.specs.Endings as endings
 use Rattle.wait_model.specs.GuardedAnswers.{Ending}
-use Rattle.wait_model.specs.State.{Ownership}
 use Rattle.read_model.specs.declared.acquire.Acquire.{Acquire}
 use Rattle.read_model.specs.declared.asked.Asked.{Asked}
 use Rattle.read_model.specs.declared.asked.Stage.{Stage}
 use Rattle.read_model.specs.declared.asked.Stage.TheVariants as stage
 use Rattle.read_model.specs.declared.asked.Verdict.{Verdict}
 use Rattle.read_model.specs.declared.asked.Verdict.TheVariants as verdict
-use Rattle.read_model.specs.Acquires.{read_asked, acquires_at, told, acquire_gone, acquire_done, AfterAcquire, done_by, acquire_refused, is_to_be_held, answered_acquire, acquire_answered, lost_once, told_lost, acquire_lost}
-use Rattle.read_model.specs.PlainRead.{ask_key, shown, called, acquirable, held_turn, free_turn, read_turn, decision, begun_under, in_stage, decided_ground, decided_ask}
+use Rattle.read_model.specs.Acquires.{read_asked, acquires_at, told, acquire_gone, acquire_done, AfterAcquire, done_by, acquire_refused, is_to_be_held, answered_acquire, acquire_answered, lost_once, acquire_lost}
+use Rattle.read_model.specs.PlainRead.{ask_key, shown, called, acquirable, held_turn, read_turn, decision, begun_under, in_stage, decided_ground, decided_ask}
 use Rattle.read_model.specs.Release.{ask_stands, released_ground, released_ask, released_from}
 use Rattle.read_model.specs.SessionEnd.{is_due, dropped, over, session_over}
 use Rattle.read_model.specs.State.{Reads, Moment, Ground, ground_of, on}
 use Rattle.read_model.specs.TakingOff.{forgotten_all, falls, taken_off}
-use Rattle.read_model.specs.WriteAnswers.{settled_ask, ending, answered_by, wait_answered, wait_lost}
+use Rattle.read_model.specs.WriteAnswers.{settled_ask, ending, answered_by, wait_answered}
 use Rattle.watch_model.specs.Lookups.{stream_at, watch_at, is_begun}
 use Rattle.watch_model.specs.State.{Stream, Watch, Broadcasts}
 use Rattle.watch_model.specs.Takes as watches
-use Rattle.core_model.specs.declared.event.CoreEvent.{CoreEvent}
-use Rattle.core_model.specs.declared.event.CoreEvent.TheVariants as event
 use Rattle.core_model.specs.declared.out_call.CallKind.{CallKind}
 use Rattle.core_model.specs.declared.out_call.OutCall.{OutCall}
 use Rattle.core_model.specs.declared.out_call.OutJob.{OutJob}
 use Rattle.core_model.specs.declared.out_call.OutJob.TheVariants as job
 use Rattle.core_model.specs.Asking.{asked_at, is_leased_read, read_by, read_is_asked, held_body, if_live, call_stage, call_is_asked, answered_or_called, leased_ask, taken_in, request_asked, refused_or_taken, on_ask}
 use Rattle.core_model.specs.ClockWork.{times_out, timed_out_ask, begun, clock_work}
-use Rattle.core_model.specs.Ends.{with_caller, member_failed, stale_once, stales_limit, said, is_stale_reply, ask_done, ask_answered, lost_ask, lost_job, lost_call, acquire_if, acquire_ended, reads_if, group_answered, answered_job, or_lost, heard_call, answered_call, call_gone, answer_of, on_answer, loss_of, on_lost}
+use Rattle.core_model.specs.Ends.{with_caller, member_failed, stale_once, stales_limit, said, is_stale_reply, ask_done, ask_answered, lost_ask, lost_job, lost_call, acquire_if, reads_if, answered_job, or_lost, heard_call, answered_call, call_gone, answer_of, on_answer, loss_of, on_lost}
 use Rattle.core_model.specs.Ends.{is_keepalive as answers_keepalive}
 use Rattle.core_model.specs.Groups.{keeps, is_out_stage, waits_next, is_out_for, group_since, joining, group_ended}
 use Rattle.core_model.specs.Heard.{heard, header_taken}

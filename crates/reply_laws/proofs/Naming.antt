@@ -1,6 +1,5 @@
 -- What a proxy has out is named by what it sent: each step keeps that, where a call that it sends names its ticket.
-use lib.Dec.{T}
-use Rattle.std.proofs.Common.{◌≡◌, ℕ, ◌+◌, ◌==◌, Bool, true, false, not, cond, ◌&&◌, List, [], ◌∷◌, ◌++◌, map, Option, None, Some, is_some, Result, Ok, Err, refl, sym, ◌∙◌, ap, subst}
+use Rattle.std.proofs.Common.{◌≡◌, ℕ, Bool, true, false, not, cond, ◌&&◌, List, [], ◌∷◌, ◌++◌, Option, None, Some, is_some, Result, Ok, Err, refl, sym, ◌∙◌, ap}
 use Rattle.std.specs.declared.cmp.Ordering.{Ordering}
 use Rattle.std.specs.declared.cmp.Ordering.TheVariants.{Less, Equal, Greater}
 use Rattle.std.specs.Cmp.Lexicographic.{slice_cmp}
@@ -11,16 +10,14 @@ use Rattle.std.specs.Ordering.{nat_cmp, is_lt, is_eq, ordering_reverse}
 use Rattle.std.proofs.lemmas.Cmp.{nat_list_cmp_total}
 use Rattle.etcd_types.specs.Keys.{same}
 use Rattle.etcd_types.proofs.Bools.{and_first, and_second}
-use Rattle.etcd_types.proofs.KeyOrder.{same-equal, same-itself}
-use Rattle.etcd_types.specs.declared.request.Request.{Request}
-use Rattle.proxy_model.specs.Keyed.{Keyed, at, with_at, changed_at, is_in_order}
+use Rattle.etcd_types.proofs.KeyOrder.{same-itself}
+use Rattle.proxy_model.specs.Keyed.{Keyed, at, changed_at, is_in_order}
 use Rattle.proxy_model.specs.Session.{Session}
 use Rattle.proxy_model.proofs.KeyedLaws.{to_T, from_T, at-with_at, in_order-with_at}
 use Rattle.wait_model.specs.declared.due.Place.{Place}
 use Rattle.wait_model.specs.declared.sending.Sending.{Sending}
 use Rattle.wait_model.specs.declared.sending.Sending.TheVariants as sending
 use Rattle.wait_model.specs.DueOrder.{is_earlier, first_place, first_rescind}
-use Rattle.wait_model.specs.Edits.{without}
 use Rattle.wait_model.specs.Sent.{JobSent, job_sent}
 use Rattle.wait_model.proofs.Tables.{at-without}
 use Rattle.read_model.specs.declared.acquire.Acquire.{Acquire}
@@ -38,18 +35,16 @@ use Rattle.watch_model.specs.Due.{next_job}
 use Rattle.watch_model.specs.State.{Stream}
 use Rattle.core_model.specs.declared.event.CoreEvent.{CoreEvent}
 use Rattle.core_model.specs.declared.event.CoreEvent.TheVariants as event
-use Rattle.core_model.specs.declared.event.Job.TheVariants as sent
 use Rattle.core_model.specs.declared.event.Outcome.{Outcome}
-use Rattle.core_model.specs.declared.event.Outcome.TheVariants as outcome
 use Rattle.core_model.specs.declared.event.StepFault.{StepFault}
 use Rattle.core_model.specs.declared.event.StepFault.TheVariants as fault
-use Rattle.core_model.specs.declared.settings.Settings.{Settings}
 use Rattle.core_model.specs.ClockWork.{clock_work}
-use Rattle.core_model.specs.DueJobs.{DueJob, ForSession, ForWrites, ForAcquire, ForAsk, ForGroup, ToOpen, ForStream, Placed, placed, due_writes, if_due, due_acquire, due_stage, due_ask, due_at, due_opening, due_phase, due_stream, due_jobs, earlier, earliest, job_of, session_job_of, session_job, rescind_or, or_else, first_job}
+use Rattle.core_model.specs.DueJobs.{DueJob, ForSession, ForWrites, ForAcquire, ForAsk, ForGroup, ToOpen, ForStream, Placed, due_writes, if_due, due_acquire, due_stage, due_ask, due_at, due_opening, due_phase, due_stream, due_jobs, earlier, earliest, job_of, session_job_of, session_job, rescind_or, or_else, first_job}
+use Rattle.core_model.specs.Fits.{CoreOk}
 use Rattle.core_model.specs.Groups.{keeps, is_due_stage, group_sent}
-use Rattle.core_model.specs.Lookups.{has_ticket, ask_at}
+use Rattle.core_model.specs.Lookups.{has_ticket}
 use Rattle.core_model.specs.Sending.{next_call, called_as, writes_sent, sent_by, on_work}
-use Rattle.core_model.specs.State.{Seat, Opening, Core, first_core}
+use Rattle.core_model.specs.State.{Seat, Opening, Core}
 use Rattle.core_model.specs.Step.{is_worn, happened, stepped}
 use Rattle.core_model.specs.Stepped.{Stepped, faults, counted, counted_by}
 use Rattle.core_model.specs.Watching.{with_watches, stream_job}
@@ -57,7 +52,9 @@ use Rattle.core_laws.proofs.Comes.{by_test}
 use Rattle.core_laws.proofs.Lists.{same_number}
 use Rattle.keep_laws.proofs.Rows.{All, all_mapped, all_kept}
 use Rattle.keep_laws.proofs.Runs.{found}
-use Rattle.reply_laws.specs.Named.{AreNamed}
+use Rattle.reply_laws.specs.Laws.{StartsNamed, StepsName}
+use Rattle.reply_laws.specs.Named.{AreNamed, NamesCall}
+use Rattle.reply_laws.proofs.Before as before
 use Rattle.reply_laws.proofs.Lasting.{is_uncalled, Lasts, clock_so, answered_so, lost_so, asked_so, take_so, leave_so, tick_so, item_so, cut_so}
 
 -- a request is named, where its own call is out
@@ -249,10 +246,6 @@ first_known c h = by_session c.seat
 
 -- ---- what is due is sent
 
--- a call that it sends names its ticket
-abbrev pub Sends : (ℕ → Bool) → Result Outcome StepFault → Type 0
-Sends next r = (own member ticket : ℕ) (q : Request) → r ≡ Ok (outcome.Job (Some (sent.Call own member ticket q))) → next ticket ≡ true
-
 acquire_sent : (next : ℕ → Bool) (number : ℕ) (k : List ℕ) (x : Acquire) (xs : Keyed Acquire) → at xs k ≡ Some x → next x.ticket ≡ true → AcquiresNamed next xs → AcquiresNamed next (changed_at xs k (sent_out number))
 acquire_sent next number k x xs f t h = record {
   order = in_order-with_at xs k (option_map (sent_out number) (at xs k)) h.order;
@@ -263,7 +256,7 @@ acquire_sent next number k x xs f t h = record {
     by true j n y e o = let same : sent_out number x ≡ y = same_acquire (sent_out number x) y (sym (ap (option_map (sent_out number)) f) ∙ e) in ap (λ (z : Acquire). next z.ticket) (sym same) ∙ t
     by false j n y e o = h.tickets j n y e o
 
-sent_named : (next : ℕ → Bool) (now : ℕ) (c : Core) (j : Option DueJob) → KnownIf c.acquires j → Sends next (sent_by now j c).outcome → Names next c → Names next (sent_by now j c).core
+sent_named : (next : ℕ → Bool) (now : ℕ) (c : Core) (j : Option DueJob) → KnownIf c.acquires j → NamesCall next (sent_by now j c).outcome → Names next c → Names next (sent_by now j c).core
 sent_named next now c None k s h = h
 sent_named next now c (Some (ForSession x)) k s h = h
 sent_named next now c (Some ForWrites) k s h = by (job_sent (next_call c) c.own)
@@ -290,13 +283,13 @@ sent_named next now c (Some (ForStream x)) k s h = by (next_job c.watches (Some 
     by (Some (stream.Close number)) = h
     by (Some (stream.Open number range start)) = h
 
-work_named : (next : ℕ → Bool) (now : ℕ) (c : Core) → Sends next (on_work now c).outcome → Names next c → Names next (on_work now c).core
+work_named : (next : ℕ → Bool) (now : ℕ) (c : Core) → NamesCall next (on_work now c).outcome → Names next c → Names next (on_work now c).core
 unfolding on_work
 work_named next now c s h = sent_named next now c (first_job c) (first_known c h.1.order) s h
 
 -- ---- a whole step
 
-happened_named : (next : ℕ → Bool) (now : ℕ) (e : CoreEvent) (c : Core) → Sends next (happened now e c).outcome → Names next c → Names next (happened now e c).core
+happened_named : (next : ℕ → Bool) (now : ℕ) (e : CoreEvent) (c : Core) → (e ≡ event.Work → NamesCall next (happened now e c).outcome) → Names next c → Names next (happened now e c).core
 happened_named next now (event.Ask ticket q word) c s h = asked_so (IsNamed next) (AcquiresNamed next) (names_last next) now ticket q word c h
 happened_named next now (event.Answer call a) c s h = answered_so (IsNamed next) (AcquiresNamed next) (names_last next) now call a c h
 happened_named next now (event.Lost call) c s h = lost_so (IsNamed next) (AcquiresNamed next) (names_last next) now call c h
@@ -305,7 +298,7 @@ happened_named next now (event.Item number x) c s h = item_so (IsNamed next) (Ac
 happened_named next now (event.Cut number) c s h = cut_so (IsNamed next) (AcquiresNamed next) (names_last next) number c h
 happened_named next now (event.Take ticket) c s h = take_so (IsNamed next) (AcquiresNamed next) (names_last next) ticket c h
 happened_named next now (event.Leave ticket) c s h = leave_so (IsNamed next) (AcquiresNamed next) (names_last next) now ticket c h
-happened_named next now event.Work c s h = work_named next now c s h
+happened_named next now event.Work c s h = work_named next now c (s refl) h
 
 counted_named : (next : ℕ → Bool) (c : Core) (r : Result Outcome StepFault) → Names next c → Names next (counted_by c r).core
 counted_named next c (Ok o) h = h
@@ -316,7 +309,7 @@ counted_is c (Ok o) = refl
 counted_is c (Err f) = refl
 
 -- what was named stays so, and a call that is sent names its ticket
-pub stepped_named : (named next : ℕ → Bool) → ((t : ℕ) → named t ≡ true → next t ≡ true) → (c : Core) (e : CoreEvent) (now : ℕ) → Sends next (stepped c e now).outcome → Names named c → Names next (stepped c e now).core
+stepped_named : (named next : ℕ → Bool) → ((t : ℕ) → named t ≡ true → next t ≡ true) → (c : Core) (e : CoreEvent) (now : ℕ) → (e ≡ event.Work → NamesCall next (stepped c e now).outcome) → Names named c → Names next (stepped c e now).core
 unfolding stepped
 stepped_named named next g c e now s h = by (is_worn c) s
   where
@@ -326,18 +319,28 @@ stepped_named named next g c e now s h = by (is_worn c) s
     more : Names next c
     more = names_more named next g c h
 
-    by : (b : Bool) → Sends next (cond b (faults c fault.Worn) (counted came)).outcome → Names next (cond b (faults c fault.Worn) (counted came)).core
+    by : (b : Bool) → (e ≡ event.Work → NamesCall next (cond b (faults c fault.Worn) (counted came)).outcome) → Names next (cond b (faults c fault.Worn) (counted came)).core
     by true t = more
     by false t =
         counted_named next came.core came.outcome
-        (happened_named next now e (clock_work now c) (λ own member ticket q f. t own member ticket q (counted_is came.core came.outcome ∙ f)) (clock_so (IsNamed next) (AcquiresNamed next) (names_last next) now c more))
+        (happened_named next now e (clock_work now c) (λ w own member ticket q f. t w own member ticket q (counted_is came.core came.outcome ∙ f)) (clock_so (IsNamed next) (AcquiresNamed next) (names_last next) now c more))
 
 -- at its start a proxy has nothing out
-pub first_named : (named : ℕ → Bool) (settings : Settings) → Names named (first_core settings)
-first_named named settings = (tt, record { order = refl; tickets = λ k number x e o. absurd (cc) })
+pub starts_named : StartsNamed
+starts_named named settings = record { rising = refl; asks = λ ticket number a f e. absurd (cc); acquires = λ k number x e o. absurd (cc) }
 
-pub are_named : (named : ℕ → Bool) (c : Core) → Names named c → AreNamed named c
-are_named named c h = record {
+out_named : (named : ℕ → Bool) (c : Core) → Names named c → AreNamed named c
+out_named named c h = record {
+  rising = h.1.order;
   asks = λ ticket number a f e. let k = found (IsNamed named) ticket c.asks a f h.0 in ap named (sym (same_number a.ticket ticket k.1)) ∙ k.0 number e;
   acquires = h.1.tickets;
 }
+
+all_named : (named : ℕ → Bool) (c : Core) → CoreOk c → AreNamed named c → Names named c
+all_named named c ok h = (
+  all_kept (before.Found c.asks) (IsNamed named) (λ x f number e. h.asks x.ticket number x f e) c.asks (before.found_all c.asks ok.agrees.asks.once),
+  record { order = h.rising; tickets = h.acquires },
+)
+
+pub steps_name : StepsName
+steps_name named next c e now ok m h = out_named next (stepped c e now).core (stepped_named named next m.stays c e now m.sends (all_named named c ok h))

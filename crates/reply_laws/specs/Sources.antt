@@ -1,6 +1,6 @@
 -- Where an ok reply of a proxy comes from: an answer that is heard at this step, or what the proxy holds in the ground on which reads
 -- are decided at this step. The store has no part in this; that what is held is what the store has is a law of its own.
-use Rattle.std.specs.Prelude.{◌≡◌, ℕ, Bool, true, false, is_some, List, Option, None, Some}
+use Rattle.std.specs.Prelude.{◌≡◌, ℕ, true, false, is_some, List, Option, None, Some}
 use Rattle.std.specs.Option.{option_to_list}
 use Rattle.etcd_types.specs.declared.answer.Answer.{Answer}
 use Rattle.etcd_types.specs.declared.answer.Answer.TheVariants.{Done}
@@ -45,6 +45,7 @@ use Rattle.core_model.specs.Lookups.{leases, moment, reads_of, ask_at, live_numb
 use Rattle.core_model.specs.Refusals.{refusal_of}
 use Rattle.core_model.specs.State.{Core}
 use Rattle.core_model.specs.Step.{stepped}
+use Rattle.core_fits.specs.Fits.{is_reading}
 
 -- Before the step.
 
@@ -54,13 +55,6 @@ pub record Stood (c : Core) (a : Asked) (s : Stage) : Type 0 where
   pub there : ask_at a.ticket c.asks ≡ Some before
   pub request : before.request ≡ a.request
   pub stage : before.stage ≡ s
-
--- it waited for its key: for an acquire, or for the proxy's own write
-abbrev pub waits_for_key : Stage → Bool
-waits_for_key stage.Acquiring = true
-waits_for_key stage.Joined = true
-waits_for_key stage.Behind = true
-waits_for_key _ = false
 
 -- An answer is heard.
 
@@ -139,7 +133,7 @@ pub data Source (c : Core) (e : CoreEvent) (now : ℕ) (a : Asked) (reply : Repl
   -- it is a keepalive, and the call that it shares is answered
   shared : (o : OutCall) (lease : ℕ) → o.job ≡ job.Group lease → Stood c a (stage.Grouped (Some (sending.Out o.call))) → Hears c e o (Done reply) → Source c e now a reply
   -- it waited for its key, which is held on the ground on which it is decided again
-  cached : (s : Stage) (g : Ground) → waits_for_key s ≡ true → Stood c a s → Decides c e now g → IsHeld c e now g (ask_key a) reply → Source c e now a reply
+  cached : (s : Stage) (g : Ground) → is_reading s ≡ true → Stood c a s → Decides c e now g → IsHeld c e now g (ask_key a) reply → Source c e now a reply
 
 -- with leasing on, a request that isn't refused is asked at this step
 pub record IsServed (c : Core) (e : CoreEvent) (now ticket : ℕ) (q : Request) : Type 0 where

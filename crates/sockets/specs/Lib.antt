@@ -1,2 +1,4 @@
-pub mod Heads
-pub mod Lasting
+pub mod Answers
+pub mod Limits
+pub mod Phases
+pub mod Sent

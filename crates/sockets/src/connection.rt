@@ -1,18 +1,20 @@
-ghost use Rattle.std.specs.Prelude.{◌≡◌, IfOk};
+ghost use Rattle.std.specs.Prelude.{◌≡◌, ◌≤◌, IfOk};
 
 use crate::limits::ConnectionLimits;
 use crate::permits::Permits;
+use crate::phase::Phase;
 use crate::sink::SocketSink;
 use crate::source::SocketSource;
 use crate::times::Until;
 use crate::transfer::receive;
 use etcd_types::NoMemory;
 use std::alloc::Global;
+use std::io;
 use std::net::{Shutdown, TcpStream};
 use std::rt::Clock as Times;
-use std::sync::Arc;
-use std::sync::atomic::AtomicU64;
 use std::sync::atomic::Ordering::SeqCst;
+use std::sync::atomic::{AtomicBool, AtomicU64};
+use std::sync::{Arc, Wait};
 use std::time::Duration;
 
 /// How many pieces are read of what a client still sends when its connection is closed, and how long each is.
@@ -24,38 +26,28 @@ const LINGER_PIECE: usize = 4_096;
 pub(crate) struct Shared {
     pub(crate) stream: TcpStream,
     pub(crate) limits: ConnectionLimits,
-    // until when the head or body is to come that is read, or 0 where no byte came since the last reply
-    pub(crate) until: AtomicU64,
-    // when the first byte of the last request came, by `time`, or 0 where none did
-    pub(crate) began: AtomicU64,
-    // 1 where its reply was written in the same millisecond
-    pub(crate) is_quick: AtomicU64,
-    // how many bytes came since the last reply
-    pub(crate) came: AtomicU64,
-    // 1 where the connection holds a permit
-    pub(crate) holds: AtomicU64,
-    pub(crate) permits: Arc<Permits, Global>,
+    /// When the last piece was written, by `time`, or 0 where none was.
+    pub(crate) written: AtomicU64,
+    // whether the connection holds a permit
+    holds: AtomicBool,
+    permits: Arc<Permits, Global>,
 }
 
 impl Shared {
+    /// Takes a permit where none is held, and waits for it up to that moment at most.
+    pub(crate) fn hold<R: Wait + Times>(&self, rt: &R, until: Until) -> io::Result<()> {
+        if !self.holds.load(SeqCst) {
+            self.permits.take(rt, until)?;
+            self.holds.store(true, SeqCst);
+        }
+        Ok(())
+    }
+
     /// Gives the permit back, where one is held.
     pub(crate) fn release(&self) {
-        if self.holds.swap(0, SeqCst) == 1 {
+        if self.holds.swap(false, SeqCst) {
             self.permits.give();
         }
-    }
-
-    /// The next byte is the first of a request.
-    pub(crate) fn begin_anew(&self) {
-        self.release();
-        self.until.store(0, SeqCst);
-        self.came.store(0, SeqCst);
-    }
-
-    /// Notes that a piece is written at this time.
-    pub(crate) fn note_piece(&self, now: u64) {
-        let is_quick = u64::from(now == self.began.load(SeqCst));
-        self.is_quick.store(is_quick, SeqCst);
     }
 }
 
@@ -66,10 +58,7 @@ impl Drop for Shared {
         let Shared {
             stream: _stream,
             limits: _,
-            until: _,
-            began: _,
-            is_quick: _,
-            came: _,
+            written: _,
             holds: _,
             permits: _permits,
         } = self;
@@ -104,11 +93,8 @@ pub fn ends_within<R: Drop + Copy>(
     let shared = Shared {
         stream,
         limits,
-        until: AtomicU64::new(0),
-        began: AtomicU64::new(0),
-        is_quick: AtomicU64::new(0),
-        came: AtomicU64::new(0),
-        holds: AtomicU64::new(0),
+        written: AtomicU64::new(0),
+        holds: AtomicBool::new(false),
         permits,
     };
     let shared = Arc::new(alloc, shared)?;
@@ -116,7 +102,9 @@ pub fn ends_within<R: Drop + Copy>(
     let source = SocketSource {
         rt,
         shared,
-        head: None,
+        phase: Phase::Between,
+        began: 0,
+        came: 0,
         limit: Duration::ZERO,
         faults: 0,
     };
@@ -131,23 +119,27 @@ pub fn ends_within<R: Drop + Copy>(
 }
 
 /// Closes a connection so that its client still gets what was written last: says that nothing more comes, and reads what
-/// the client still sends, at most 64 KB and for a second. A system that has unread bytes as it closes would take back what
-/// the client didn't read yet.
-pub fn linger<R: Times + Drop>(source: SocketSource<R>, sink: SocketSink<R>) {
+/// the client still sends, for a second and at most 64 KB. It says how many bytes those were. A system that has unread bytes as
+/// it closes would take back what the client didn't read yet.
+pub fn linger<R: Times + Drop>(source: SocketSource<R>, sink: SocketSink<R>) -> usize
+    ensures { result ≤ 65536 }
+{
     let shared = &source.shared;
     shared.release();
     let (Ok(()), Ok(until)) = (
         shared.stream.shutdown(Shutdown::Write),
         Until::after(&source.rt, shared.limits.linger),
     ) else {
-        return;
+        return 0;
     };
     let mut room = [0u8; LINGER_PIECE];
     let mut limit = source.limit;
+    let mut came = 0;
     for _ in 0..LINGER_PIECES {
         match receive(&source.rt, &shared.stream, &mut limit, &mut room, until) {
-            Ok(0) | Err(_) => return,
-            Ok(_) => {}
+            Ok(0) | Err(_) => return came,
+            Ok(count) => came += count,
         }
     }
+    came
 }

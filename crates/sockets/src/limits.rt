@@ -1,4 +1,7 @@
 ghost use Rattle.std.specs.Prelude.{◌≡◌, ◌*◌, ◌/◌, min};
+ghost use Rattle.sockets.specs.Limits.{limit_for};
+
+use outside::CallKind;
 
 /// How long a client is waited for, in milliseconds.
 #[derive(Clone, Copy, Debug, PartialEq, Eq)]
@@ -39,7 +42,7 @@ pub struct LinkLimits {
     pub write: u64,
     /// A stream that said nothing for so long has its member asked.
     pub silence: u64,
-    /// For the answer to that.
+    /// For a whole call that asks whether a member answers.
     pub ask: u64,
     /// A stream that said nothing for so long is cut, whatever its member answers.
     pub cut: u64,
@@ -62,6 +65,18 @@ impl LinkLimits {
             silence: 10_000,
             ask: 1_500,
             cut: 600_000,
+        }
+    }
+
+    /// How long a call of this kind is waited for, in all; one that begins a stream until it is sent.
+    pub fn limit_for(&self, kind: CallKind) -> u64
+        ensures { result ≡ limit_for self.now kind }
+    {
+        match kind {
+            CallKind::Reads | CallKind::Scans | CallKind::Session(_) | CallKind::Watches(_) =>
+                self.read,
+            CallKind::Writes => self.write,
+            CallKind::Asks => self.ask,
         }
     }
 }

@@ -1,12 +1,15 @@
-ghost use Rattle.std.specs.Prelude.{◌≡◌, None};
+ghost use Rattle.std.specs.Prelude.{◌≡◌, None, IfOk};
+ghost use Rattle.sockets.specs.Answers.{faults_of};
 
-use crate::answer_stream::AnswerStream;
+use crate::answer::SocketAnswer;
+use crate::call_answer::CallAnswer;
 use crate::limits::LinkLimits;
 use crate::member::Member;
 use crate::members::Members;
+use crate::stream_answer::StreamAnswer;
 use crate::times::{Until, time};
-use etcd_types::Bytes;
-use outside::{Link, LinkFault};
+use crate::upstream::{Unsent, Upstream};
+use outside::{AnswerEnd, CallKind, Link, LinkFault};
 use std::alloc::Global;
 use std::io;
 use std::io::ErrorKind;
@@ -23,7 +26,7 @@ pub struct SocketLink<R: Drop> {
     rt: R,
     members: Arc<Members, Global>,
     limits: LinkLimits,
-    pub(crate) faults: u64,
+    faults: u64,
 }
 
 impl<R: Drop> Model for SocketLink<R> {
@@ -48,17 +51,7 @@ impl<R: Drop> SocketLink<R> {
     }
 }
 
-/// Whether a call may change what the cluster holds, by its first line.
-fn is_writing(call: &[u8]) -> bool {
-    call.starts_with(b"POST /v3/kv/put ")
-        || call.starts_with(b"POST /v3/kv/deleterange ")
-        || call.starts_with(b"POST /v3/kv/txn ")
-        || call.starts_with(b"POST /v3/kv/compaction ")
-        || call.starts_with(b"POST /v3/lease/revoke ")
-        || call.starts_with(b"POST /v3/kv/lease/revoke ")
-}
-
-/// How a link tells an error.
+/// How a link reports an error.
 fn link_fault(error: &io::Error) -> LinkFault {
     if error.kind() == ErrorKind::OutOfMemory {
         LinkFault::NoMemory
@@ -68,66 +61,97 @@ fn link_fault(error: &io::Error) -> LinkFault {
 }
 
 impl<R: Net<Stream = TcpStream> + Times + Wait + Eprint + Drop + Copy> SocketLink<R> {
-    // Makes a whole call to a member.
-    fn answer(&self, alloc: Global, member: &Member, call: &[u8]) -> io::Result<Vec<u8>> {
-        let limit = if is_writing(call) {
-            self.limits.write
-        } else {
-            self.limits.read
-        };
-        let until = Until::after(&self.rt, limit)?;
-        member.answer(&self.rt, alloc, call, self.limits.connect, until)
-    }
-
-    // Makes a whole call, and tells whether the member answers.
-    fn called(&self, alloc: Global, member: u32, call: &[u8]) -> io::Result<Vec<u8>> {
-        let member = self.members.member(member)?;
-        let answer = self.answer(alloc, member, call);
-        if answer.is_err() {
-            member.idle.close(&self.rt);
+    // Sends a call to a member, which is to be done by that moment.
+    fn send(
+        &self,
+        member: &Member,
+        kind: CallKind,
+        call: &[u8],
+        until: Until,
+    ) -> Result<Upstream, Unsent> {
+        let connect = self.limits.connect;
+        match kind {
+            CallKind::Watches(_) => member.send_anew(&self.rt, call, connect, until),
+            _ => member.send(&self.rt, call, connect, until),
         }
-        self.members.tell(&self.rt, member, answer.as_ref().err());
-        answer
     }
 
-    // Connects to a member, and sends it a call.
-    fn send(&self, member: &Member, call: &[u8]) -> io::Result<TcpStream> {
-        let until = Until::after(&self.rt, self.limits.read)?;
-        let line = member.begin(&self.rt, call, self.limits.connect, until)?;
-        let stream = line.stream;
-        let silence = Duration::from_millis(self.limits.silence.max(1));
-        stream.set_read_timeout(Some(silence))?;
-        Ok(stream)
+    // Sends a call to the member of this number, and says whether the member takes no call, or takes a stream again.
+    fn sent(&self, number: u32, kind: CallKind, call: &[u8]) -> io::Result<(Upstream, Until)> {
+        let member = self.members.member(number)?;
+        let until = Until::after(&self.rt, self.limits.limit_for(kind))?;
+        match self.send(member, kind, call, until) {
+            Ok(upstream) => {
+                if let CallKind::Watches(_) = kind {
+                    self.members.tell(&self.rt, member, None);
+                }
+                Ok((upstream, until))
+            }
+            Err(fault) => {
+                let error = fault.into_error();
+                self.members.fail(&self.rt, member, &error);
+                Err(error)
+            }
+        }
     }
 
-    // Begins a stream, and tells whether the member takes it.
-    fn begun(&self, member: u32, call: &[u8]) -> io::Result<AnswerStream<R>> {
-        let place = self.members.member(member)?;
-        let sent = self.send(place, call);
-        self.members.tell(&self.rt, place, sent.as_ref().err());
-        let stream = sent?;
-        Ok(AnswerStream {
+    // The stream that comes over this connection.
+    fn stream(&self, number: u32, upstream: Upstream) -> io::Result<StreamAnswer<R>>
+        ensures { IfOk result (λ stream. stream.faults ≡ 0) }
+    {
+        let mut upstream = upstream;
+        upstream.limit_read(Duration::from_millis(self.limits.silence.max(1)))?;
+        Ok(StreamAnswer {
             rt: self.rt,
             members: Arc::try_clone(&self.members)?,
             limits: self.limits,
-            member,
-            stream,
+            member: number,
+            upstream,
             heard: time(&self.rt)?,
             faults: 0,
         })
     }
+
+    // Sends a call to the member of this number, and gives its answer.
+    fn begun(&self, number: u32, kind: CallKind, call: &[u8]) -> io::Result<SocketAnswer<R>>
+        ensures { IfOk result (λ answer. faults_of answer ≡ 0) }
+    {
+        let (upstream, until) = self.sent(number, kind, call)?;
+        if let CallKind::Watches(_) = kind {
+            Ok(SocketAnswer::Stream(self.stream(number, upstream)?))
+        } else {
+            Ok(SocketAnswer::Call(CallAnswer::new(self.rt, upstream, number, until)))
+        }
+    }
+
+    // Says what the answer to a call shows of its member.
+    fn judge(&self, call: &CallAnswer<R>) {
+        let Ok(member) = self.members.member(call.member) else {
+            return;
+        };
+        match &call.error {
+            Some(error) => self.members.fail(&self.rt, member, error),
+            None if call.has_begun() => self.members.tell(&self.rt, member, None),
+            None => {}
+        }
+    }
 }
 
 impl<R: Net<Stream = TcpStream> + Times + Wait + Eprint + Drop + Copy> Link for SocketLink<R> {
-    type Stream = AnswerStream<R>;
+    type Answer = SocketAnswer<R>;
 
     ghost made = { λ l. None };
 
     ghost faults = { λ l. l.faults };
 
-    fn call(&mut self, alloc: Global, member: u32, call: &[u8]) -> Result<Bytes, LinkFault> {
-        match self.called(alloc, member, call) {
-            Ok(bytes) => Ok(Bytes::from_vec(bytes)),
+    fn begin(
+        &mut self,
+        member: u32,
+        kind: CallKind,
+        call: &[u8],
+    ) -> Result<SocketAnswer<R>, LinkFault> {
+        match self.begun(member, kind, call) {
+            Ok(answer) => Ok(answer),
             Err(error) => {
                 self.faults = self.faults.saturating_add(1);
                 Err(link_fault(&error))
@@ -135,18 +159,17 @@ impl<R: Net<Stream = TcpStream> + Times + Wait + Eprint + Drop + Copy> Link for 
         }
     }
 
-    fn begin(
-        &mut self,
-        _alloc: Global,
-        member: u32,
-        call: &[u8],
-    ) -> Result<AnswerStream<R>, LinkFault> {
-        match self.begun(member, call) {
-            Ok(stream) => Ok(stream),
-            Err(error) => {
-                self.faults = self.faults.saturating_add(1);
-                Err(link_fault(&error))
-            }
+    /// The connection of an answer that was read whole is left to a later call; each other one is closed.
+    fn end(&mut self, answer: SocketAnswer<R>, how: AnswerEnd) {
+        if let SocketAnswer::Call(call) = &answer {
+            self.judge(call);
+        }
+        let (number, upstream) = answer.into_upstream();
+        if let (AnswerEnd::Whole, Ok(member)) = (how, self.members.member(number)) {
+            member.idle.keep(&self.rt, upstream);
         }
     }
+
+    /// The stream's follower learns of it by its own next step.
+    fn forget(&mut self, _stream: u64) {}
 }

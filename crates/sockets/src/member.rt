@@ -1,9 +1,10 @@
-use crate::answer::receive_answer;
-use crate::idle::Idle;
-use crate::lasting::lasting;
+use crate::call_answer::CallAnswer;
+use crate::idle::{Idle, MOST};
+use crate::limits::LinkLimits;
 use crate::times::Until;
-use crate::transfer::Line;
+use crate::upstream::{Unsent, Upstream};
 use etcd_types::{Bytes, NoMemory};
+use http_wire::{Wire, write_call};
 use std::alloc::Global;
 use std::io::ErrorKind;
 use std::net::{Net, SocketAddr, TcpStream, ToSocketAddrs};
@@ -13,11 +14,10 @@ use std::sync::{Mutex, Wait};
 use std::{io, str};
 
 /// The request by which a member is asked whether it answers: a range of one key, which needs the agreement of the cluster
-/// and gives no record.
-const ASKING: &str = "{\"key\":\"AA==\",\"count_only\":true}";
+/// and gives no record (etcd API reference: service KV, Range).
+const ASKING_PATH: &[u8] = b"/v3/kv/range";
 
-/// How the answer to it begins.
-const GOOD: &[u8] = b"HTTP/1.1 200 ";
+const ASKING_BODY: &[u8] = b"{\"key\":\"AA==\",\"count_only\":true}";
 
 /// No name has more addresses.
 const MOST_ADDRESSES: u32 = 32;
@@ -39,7 +39,7 @@ pub(crate) struct Member {
     /// Its address as it was named, `host:port`.
     pub(crate) host: String,
     // the bytes of the call that asks whether it answers
-    asking: String,
+    asking: Bytes,
     // the address to be tried first, where the name has any
     address: Mutex<Option<SocketAddr>>,
     /// The last asking whether it answers. Who asks holds the lock.
@@ -72,11 +72,8 @@ impl Member {
         number: u32,
         host: &Bytes,
     ) -> Result<Member, NoMemory> {
+        let asking = write_call(alloc, host.as_slice(), ASKING_PATH, ASKING_BODY)?;
         let host = str::from_utf8(host.as_slice()).unwrap_or("");
-        let length = ASKING.len();
-        let asking = format!(in alloc;
-            "POST /v3/kv/range HTTP/1.1\r\nHost: {host}\r\nContent-Type: application/json\r\nConnection: close\r\nContent-Length: {length}\r\n\r\n{ASKING}"
-        )?;
         let address = next_address(rt, host, None).ok();
         Ok(Member {
             number,
@@ -127,68 +124,86 @@ impl Member {
         rt: &R,
         connect: u64,
         until: Until,
-    ) -> io::Result<Line> {
+    ) -> io::Result<Upstream> {
         let stream = self.connect(rt, until.or_after(rt, connect)?)?;
         let _ = stream.set_nodelay(true);
-        Ok(Line::new(stream))
+        Ok(Upstream::new(stream))
     }
 
-    /// Connects, which is to take so many milliseconds at most, and sends a call.
-    pub(crate) fn begin<R: Net<Stream = TcpStream> + Times + Wait>(
+    /// Sends a call over a new connection, which is to take so many milliseconds at most.
+    pub(crate) fn send_anew<R: Net<Stream = TcpStream> + Times + Wait>(
         &self,
         rt: &R,
         call: &[u8],
         connect: u64,
         until: Until,
-    ) -> io::Result<Line> {
-        let mut line = self.reach(rt, connect, until)?;
-        line.send(rt, call, until)?;
-        Ok(line)
-    }
-
-    /// Makes a whole call: on a connection that an earlier one left, or else on a new one, which is to take so many
-    /// milliseconds at most. It is sent once, whatever comes of it, since it may be done where its answer is lost.
-    pub(crate) fn answer<R: Net<Stream = TcpStream> + Times + Wait>(
-        &self,
-        rt: &R,
-        alloc: Global,
-        call: &[u8],
-        connect: u64,
-        until: Until,
-    ) -> io::Result<Vec<u8>> {
-        let call = lasting(alloc, call)?;
-        let mut line = match self.idle.take(rt) {
-            Some(line) => line,
-            None => self.reach(rt, connect, until)?,
+    ) -> Result<Upstream, Unsent> {
+        let mut upstream = match self.reach(rt, connect, until) {
+            Ok(upstream) => upstream,
+            Err(error) => return Err(Unsent::Untouched(error)),
         };
-        line.send(rt, call.as_slice(), until)?;
-        let (answer, is_whole) = receive_answer(rt, alloc, &mut line, until)?;
-        if is_whole {
-            self.idle.keep(rt, line);
+        upstream.send(rt, call, until)?;
+        Ok(upstream)
+    }
+
+    // Sends a call over a connection that an earlier one left, where one can still carry it.
+    fn send_again<R: Times + Wait>(
+        &self,
+        rt: &R,
+        call: &[u8],
+        until: Until,
+    ) -> Result<Option<Upstream>, Unsent> {
+        for _ in 0..MOST {
+            let left = match until.left(rt) {
+                Ok(left) => left,
+                Err(late) => return Err(Unsent::Untouched(late)),
+            };
+            let Some(mut upstream) = self.idle.take(rt) else {
+                break;
+            };
+            match upstream.send_again(rt, call, left, until) {
+                Ok(()) => return Ok(Some(upstream)),
+                Err(Unsent::Untouched(_)) => {}
+                Err(fault) => return Err(fault),
+            }
         }
-        Ok(answer)
+        Ok(None)
+    }
+
+    /// Sends a call: over a connection that an earlier one left, or else over a new one, which is to take so many milliseconds at
+    /// most. It goes to another connection only as long as no byte of it was taken, since it may be done where its answer is lost.
+    pub(crate) fn send<R: Net<Stream = TcpStream> + Times + Wait>(
+        &self,
+        rt: &R,
+        call: &[u8],
+        connect: u64,
+        until: Until,
+    ) -> Result<Upstream, Unsent> {
+        match self.send_again(rt, call, until)? {
+            Some(upstream) => Ok(upstream),
+            None => self.send_anew(rt, call, connect, until),
+        }
     }
 
     /// Asks whether it answers, on a connection of its own.
     pub(crate) fn ask<R: Net<Stream = TcpStream> + Times + Wait>(
         &self,
         rt: &R,
-        connect: u64,
-        until: Until,
+        alloc: Global,
+        limits: &LinkLimits,
     ) -> io::Result<bool> {
-        let mut line = self.begin(rt, self.asking.as_bytes(), connect, until)?;
-        let mut room = [0u8; 13];
-        let mut came = 0;
-        for _ in 0..room.len() {
-            if came >= room.len() {
-                break;
-            }
-            let count = line.receive(rt, &mut room[came..], until)?;
-            if count == 0 {
-                break;
-            }
-            came = came.saturating_add(count);
+        let until = Until::after(rt, limits.ask)?;
+        let Ok(mut wire) = Wire::new(alloc) else {
+            return Err(io::Error::from(ErrorKind::OutOfMemory));
+        };
+        let upstream = match self.send_anew(rt, self.asking.as_slice(), limits.connect, until) {
+            Ok(upstream) => upstream,
+            Err(fault) => return Err(fault.into_error()),
+        };
+        let mut answer = CallAnswer::new(rt, upstream, self.number, until);
+        match wire.read_answer(&mut answer) {
+            Ok(head) => Ok(head.status == 200),
+            Err(_) => Ok(false),
         }
-        Ok(came == room.len() && room.as_slice() == GOOD)
     }
 }

@@ -2,7 +2,7 @@ ghost use Rattle.std.specs.Prelude.{◌≡◌, length, IfOk};
 
 use crate::limits::LinkLimits;
 use crate::member::{Asked, Member};
-use crate::times::{Until, time};
+use crate::times::time;
 use etcd_types::{Bytes, List, NoMemory};
 use std::alloc::Global;
 use std::io;
@@ -23,6 +23,7 @@ const LINES: u64 = 1_000;
 /// The members of a cluster, as all links of a process share them.
 #[derive(Drop)]
 pub struct Members {
+    alloc: Global,
     all: Vec<Member>,
     // when the last line was written, by `time`, or 0 where none was
     told: AtomicU64,
@@ -50,6 +51,7 @@ impl Members {
             all.push(Member::new(rt, alloc, number, host)?)?;
         }
         Ok(Members {
+            alloc,
             all,
             told: AtomicU64::new(0),
         })
@@ -106,6 +108,17 @@ impl Members {
         };
     }
 
+    /// Closes the connections to a member that rest, and says that it doesn't answer: a call to it failed.
+    pub(crate) fn fail<R: Times + Wait + Eprint>(
+        &self,
+        rt: &R,
+        member: &Member,
+        error: &io::Error,
+    ) {
+        member.idle.close(rt);
+        self.tell(rt, member, Some(error));
+    }
+
     /// Whether a member answers when it is asked for what needs the agreement of the cluster. Those who ask at the same time
     /// share one asking, and a good answer counts for five seconds.
     pub(crate) fn answers<R: Net<Stream = TcpStream> + Times + Wait>(
@@ -122,10 +135,7 @@ impl Members {
         if asked.at >= came || asked.good && came.saturating_sub(asked.at) < FRESH {
             return asked.good;
         }
-        let good = match Until::after(rt, limits.ask) {
-            Ok(until) => member.ask(rt, limits.connect, until).unwrap_or(false),
-            Err(_) => false,
-        };
+        let good = member.ask(rt, self.alloc, limits).unwrap_or(false);
         let at = time(rt).unwrap_or(0);
         *asked = Asked { at, good };
         good

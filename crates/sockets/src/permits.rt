@@ -1,20 +1,36 @@
+ghost use Rattle.std.specs.Prelude.{◌≡◌};
+
 use crate::times::Until;
 use std::io;
+use std::marker::Model;
 use std::rt::Clock as Times;
 use std::sync::Wait;
 use std::sync::atomic::AtomicU64;
 use std::sync::atomic::Ordering::SeqCst;
 
 /// What a connection holds while a large request of it is read, so that not all of them take their memory at once.
-#[derive(Debug, Drop)]
+#[derive(Drop)]
 pub struct Permits {
-    pub(crate) free: AtomicU64,
+    count: u64,
+    free: AtomicU64,
+}
+
+/// They are seen as how many there are in all.
+impl Model for Permits {
+    ghost use Rattle.std.specs.Prelude.{ℕ};
+
+    ghost Value = { ℕ };
+
+    ghost view = { λ p. p.count };
 }
 
 impl Permits {
     /// So many permits, all free.
-    pub fn new(count: u64) -> Permits {
+    pub fn new(count: u64) -> Permits
+        ensures { result ≡ count }
+    {
         Permits {
+            count,
             free: AtomicU64::new(count),
         }
     }

@@ -2,17 +2,15 @@ ghost use Rattle.std.specs.Prelude.{◌≡◌, None};
 
 use crate::connection::Shared;
 use crate::times::{TRIES, Until};
-use outside::{Failed, Sink};
+use outside::{Failed, Sink, WriteMark};
 use std::alloc::Global;
 use std::io;
 use std::io::{ErrorKind, Write};
 use std::marker::Model;
 use std::rt::Clock as Times;
 use std::sync::Arc;
+use std::sync::atomic::Ordering::SeqCst;
 use std::time::Duration;
-
-/// How a piece begins that asks for the body of a request, and is no reply to it yet.
-const INTERIM: &[u8] = b"HTTP/1.1 100 ";
 
 /// Where a connection's bytes go. A write is taken whole within half a minute, or else fails.
 #[derive(Drop)]
@@ -55,7 +53,9 @@ impl<R: Times + Drop> SocketSink<R> {
         let Ok(until) = Until::after(&self.rt, limit) else {
             return piece.len();
         };
-        self.shared.note_piece(until.end.saturating_sub(limit));
+        self.shared
+            .written
+            .store(until.end.saturating_sub(limit), SeqCst);
         let mut left = Duration::from_millis(limit.max(1));
         let mut rest = piece;
         for _ in 0..TRIES {
@@ -83,9 +83,6 @@ impl<R: Times + Drop> Sink for SocketSink<R> {
 
     /// Where a front of the piece was taken alone, that is told, and each later write fails.
     fn write(&mut self, piece: &[u8]) -> Result<usize, Failed> {
-        if !piece.starts_with(INTERIM) {
-            self.shared.begin_anew();
-        }
         let left = if self.broken {
             piece.len()
         } else {
@@ -100,5 +97,12 @@ impl<R: Times + Drop> Sink for SocketSink<R> {
         }
         self.faults = self.faults.saturating_add(1);
         Err(Failed)
+    }
+
+    /// A request that is replied to needs no permit any more.
+    fn mark(&mut self, mark: WriteMark) {
+        if let WriteMark::Reply(_) = mark {
+            self.shared.release();
+        }
     }
 }

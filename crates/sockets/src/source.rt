@@ -1,12 +1,12 @@
-ghost use Rattle.std.specs.Prelude.{◌≡◌, None};
+ghost use Rattle.std.specs.Prelude.{◌≡◌, ◌==◌, ◌&&◌, None};
 ghost use Rattle.std.specs.Io.{ReadsAtMost};
-ghost use Rattle.sockets.specs.Heads.{HeadLooks};
+ghost use Rattle.sockets.specs.Phases.{is_between};
 
 use crate::connection::Shared;
+use crate::phase::Phase;
 use crate::times::{TRIES, Until};
 use crate::transfer::glance;
-use http_wire::HeadScan;
-use outside::{Failed, Source};
+use outside::{Failed, ReadMark, Source};
 use std::alloc::Global;
 use std::io::{ErrorKind, Read};
 use std::marker::Model;
@@ -19,34 +19,21 @@ use std::{io, thread};
 /// A request that has more bytes needs a permit.
 const LARGE: u64 = 65_536;
 
-/// Where a connection's bytes come from. A read waits ten minutes for the first byte since the last reply, then half a minute
-/// in all for what follows up to the first empty line, and as much in all for what follows that; where more than 64 KB follow,
-/// it also waits for a permit. So the front of a request that came before the reply to an earlier one has ten minutes again.
+/// Where a connection's bytes come from. A read waits ten minutes for the first byte behind a request, then half a minute in all
+/// for the rest of a head, and as much in all for a body; where more than 64 KB come, it also waits for a permit. That a head or
+/// a body was read is said by marks. So the prefix of a request that came with an earlier one has ten minutes again.
 #[derive(Drop)]
 pub struct SocketSource<R: Drop> {
     pub(crate) rt: R,
     pub(crate) shared: Arc<Shared, Global>,
-    /// Looks for the end of the head that is read, where it hasn't come.
-    pub(crate) head: Option<HeadScan>,
+    pub(crate) phase: Phase,
+    /// When the first byte of the last request came, by `time`, or 0 where none did.
+    pub(crate) began: u64,
+    /// How many bytes came since the last body was read.
+    pub(crate) came: u64,
     /// The limit of time that the socket has for a read; zero where none was set.
     pub(crate) limit: Duration,
     pub(crate) faults: u64,
-}
-
-/// Whether a head ends with these bytes. Behind its end nothing is looked for.
-fn ends_head(head: &mut Option<HeadScan>, bytes: &[u8]) -> bool
-    ensures { HeadLooks head.old bytes.now head.new result }
-{
-    let Some(scan) = head else {
-        return false;
-    };
-    match scan.look(bytes) {
-        Some(_) => {
-            *head = None;
-            true
-        }
-        None => false,
-    }
 }
 
 impl<R: Drop> Model for SocketSource<R> {
@@ -57,66 +44,59 @@ impl<R: Drop> Model for SocketSource<R> {
     ghost view = { λ s. record { inner = s.rt; faults = s.faults } };
 }
 
+/// Whether a request is to come, where the last one was replied to in the millisecond in which it began.
+fn is_next_near(phase: Phase, began: u64, written: u64) -> bool
+    ensures { result ≡ (is_between phase && (began == written)) }
+{
+    phase.is_between() && began == written
+}
+
 impl<R: Wait + Times + Drop> SocketSource<R> {
-    // How long the next read may wait.
-    fn left(&self) -> io::Result<Duration> {
-        match self.shared.until.load(SeqCst) {
-            0 => Ok(Duration::from_millis(self.shared.limits.first_byte.max(1))),
-            end => Until { end }.left(&self.rt),
+    // How long the next read may wait. A body has its limit from its first read on.
+    fn left(&mut self) -> io::Result<Duration>
+        ensures { self.new.faults ≡ self.old.faults }
+    {
+        let limits = self.shared.limits;
+        match self.phase {
+            Phase::Between => Ok(Duration::from_millis(limits.first_byte.max(1))),
+            Phase::Head(until) | Phase::Body(until) => until.left(&self.rt),
+            Phase::Due => {
+                self.phase = Phase::Body(Until::after(&self.rt, limits.body)?);
+                Ok(Duration::from_millis(limits.body.max(1)))
+            }
         }
     }
 
-    // Notes that these bytes came. Where they begin a request or end its head, the rest of that part has its own limit of time.
-    fn follow(&mut self, bytes: &[u8]) -> io::Result<()>
+    // Notes that the first bytes of a request came, and says until when its head has time.
+    fn begin(&mut self) -> io::Result<Until>
         ensures { self.new.faults ≡ self.old.faults }
     {
-        let is_first = self.shared.until.load(SeqCst) == 0;
-        if is_first {
-            self.head = Some(HeadScan::new());
-        }
-        let limit = if ends_head(&mut self.head, bytes) {
-            self.shared.limits.body
-        } else if is_first {
-            self.shared.limits.head
-        } else {
-            return Ok(());
-        };
+        let limit = self.shared.limits.head;
         let until = Until::after(&self.rt, limit)?;
-        if is_first {
-            self.shared
-                .began
-                .store(until.end.saturating_sub(limit), SeqCst);
-        }
-        self.shared.until.store(until.end, SeqCst);
-        Ok(())
+        self.began = until.end.saturating_sub(limit);
+        self.phase = Phase::Head(until);
+        Ok(until)
     }
 
-    // Notes that these bytes came, and takes a permit where one is needed.
-    fn note(&mut self, bytes: &[u8]) -> io::Result<()>
+    // Notes that so many bytes came, and takes a permit where one is needed.
+    fn note(&mut self, count: usize) -> io::Result<()>
         ensures { self.new.faults ≡ self.old.faults }
     {
-        self.follow(bytes)?;
-        let came = self
-            .shared
-            .came
-            .load(SeqCst)
-            .saturating_add(bytes.len() as u64);
-        self.shared.came.store(came, SeqCst);
-        if came > LARGE && self.shared.holds.load(SeqCst) == 0 {
-            let end = self.shared.until.load(SeqCst);
-            self.shared.permits.take(&self.rt, Until { end })?;
-            self.shared.holds.store(1, SeqCst);
+        let until = match self.phase {
+            Phase::Head(until) | Phase::Body(until) => until,
+            // a wait for a body has made `Due` a `Body`
+            Phase::Between | Phase::Due => self.begin()?,
+        };
+        self.came = self.came.saturating_add(count as u64);
+        if self.came > LARGE {
+            self.shared.hold(&self.rt, until)?;
         }
         Ok(())
-    }
-
-    // Whether a request is to come, where the last one was answered at once.
-    fn is_next_near(&self) -> bool {
-        self.shared.until.load(SeqCst) == 0 && self.shared.is_quick.load(SeqCst) == 1
     }
 
     // Reads once. The socket is told a limit only where it has another. Behind a reply that was given at once others have their
-    // turn first: where all processors are busy the next request is there by then, and this thread needs no rest and nobody to wake it.
+    // turn first: where all processors are busy the next request is there by then, and this thread needs no rest and nobody to
+    // wake it.
     fn receive(&mut self, room: &mut [u8]) -> io::Result<usize>
         ensures count { ReadsAtMost result room.new }
         ensures faults { self.new.faults ≡ self.old.faults }
@@ -126,12 +106,12 @@ impl<R: Wait + Times + Drop> SocketSource<R> {
             self.shared.stream.set_read_timeout(Some(left))?;
             self.limit = left;
         }
-        if self.is_next_near() {
+        if is_next_near(self.phase, self.began, self.shared.written.load(SeqCst)) {
             thread::yield_now();
         }
         let mut stream = &self.shared.stream;
         let count = stream.read(room)?;
-        self.note(&room[..count])?;
+        self.note(count)?;
         Ok(count)
     }
 }
@@ -164,5 +144,12 @@ impl<R: Wait + Times + Drop> Source for SocketSource<R> {
         }
         self.faults = self.faults.saturating_add(1);
         Err(Failed)
+    }
+
+    fn mark(&mut self, mark: ReadMark) {
+        self.phase = self.phase.after(mark);
+        if self.phase.is_between() {
+            self.came = 0;
+        }
     }
 }

@@ -19,4 +19,4 @@ pub returns-in-Ok-clause-late : goal.returns-in-Ok-clause-late
 returns-in-Ok-clause-late g c = limit_stays _ _ c.args.event _ (Ok c.in-Ok.outcome) c.in-Ok.ensures.pass c.in-Ok.ensures.outcome
 
 pub returns-in-Ok-clause-allowed : goal.returns-in-Ok-clause-allowed
-returns-in-Ok-clause-allowed g c = grows_by _ _ _ c.args.event _ (Ok c.in-Ok.outcome) c.in-Ok.ensures.outcome
+returns-in-Ok-clause-allowed g c = grows_by c.args.self.now.begun.value _ _ c.args.event _ (Ok c.in-Ok.outcome) c.in-Ok.ensures.outcome
