@@ -50,7 +50,7 @@ impl Board {
         None
     }
 
-    /// A call is answered.
+    /// The answer to a call was read.
     pub(crate) fn note_answer(&self) {
         self.answered.fetch_add(1, SeqCst);
     }

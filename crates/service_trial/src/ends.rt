@@ -4,7 +4,7 @@ use crate::board::Board;
 use crate::link::TrialLink;
 use crate::plan::Plan;
 use etcd_types::NoMemory;
-use outside::{Failed, MemSource, SeededDraw, Sink, SystemClock};
+use outside::{Failed, MemSource, SeededDraw, Sink, SystemClock, WriteMark};
 use part_threads::Ends;
 use std::alloc::Global;
 use std::random::RandomSource;
@@ -62,6 +62,8 @@ impl<R: Wait + Drop> Sink for TrialSink<R> {
         self.faults = self.faults.saturating_add(1);
         Err(Failed)
     }
+
+    fn mark(&mut self, _mark: WriteMark) {}
 }
 
 impl<R: Times + Wait + RandomSource + Drop + Copy + Send + 'static> Ends for TrialEnds<R> {
@@ -71,7 +73,7 @@ impl<R: Times + Wait + RandomSource + Drop + Copy + Send + 'static> Ends for Tri
 
     type Sink = TrialSink<R>;
 
-    type Stream = MemSource;
+    type Answer = MemSource;
 
     type Link = TrialLink;
 
@@ -89,7 +91,7 @@ impl<R: Times + Wait + RandomSource + Drop + Copy + Send + 'static> Ends for Tri
     }
 
     fn link(&self) -> Result<TrialLink, NoMemory> {
-        Ok(TrialLink::new(Arc::try_clone(&self.board)?))
+        Ok(TrialLink::new(self.alloc, Arc::try_clone(&self.board)?))
     }
 
     fn clock(&self) -> Result<SystemClock<R>, NoMemory> {
