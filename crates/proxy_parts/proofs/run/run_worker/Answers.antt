@@ -1,5 +1,5 @@
 -- The pass met the one that was split off before the work.
-use Rattle.std.proofs.Common.{◌≡◌, [], Some, IsTrue, List, subst}
+use Rattle.std.proofs.Common.{[], Some, IsTrue, subst}
 use Rattle.std.specs.Arc.{arc_value}
 use Rattle.turn_hub.specs.Known.{Known, made}
 use Rattle.turn_hub.specs.declared.view.Opening.{Opening}
@@ -20,6 +20,11 @@ returns-clause-grows g c =
 pub returns-clause-spent : goal.returns-clause-spent
 returns-clause-spent g c =
     let hosts = arc_value c.args.place.hosts in
-    let mid = c.keep_at_work-worked.result.pass in
-    subst (λ (k : Known (Opening Core) Step). IsSpent hosts (IsAt home_of (record k { seen = []; own = [] }, hosts)) NoEvent (IsTrue (is_at_limit c.meet.new.a)) TURNS (ledger (Some (made k)) _ _ _ _) (ledger (Some (made c.meet.new.a)) _ _ _ _)) c.split-before.ensures.pass
-    (spent_met hosts _ TURNS _ _ _ _ _ mid c.meet.new.a c.meet.ensures.a c.meet.ensures.seen.0 c.meet.ensures.stands c.meet.ensures.made c.keep_at_work-worked.ensures.spent)
+    let after = c.keep_at_work-worked.new in
+    let calls = g.L.Link.made after.link in
+    let handed = g.P.Spawner.handed after.spawner in
+    subst (λ (k : Known (Opening Core) Step). IsSpent hosts (IsAt home_of (record k { seen = []; own = [] }, hosts)) NoEvent (IsTrue (is_at_limit c.meet.new.a)) TURNS
+    (ledger (Some (made k)) (g.L.Link.made c.args.link.now) (g.P.Spawner.handed c.args.spawner.now) (g.L.Link.faults c.args.link.now) (g.P.Spawner.faults c.args.spawner.now))
+    (ledger (Some (made c.meet.new.a)) calls handed (g.L.Link.faults after.link) (g.P.Spawner.faults after.spawner))) c.split-before.ensures.pass
+    (spent_met hosts _ TURNS _ calls handed (g.L.Link.faults after.link) (g.P.Spawner.faults after.spawner) c.keep_at_work-worked.result.pass c.meet.new.a
+    c.meet.ensures.a c.meet.ensures.seen.0 c.meet.ensures.stands c.meet.ensures.made c.keep_at_work-worked.ensures.spent)
