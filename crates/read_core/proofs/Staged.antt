@@ -1,5 +1,5 @@
 -- Each comes into the stage of the rule, or stays, as the definitions have it.
-use Rattle.std.proofs.Common.{◌≡◌, ℕ, Bool, true, false, not, cond, List, [], map, Option, Some, None, refl, ap}
+use Rattle.std.proofs.Common.{◌≡◌, ℕ, Bool, true, false, not, ◌&&◌, ◌||◌, cond, List, [], ◌∷◌, map, Option, Some, None, refl, ap}
 use Rattle.etcd_types.specs.declared.record.Header.{Header}
 use Rattle.etcd_types.proofs.Bools.{and_first, and_second, and_false}
 use Rattle.proxy_model.specs.declared.lease.Entry.{Entry}
