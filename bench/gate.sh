@@ -7,7 +7,7 @@
 # checks elsewhere on the machine kept, so a first check is not measured; then what it kept is emptied, and the next one begins with nothing.
 set -euo pipefail
 top=$(cd "$(dirname "$0")/.." && pwd)
-. "$top/tests/program.sh"
+. "$top/tools/program.sh"
 
 # Prints the seconds of processor that a command took, or ends where it fails: seconds LOG COMMAND..
 seconds() {

@@ -11,7 +11,8 @@ use Rattle.core_laws.proofs.Stepping.{steps_keep}
 use Rattle.core_laws.proofs.Whole.{of_ok}
 use Rattle.core_fits.specs.Fits.{IsOfLeasing, CoreFits}
 use Rattle.core_fits.specs.Laws.{Starts, Lasts, RunsFit}
-use Rattle.core_fits.proofs.Beside.{Beside, stepped_beside}
+use Rattle.core_fits.proofs.Beside.{stepped_beside}
+use Rattle.core_fits.proofs.CallsBeside.{Beside}
 use Rattle.core_fits.proofs.Prefix.{clock_prefix}
 use Rattle.core_fits.proofs.Same.{same_starts, same_steps}
 use Rattle.core_fits.proofs.Served.{served_starts, served_steps, reads_start, reads_step}

@@ -2,6 +2,8 @@ pub mod Eachs
 pub mod WriteRows
 pub mod AskRows
 pub mod ReadRows
+pub mod CallRows
+pub mod NewRows
 pub mod CoreRows
 pub mod Prefix
 pub mod Served
@@ -9,6 +11,7 @@ pub mod Same
 pub mod Openings
 pub mod Seats
 pub mod Headers
+pub mod CallsBeside
 pub mod Beside
 pub mod Fit
 pub mod Ready

@@ -26,7 +26,8 @@ use Rattle.core_laws.proofs.Whole.{of_ok}
 use Rattle.core_fits.specs.Fits.{EachOf, IsSame, WritesAreAsked}
 use Rattle.core_fits.specs.Laws.{Starts, Lasts}
 use Rattle.core_fits.proofs.Eachs.{each_kept, each_pushed, each_before}
-use Rattle.core_fits.proofs.CoreRows.{CoreHas, Last, Brings, clock_has, happened_has, counted_has}
+use Rattle.core_fits.proofs.CallRows.{CoreHas, Last, clock_has}
+use Rattle.core_fits.proofs.CoreRows.{Brings, happened_has, counted_has}
 
 -- an ask agrees with all of these writes
 abbrev Agrees : List Write → Asked → Type 0

@@ -13,7 +13,8 @@ use Rattle.core_model.specs.Step.{stepped}
 use Rattle.core_laws.proofs.Staying.{steps_stay}
 use Rattle.core_fits.specs.Fits.{EachOf, Serves, AreServed, is_reading, ReadsAlone}
 use Rattle.core_fits.specs.Laws.{Starts, Lasts}
-use Rattle.core_fits.proofs.CoreRows.{CoreHas, Last, Brings, stepped_has}
+use Rattle.core_fits.proofs.CallRows.{CoreHas, Last}
+use Rattle.core_fits.proofs.CoreRows.{Brings, stepped_has}
 use Rattle.core_fits.proofs.Prefix.{clock_prefix}
 
 -- Served requests.

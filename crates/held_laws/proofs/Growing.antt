@@ -99,10 +99,10 @@ turn_grows w p x _ _ _ _ _ _ (leaves ticket o) = same_grows w.store
 
 pub effect_grows : (w after : World) (items : List Item) → Effect w after items → Grows w.store after.store
 effect_grows w _ _ (starts p clock life i b) = same_grows w.store
-effect_grows w _ _ (sets p millis x e) = same_grows w.store
+effect_grows w _ _ (sets p millis x e forward) = same_grows w.store
 effect_grows w _ _ (refuses_post p ticket path body a x e) = same_grows w.store
-effect_grows w _ _ (executes number call e) = (exec_leaves w.store call.member call.request).grown
-effect_grows w _ _ (expires lease t e) = (expired_leaves w.store t lease e).grown
+effect_grows w _ _ (executes number call e fresh) = (exec_leaves w.store call.member call.request).grown
+effect_grows w _ _ (expires lease t e due) = (expired_leaves w.store t lease e).grown
 effect_grows w _ _ (applies member revision t e) = (applied_leaves w.store t member revision e).grown
 effect_grows w _ _ (pushes number s t i e a b k) = ([], (message_leaves w.store t i number k).history ∙ sym (append-nil w.store.history))
 effect_grows w _ _ (turns p x e o v y own told at out t) = turn_grows w p _ e o v y own told t

@@ -343,11 +343,11 @@ pushed_now whole items w number i rest e s = record {
 pub effect_world : (namespace : List ℕ) (whole : Whole) (f : Change → Option Change) (items : List Item) (w after : World) (gained : List Item) (more : History) (rest : List Item) → Strips namespace f → IsShort whole → whole.history ≡ w.store.history ++ more → whole.items ≡ (items ++ gained) ++ rest → SeenOk (seen items) w
     → WorldOk namespace whole f items w → Effect w after gained → WorldOk namespace whole f (items ++ gained) after
 effect_world namespace whole f items w _ _ more rest k short e all sn h (starts p clock life' i b) = start_world namespace whole f items w p clock life' i h b
-effect_world namespace whole f items w _ _ more rest k short e all sn h (sets p millis x at) = set_world namespace whole f items w p millis x h at
+effect_world namespace whole f items w _ _ more rest k short e all sn h (sets p millis x at forward) = set_world namespace whole f items w p millis x h at
 effect_world namespace whole f items w _ _ more rest k short e all sn h (refuses_post p ticket path body a x at) = refuse_world namespace whole f items w p ticket path body a x h at
-effect_world namespace whole f items w _ _ more rest k short e all sn h (executes number call there) =
+effect_world namespace whole f items w _ _ more rest k short e all sn h (executes number call there fresh) =
     store_world namespace whole f items w _ _ h (exec_leaves w.store call.member call.request) refl refl refl (λ q. (record { takes = λ t. refl; lives = λ l. refl }, λ t. refl))
-effect_world namespace whole f items w _ _ more rest k short e all sn h (expires lease t g) =
+effect_world namespace whole f items w _ _ more rest k short e all sn h (expires lease t g due) =
     store_world namespace whole f items w _ _ h (expired_leaves w.store t lease g) refl refl refl (λ q. (record { takes = λ t. refl; lives = λ l. refl }, λ t. refl))
 effect_world namespace whole f items w _ _ more rest k short e all sn h (applies member revision t g) =
     store_world namespace whole f items w _ _ h (applied_leaves w.store t member revision g) refl refl refl (λ q. (record { takes = λ t. refl; lives = λ l. refl }, λ t. refl))

@@ -79,10 +79,10 @@ turn_slow w p x _ _ _ _ _ _ (leaves ticket o) = refl
 
 effect_slow : (w after : World) (items : List Item) → Effect w after items → Slow w.store after.store
 effect_slow w _ _ (starts p clock life i b) = same_slow w.store w.store refl
-effect_slow w _ _ (sets p millis x e) = same_slow w.store w.store refl
+effect_slow w _ _ (sets p millis x e forward) = same_slow w.store w.store refl
 effect_slow w _ _ (refuses_post p ticket path body a x e) = same_slow w.store w.store refl
-effect_slow w _ _ (executes number call e) = gained_slow w.store (exec w.store call.member call.request).0 (whole-exec w.store call.member call.request).gains
-effect_slow w _ _ (expires lease t e) = gained_slow w.store t (expiries_make_one_revision w.store t lease e)
+effect_slow w _ _ (executes number call e fresh) = gained_slow w.store (exec w.store call.member call.request).0 (whole-exec w.store call.member call.request).gains
+effect_slow w _ _ (expires lease t e due) = gained_slow w.store t (expiries_make_one_revision w.store t lease e)
 effect_slow w _ _ (applies member revision t e) = same_slow w.store t (applied_same w.store t member revision e)
 effect_slow w _ _ (pushes number s t i e a b k) = same_slow w.store t (message_leaves w.store t i number k).history
 effect_slow w _ _ (turns p x e o v y own told at out t) = same_slow w.store v.store (turn_slow w p _ e o v y own told t)

@@ -89,15 +89,15 @@ started_seen s w p _ _ _ (again x e) = refl
 pub effect_seen : (s : Seen) (w after : World) (gained : List Item) → SeenOk s w → Effect w after gained → SeenOk (saw_all s gained) after
 effect_seen s w _ _ h (starts p clock life' i b) =
     let same = started_seen s w p clock life' i b in record { store = ap (λ (t : Seen). t.store) same ∙ h.store; calls = ap (λ (t : Seen). t.calls) same ∙ h.calls }
-effect_seen s w _ _ h (sets p millis x at) = record { store = h.store; calls = h.calls }
+effect_seen s w _ _ h (sets p millis x at forward) = record { store = h.store; calls = h.calls }
 effect_seen s w _ _ h (refuses_post p ticket path body a x at) =
     let same = (reply_quiet p (with_posted ticket x).posted (ticket, a)).tell_nothing s in
     record { store = ap (λ (t : Seen). t.store) same ∙ h.store; calls = ap (λ (t : Seen). t.calls) same ∙ h.calls }
-effect_seen s w _ _ h (executes number call e) = record {
+effect_seen s w _ _ h (executes number call e fresh) = record {
   store = ap (after_call s.store) (call_seen s w number call h e) ∙ ap (λ (t : State). (exec t call.member call.request).0) h.store;
   calls = h.calls ∙ sym (call_same w.calls number call _ e refl);
 }
-effect_seen s w _ _ h (expires lease t e) = record { store = ap (λ (u : State). after_step u (expired u lease)) h.store ∙ ap (after_step w.store) e; calls = h.calls }
+effect_seen s w _ _ h (expires lease t e due) = record { store = ap (λ (u : State). after_step u (expired u lease)) h.store ∙ ap (after_step w.store) e; calls = h.calls }
 effect_seen s w _ _ h (applies member revision t e) = record { store = ap (λ (u : State). after_step u (applied u member revision)) h.store ∙ ap (after_step w.store) e; calls = h.calls }
 effect_seen s w _ _ h (pushes number u t i e a b k) = record { store = ap (λ (v : State). after_push v (message_by v number i)) h.store ∙ ap (after_push w.store) (message_seen w.store number t i k); calls = h.calls }
 effect_seen s w _ _ h (turns p x e o v y own told at out t) =

@@ -1,5 +1,5 @@
 -- How a scan goes on behind bytes without a line feed, and behind a line feed.
-use Rattle.std.proofs.Common.{◌≡◌, ℕ, zero, suc, ◌+◌, ◌<◌, ◌≤◌, Bool, true, false, not, ◌||◌, ◌==◌, if◌then◌else◌, IsTrue, refl, List, [], ◌∷◌, ◌++◌, length, take, drop, get_or, sym, ap, ◌∙◌, arith, append_assoc, Option, None, Some}
+use Rattle.std.proofs.Common.{◌≡◌, ℕ, suc, ◌+◌, ◌<◌, Bool, true, false, not, ◌||◌, ◌==◌, if◌then◌else◌, IsTrue, refl, List, [], ◌∷◌, ◌++◌, length, take, drop, get_or, sym, ap, ◌∙◌, arith, append_assoc, Option, None, Some}
 use Rattle.std.proofs.lemmas.Bool.{false≢true, eqb-true}
 use Rattle.std.proofs.lemmas.List.{take-append-drop, length-take, drop_more, drop-drop}
 use Rattle.std.specs.List.{list_any}
@@ -11,7 +11,6 @@ use Rattle.http_wire.specs.declared.scan.Feed.TheVariants.{Last, Ended}
 use Rattle.http_wire.specs.Bodies.{is_unfinished}
 use Rattle.http_wire.specs.Ends.{first_of, then_feed, empty_line, later, line_length, head_length, trailer_length}
 use Rattle.http_wire.specs.Places.{feed_length, length_from, IsBehind, Feeds}
-use Rattle.http_wire.proofs.Feeds.{front_unfinished}
 
 -- ---- counts
 

@@ -12,6 +12,7 @@ use Rattle.http1.specs.declared.fields.TransferEncoding.{TransferEncoding}
 use Rattle.http1.specs.declared.fields.TransferEncoding.TheVariants as coding
 use Rattle.http_wire.specs.declared.fault.WireFault.{WireFault}
 use Rattle.http_wire.specs.declared.fault.WireFault.TheVariants.{BadHead, HeadTooLong, EndedEarly, ReadFault, NoMemory}
+use Rattle.http_wire.specs.declared.message.AnswerHead.{AnswerHead}
 use Rattle.http_wire.specs.declared.message.Framing.{Framing}
 use Rattle.http_wire.specs.declared.message.Framing.TheVariants as framing
 use Rattle.http_wire.specs.declared.message.Head.{Head}
@@ -83,27 +84,31 @@ is_bodiless status = (nat_le 100 status && nat_lt status 200) || status == 204 |
 abbrev pub unstated : ℕ → Framing
 unstated status = if is_bodiless status then framing.Length 0 else framing.ToEnd
 
--- a status with its body's framing
-abbrev pub answer_with : ℕ → Result (Option Framing) WireFault → Result (ℕ × Framing) WireFault
-answer_with status (Err e) = Err e
-answer_with status (Ok found) = Ok (status, unwrap_or found (unstated status))
+-- the head that these parts make; its connection closes behind it where `Connection` lists `close`
+abbrev pub answer_with : ℕ → List Header → Result (Option Framing) WireFault → Result AnswerHead WireFault
+answer_with status fields (Err e) = Err e
+answer_with status fields (Ok found) = Ok (record {
+  status = status;
+  framing = unwrap_or found (unstated status);
+  closes = (known_fields fields).close;
+})
 
 -- what an answer of this version, status and fields says
-abbrev pub answer_from : ℕ → ℕ → List Header → Result (ℕ × Framing) WireFault
-answer_from minor status fields = if minor == 1 then answer_with status (stated (known_fields fields)) else Err BadHead
+abbrev pub answer_from : ℕ → ℕ → List Header → Result AnswerHead WireFault
+answer_from minor status fields = if minor == 1 then answer_with status fields (stated (known_fields fields)) else Err BadHead
 
 -- what an answer's head says: HTTP/1.1, and a body to the end of the input where none is stated
-abbrev pub answer_of : ResponseHead → Result (ℕ × Framing) WireFault
+abbrev pub answer_of : ResponseHead → Result AnswerHead WireFault
 answer_of h = answer_from h.minor (status_code h) (map name_and_value h.fields)
 
 -- the answer, or a bad head
-abbrev pub GivesAnswer : Result (ℕ × Framing) WireFault → Result (ℕ × Framing) WireFault → Type 0
+abbrev pub GivesAnswer : Result AnswerHead WireFault → Result AnswerHead WireFault → Type 0
 GivesAnswer (Ok answer) expected = expected ≡ Ok answer
 GivesAnswer (Err BadHead) expected = expected ≡ Err BadHead
 GivesAnswer (Err _) expected = ⊥
 
 -- the same as `IsHead` for an answer
-abbrev pub IsAnswer : List ℕ → Result (ℕ × Framing) WireFault → Type 0
+abbrev pub IsAnswer : List ℕ → Result AnswerHead WireFault → Type 0
 IsAnswer bytes (Ok answer) = (h : ResponseHead) × ReadsResponse bytes h [] × (length h.fields ≤ FIELD_LIMIT) × (answer_of h ≡ Ok answer)
 IsAnswer bytes (Err BadHead) = (h : ResponseHead) → ReadsResponse bytes h [] → length h.fields ≤ FIELD_LIMIT → answer_of h ≡ Err BadHead
 IsAnswer bytes (Err _) = ⊥
@@ -126,7 +131,7 @@ HeadRead all rest (Err NoMemory) = ⊤
 HeadRead all rest (Err _) = ⊥
 
 -- the same for an answer, which has to come
-abbrev pub AnswerRead : List ℕ → List ℕ → Result (ℕ × Framing) WireFault → Type 0
+abbrev pub AnswerRead : List ℕ → List ℕ → Result AnswerHead WireFault → Type 0
 AnswerRead all rest (Ok answer) = (n : ℕ) × (head_end all ≡ ending.At n) × IsAnswer (take n all) (Ok answer) × (rest ≡ drop n all)
 AnswerRead all rest (Err BadHead) = (n : ℕ) × (head_end all ≡ ending.At n) × IsAnswer (take n all) (Err BadHead)
 AnswerRead all rest (Err HeadTooLong) = head_end all ≡ ending.Over

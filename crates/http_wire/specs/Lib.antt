@@ -2,7 +2,6 @@ pub mod Connections
 pub mod Ends
 pub mod Held
 pub mod Places
-pub mod HeadScans
 pub mod Reads
 pub mod Sizes
 pub mod Heads

@@ -61,7 +61,14 @@ last_chunk = concat (codes "0" ∷ line_end ∷ line_end ∷ [])
 abbrev pub go_on : List ℕ
 go_on = concat (codes "HTTP/1.1 100 Continue" ∷ line_end ∷ line_end ∷ [])
 
--- the fields of a call after its host, and the empty line
+-- a call to a member whose head has these fields after its host, and then an empty line
+abbrev pub call_with : List ℕ → List ℕ → List ℕ → List ℕ → List ℕ
+call_with host path fields body = concat (
+    codes "POST " ∷ path ∷ codes " HTTP/1.1" ∷ line_end
+    ∷ codes "Host: " ∷ host ∷ line_end
+    ∷ fields ∷ body ∷ [])
+
+-- the fields of a call behind whose answer the connection is closed, and the empty line
 abbrev pub call_fields : ℕ → List ℕ
 call_fields length = concat (
     codes "Content-Type: application/json" ∷ line_end
@@ -69,12 +76,20 @@ call_fields length = concat (
     ∷ codes "Content-Length: " ∷ decimal length ∷ line_end
     ∷ line_end ∷ [])
 
--- a call to a member
+-- those of a call behind whose answer it stays, as it does where no field asks for its end (section 9.3)
+abbrev pub kept_call_fields : ℕ → List ℕ
+kept_call_fields length = concat (
+    codes "Content-Type: application/json" ∷ line_end
+    ∷ codes "Content-Length: " ∷ decimal length ∷ line_end
+    ∷ line_end ∷ [])
+
+-- a call to a member on a connection of its own
 abbrev pub call : List ℕ → List ℕ → List ℕ → List ℕ
-call host path body = concat (
-    codes "POST " ∷ path ∷ codes " HTTP/1.1" ∷ line_end
-    ∷ codes "Host: " ∷ host ∷ line_end
-    ∷ call_fields (length body) ∷ body ∷ [])
+call host path body = call_with host path (call_fields (length body)) body
+
+-- a call to a member on a connection that stays
+abbrev pub kept_call : List ℕ → List ℕ → List ℕ → List ℕ
+kept_call host path body = call_with host path (kept_call_fields (length body)) body
 
 -- ---- at a sink
 

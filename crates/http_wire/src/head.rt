@@ -6,7 +6,7 @@ ghost use Rattle.http_wire.specs.Heads as spec;
 
 use crate::fault::WireFault;
 use crate::limits::FIELD_LIMIT;
-use crate::message::{Framing, Head};
+use crate::message::{AnswerHead, Framing, Head};
 use etcd_types::Bytes;
 use http::Method;
 use http::method::MethodError;
@@ -132,7 +132,7 @@ fn answer_from(
     bytes: &[u8],
     spans: ResponseSpans,
     fields: &[HeaderSpan],
-) -> Result<(u16, Framing), WireFault>
+) -> Result<AnswerHead, WireFault>
     requires { All (IsHeaderWithin (length bytes.now)) fields.now }
     ensures { spec.GivesAnswer result (spec.answer_from spans.version spans.code (map (header_bytes bytes.now) fields.now)) }
 {
@@ -141,12 +141,16 @@ fn answer_from(
     }
     let known = KnownFields::from_spans(bytes, fields);
     let framing = stated(&known)?;
-    Ok((spans.code, framing.unwrap_or(unstated(spans.code))))
+    Ok(AnswerHead {
+        status: spans.code,
+        framing: framing.unwrap_or(unstated(spans.code)),
+        closes: known.close,
+    })
 }
 
 /// Reads the bytes as one whole head of an answer.
 #[tactic(auto, using(crate::proofs::Reading::answer_read))]
-pub(crate) fn parse_answer(bytes: &[u8]) -> Result<(u16, Framing), WireFault>
+pub(crate) fn parse_answer(bytes: &[u8]) -> Result<AnswerHead, WireFault>
     ensures { spec.IsAnswer bytes.now result }
 {
     let mut fields = [EMPTY_HEADER_SPAN; FIELD_LIMIT];

@@ -8,12 +8,12 @@ use crate::buffer::Buffer;
 use crate::ends::find_end;
 use crate::fault::WireFault;
 use crate::head::{parse_answer, parse_head};
-use crate::message::{Framing, Head};
+use crate::message::{AnswerHead, Head};
 use crate::scan::{Ending, Place};
-use outside::Source;
+use outside::{ReadMark, Source};
 use std::alloc::Global;
 
-/// The next request's head, or none where the bytes end before it.
+/// The next request's head, which the source is told of, or none where the bytes end before it.
 #[tactic(auto, using(crate::proofs::Ahead::none_ahead))]
 pub(crate) fn next_head<S: Source>(
     alloc: Global,
@@ -29,6 +29,7 @@ pub(crate) fn next_head<S: Source>(
         Ending::At(length) => {
             let head = parse_head(alloc, &buffer.bytes()[..length])?;
             buffer.let_go(length);
+            source.mark(ReadMark::Head);
             Ok(Some(head))
         }
         Ending::Over => Err(WireFault::HeadTooLong),
@@ -37,11 +38,11 @@ pub(crate) fn next_head<S: Source>(
     }
 }
 
-/// The head of the answer that comes next: its status, and its body's framing.
+/// The head of the answer that comes next.
 pub(crate) fn next_answer<S: Source>(
     buffer: &mut Buffer,
     source: &mut S,
-) -> Result<(u16, Framing), WireFault>
+) -> Result<AnswerHead, WireFault>
     ensures read { ReadsAhead AnswerRead (ahead (S.left source.old) buffer.old) (ahead (S.left source.new) buffer.new) result }
     ensures reading { IfErr result IsOfReading }
     ensures cause { IsErrOf result WireFault.ReadFault → Rose (S.faults source.old) (S.faults source.new) }

@@ -10,7 +10,6 @@ mod buffer;
 mod ends;
 mod fault;
 mod head;
-mod head_scan;
 mod heads;
 mod limits;
 mod lines;
@@ -22,11 +21,10 @@ mod wire;
 mod written;
 
 pub use fault::WireFault;
-pub use head_scan::HeadScan;
 pub use limits::{BODY_LIMIT, FIELD_LIMIT, HEAD_LIMIT, LINE_LIMIT, limits_are_stated};
-pub use message::{Framing, Head};
+pub use message::{AnswerHead, Framing, Head};
 pub use wire::Wire;
 pub use written::{
     begin_chunks, end_chunks, write_bodiless_reply, write_call, write_chunk, write_continue,
-    write_reply,
+    write_kept_call, write_reply,
 };

@@ -29,3 +29,14 @@ pub struct Head {
     /// A `Content-Encoding` is there that isn't `identity`.
     pub encoded: bool,
 }
+
+/// The head of an answer.
+#[derive(Clone, Copy, Debug, PartialEq, Eq)]
+pub struct AnswerHead {
+    /// The status, from 0 to 999.
+    pub status: u16,
+    /// The body's framing.
+    pub framing: Framing,
+    /// `Connection` lists `close`: no other answer comes on this connection (RFC 9112, section 9.6).
+    pub closes: bool,
+}

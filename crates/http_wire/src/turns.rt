@@ -2,15 +2,16 @@ ghost use Rattle.std.specs.Prelude.{◌≡◌, ◌+◌, ◌<◌, ◌≤◌, true
 ghost use Rattle.outside.specs.Faults.{Rose};
 ghost use Rattle.http_wire.specs.Connections.{IsOfReading};
 ghost use Rattle.http_wire.specs.Held.{held, ahead, ReadsAhead};
-ghost use Rattle.http_wire.specs.Bodies.{WholeRead};
+ghost use Rattle.http_wire.specs.Bodies.{BodyRead, WholeRead};
 ghost use Rattle.http_wire.specs.Steps as spec;
 
 use crate::body::{Next, ready, settle};
 use crate::buffer::Buffer;
 use crate::fault::WireFault;
+use crate::limits::BODY_LIMIT;
 use crate::message::Framing;
 use etcd_types::Bytes;
-use outside::Source;
+use outside::{ReadMark, Source};
 use std::alloc::Global;
 
 /// The framing after so many bytes of what came next.
@@ -96,4 +97,21 @@ pub(crate) fn whole_body<S: Source>(
     let mut body = Vec::new(alloc);
     while body_turn(buffer, source, &mut framing, &mut body, most)? {}
     Ok(Bytes::from_vec(body))
+}
+
+/// Reads the body of a request, and tells the source that it was read.
+pub(crate) fn request_body<S: Source>(
+    alloc: Global,
+    buffer: &mut Buffer,
+    source: &mut S,
+    framing: Framing,
+) -> Result<Bytes, WireFault>
+    ensures read { ReadsAhead (BodyRead framing) (ahead (S.left source.old) buffer.old) (ahead (S.left source.new) buffer.new) result }
+    ensures reading { IfErr result IsOfReading }
+    ensures cause { IsErrOf result WireFault.ReadFault → Rose (S.faults source.old) (S.faults source.new) }
+    ensures kept { S.faults source.old ≤ S.faults source.new }
+{
+    let body = whole_body(alloc, buffer, source, framing, BODY_LIMIT)?;
+    source.mark(ReadMark::Body);
+    Ok(body)
 }

@@ -1,14 +1,13 @@
-ghost use Rattle.std.specs.Prelude.{◌≡◌, ◌≤◌, [], None, IfOk, IfErr, IfSome, IsErrOf};
+ghost use Rattle.std.specs.Prelude.{◌≡◌, ◌≤◌, ◌↔◌, [], None, IfOk, IfErr, IfSome, IsErrOf, IsTrue};
 ghost use Rattle.outside.specs.Faults.{Rose};
 
 use crate::body::wait;
 use crate::buffer::Buffer;
 use crate::fault::WireFault;
 use crate::heads::{next_answer, next_head};
-use crate::limits::BODY_LIMIT;
 use crate::lines::whole_line;
-use crate::message::{Framing, Head};
-use crate::turns::whole_body;
+use crate::message::{AnswerHead, Framing, Head};
+use crate::turns::{request_body, whole_body};
 use etcd_types::{Bytes, NoMemory};
 use outside::Source;
 use std::alloc::Global;
@@ -58,6 +57,13 @@ impl Wire {
         })
     }
 
+    /// Whether no byte is held: all that was read of the source was used.
+    pub fn is_clear(&self) -> bool
+        ensures { IsTrue result ↔ (self.now.held ≡ []) }
+    {
+        self.buffer.is_empty()
+    }
+
     /// Reads until a byte is held, and says whether one is: none comes only at the input's end. So a caller can wait for the
     /// first byte of a head in another way than for the rest of it.
     ///
@@ -78,7 +84,7 @@ impl Wire {
         self.remember(some)
     }
 
-    /// The head of the next request, or none where the bytes end before it.
+    /// The head of the next request, or none where the bytes end before it. The source hears that a head was read.
     ///
     /// BadHead, HeadTooLong and EndedEarly say what the bytes are; ReadFault that the source failed.
     pub fn read_head<S: Source>(&mut self, source: &mut S) -> Result<Option<Head>, WireFault>
@@ -98,7 +104,7 @@ impl Wire {
         self.remember(head)
     }
 
-    /// The body that follows a request's head.
+    /// The body that follows a request's head. The source hears that it was read.
     ///
     /// BodyTooLong comes as soon as its length, or the size of a chunk, says more than the limit; BadChunk, EndedEarly and,
     /// for a trailer, BadHead and HeadTooLong say what the bytes are; ReadFault that the source failed.
@@ -114,20 +120,14 @@ impl Wire {
         if let Some(fault) = self.fault {
             return Err(fault);
         }
-        let body = whole_body(
-            self.alloc,
-            &mut self.buffer,
-            source,
-            head.framing,
-            BODY_LIMIT,
-        );
+        let body = request_body(self.alloc, &mut self.buffer, source, head.framing);
         self.remember(body)
     }
 
-    /// The head of the next answer: its status, and its body's framing. A status of 1xx is given like any other.
+    /// The head of the next answer. One with a status of 1xx is given like any other.
     ///
     /// BadHead, HeadTooLong and EndedEarly say what the bytes are; ReadFault that the source failed.
-    pub fn read_answer<S: Source>(&mut self, source: &mut S) -> Result<(u16, Framing), WireFault>
+    pub fn read_answer<S: Source>(&mut self, source: &mut S) -> Result<AnswerHead, WireFault>
         ensures read { self.old.fault ≡ None → ReadsAhead AnswerRead (bytes_ahead (S.left source.old) self.old)
             (bytes_ahead (S.left source.new) self.new) result }
         ensures fault { self.old.fault ≡ None → self.new.fault ≡ fault_after result }

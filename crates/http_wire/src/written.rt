@@ -4,7 +4,7 @@ ghost use Rattle.http_wire.specs.Written as spec;
 
 use crate::fault::WireFault;
 use etcd_types::{Bytes, NoMemory};
-use outside::{Sink, write_whole};
+use outside::{Sink, WriteMark, write_whole};
 use std::alloc::{AllocError, Global};
 
 /// The phrase of each status that a reply here has; another status has none.
@@ -81,10 +81,23 @@ fn call_fields(alloc: Global, length: usize) -> Result<String, AllocError>
     )?)
 }
 
-fn call(alloc: Global, host: &[u8], path: &[u8], body: &[u8]) -> Result<Vec<u8>, AllocError>
-    ensures { IfOk result (λ all. all.items ≡ spec.call host.now path.now body.now) }
+/// The same fields without the one that asks for the end of the connection.
+fn kept_call_fields(alloc: Global, length: usize) -> Result<String, AllocError>
+    ensures { IfOk result (λ text. string_bytes text ≡ spec.kept_call_fields length) }
 {
-    let fields = call_fields(alloc, body.len())?;
+    Ok(format!(in alloc; "Content-Type: application/json\r\nContent-Length: {length}\r\n\r\n")?)
+}
+
+/// A call with these fields after its host.
+fn call_with(
+    alloc: Global,
+    host: &[u8],
+    path: &[u8],
+    fields: &str,
+    body: &[u8],
+) -> Result<Vec<u8>, AllocError>
+    ensures { IfOk result (λ all. all.items ≡ spec.call_with host.now path.now fields.now body.now) }
+{
     let mut all = Vec::new(alloc);
     all.extend_from_slice(b"POST ")?;
     all.extend_from_slice(path)?;
@@ -108,6 +121,16 @@ fn send<K: Sink>(sink: &mut K, bytes: &[u8]) -> Result<(), WireFault>
     }
 }
 
+/// Tells the sink what comes, and writes all the bytes, or a front of them where the sink fails.
+fn announce<K: Sink>(sink: &mut K, mark: WriteMark, bytes: &[u8]) -> Result<(), WireFault>
+    ensures written { spec.Writes (K.written sink.old) (K.written sink.new) bytes.now result }
+    ensures cause { IsErrOf result WireFault.WriteFault → Rose (K.faults sink.old) (K.faults sink.new) }
+    ensures kept { K.faults sink.old ≤ K.faults sink.new }
+{
+    sink.mark(mark);
+    Ok(send(sink, bytes)?)
+}
+
 /// Writes a reply with its length. The phrase is that of the status, where it is one that the gateway answers with.
 pub fn write_reply<K: Sink>(
     alloc: Global,
@@ -120,7 +143,7 @@ pub fn write_reply<K: Sink>(
     ensures kept { K.faults sink.old ≤ K.faults sink.new }
 {
     match reply(alloc, status, body) {
-        Ok(all) => Ok(send(sink, all.as_slice())?),
+        Ok(all) => Ok(announce(sink, WriteMark::Reply(status), all.as_slice())?),
         Err(_) => Err(WireFault::NoMemory),
     }
 }
@@ -137,7 +160,7 @@ pub fn write_bodiless_reply<K: Sink>(
     ensures kept { K.faults sink.old ≤ K.faults sink.new }
 {
     match reply_head(alloc, status, body.len(), HEAD_ROOM) {
-        Ok(head) => Ok(send(sink, head.as_bytes())?),
+        Ok(head) => Ok(announce(sink, WriteMark::Reply(status), head.as_bytes())?),
         Err(_) => Err(WireFault::NoMemory),
     }
 }
@@ -148,8 +171,9 @@ pub fn begin_chunks<K: Sink>(sink: &mut K) -> Result<(), WireFault>
     ensures cause { IsErrOf result WireFault.WriteFault → Rose (K.faults sink.old) (K.faults sink.new) }
     ensures kept { K.faults sink.old ≤ K.faults sink.new }
 {
-    send(
+    announce(
         sink,
+        WriteMark::Reply(200),
         b"HTTP/1.1 200 OK\r\nContent-Type: application/json\r\nTransfer-Encoding: chunked\r\n\r\n",
     )
 }
@@ -161,7 +185,7 @@ pub fn write_chunk<K: Sink>(alloc: Global, sink: &mut K, piece: &[u8]) -> Result
     ensures kept { K.faults sink.old ≤ K.faults sink.new }
 {
     match chunk(alloc, piece) {
-        Ok(all) => Ok(send(sink, all.as_slice())?),
+        Ok(all) => Ok(announce(sink, WriteMark::Message, all.as_slice())?),
         Err(_) => Err(WireFault::NoMemory),
     }
 }
@@ -181,13 +205,29 @@ pub fn write_continue<K: Sink>(sink: &mut K) -> Result<(), WireFault>
     ensures cause { IsErrOf result WireFault.WriteFault → Rose (K.faults sink.old) (K.faults sink.new) }
     ensures kept { K.faults sink.old ≤ K.faults sink.new }
 {
-    send(sink, b"HTTP/1.1 100 Continue\r\n\r\n")
+    announce(sink, WriteMark::Continue, b"HTTP/1.1 100 Continue\r\n\r\n")
 }
 
 /// The bytes of a call to a member: a POST after whose answer the connection is closed.
 pub fn write_call(alloc: Global, host: &[u8], path: &[u8], body: &[u8]) -> Result<Bytes, NoMemory>
     ensures { IfOk result (λ bytes. bytes ≡ spec.call host.now path.now body.now) }
 {
-    let bytes = call(alloc, host, path, body)?;
+    let fields = call_fields(alloc, body.len())?;
+    let bytes = call_with(alloc, host, path, fields.as_str(), body)?;
+    Ok(Bytes::from_vec(bytes))
+}
+
+/// The bytes of a call to a member after whose answer the connection stays: those of `write_call` without the field that asks
+/// for its end, since it stays where nobody asks for that (RFC 9112, section 9.3).
+pub fn write_kept_call(
+    alloc: Global,
+    host: &[u8],
+    path: &[u8],
+    body: &[u8],
+) -> Result<Bytes, NoMemory>
+    ensures { IfOk result (λ bytes. bytes ≡ spec.kept_call host.now path.now body.now) }
+{
+    let fields = kept_call_fields(alloc, body.len())?;
+    let bytes = call_with(alloc, host, path, fields.as_str(), body)?;
     Ok(Bytes::from_vec(bytes))
 }

@@ -93,11 +93,11 @@ turn_heard w v p x y e o own told (leaves ticket z) h = h
 
 effect_heard : (w after : World) (items : List Item) → Effect w after items → WorldUnder w → Heard w → Heard after
 effect_heard w after items (starts p clock life i b) k h = h
-effect_heard w after items (sets p millis x e) k h = h
+effect_heard w after items (sets p millis x e forward) k h = h
 effect_heard w after items (refuses_post p ticket path body a x e) k h = h
-effect_heard w after items (executes number call e) k h =
+effect_heard w after items (executes number call e fresh) k h =
     with_nth_all (IfAnswered w.namespace w.members) w.calls number _ (executed_now w call (call_under w number call e k) k.store) h
-effect_heard w after items (expires lease t e) k h = h
+effect_heard w after items (expires lease t e due) k h = h
 effect_heard w after items (applies member revision t e) k h = h
 effect_heard w after items (pushes number s t i e a b f) k h = h
 effect_heard w after items (turns p x e o v y own told at is t) k h = turn_heard w v p (with_core x (stepped x.core e x.clock).core) y e o own told t h

@@ -174,11 +174,11 @@ record Gone (w after : World) (items : List Item) (c : State) : Type 0 where
 
 effect_so : (w after : World) (items : List Item) (c : State) → Effect w after items → WorldUnder w → Sound c → w.store ≡ stored w.namespace c → Gone w after items c
 effect_so w after items c (starts p clock life i b) k h is = record { namespace = refl; moved = stays w c _ w.store h is (begins_quiet w p clock life i b) }
-effect_so w after items c (sets p millis x e) k h is = record { namespace = refl; moved = stays w c _ w.store h is refl }
+effect_so w after items c (sets p millis x e forward) k h is = record { namespace = refl; moved = stays w c _ w.store h is refl }
 effect_so w after items c (refuses_post p ticket path body a x e) k h is =
     record { namespace = refl; moved = stays w c _ w.store h is (body_quiet (is_among _ ticket) p ticket a) }
-effect_so w after items c (executes number call e) k h is = record { namespace = refl; moved = executes_so w c number call e (call_under w number call e k) h is }
-effect_so w after items c (expires lease t e) k h is = record { namespace = refl; moved = expires_so w c lease t e h is }
+effect_so w after items c (executes number call e fresh) k h is = record { namespace = refl; moved = executes_so w c number call e (call_under w number call e k) h is }
+effect_so w after items c (expires lease t e due) k h is = record { namespace = refl; moved = expires_so w c lease t e h is }
 effect_so w after items c (applies member revision t e) k h is = record { namespace = refl; moved = applies_so w c member revision t e h is }
 effect_so w after items c (pushes number s t i e a b f) k h is = record { namespace = refl; moved = pushes_so w c number t i f h is }
 effect_so w after items c (turns p x e o v y own told at f t) k h is =

@@ -196,12 +196,12 @@ turn_under w v p x y e o own told at is t h =
 
 effect_so : (w after : World) (items : List Item) → Effect w after items → WorldUnder w → WorldUnder after
 effect_so w after items (starts p clock life i b) h = with_place_so w p (new_place w clock life) (record { namespace = refl; core = starts_named (settings w) }) h
-effect_so w after items (sets p millis x e) h = with_place_so w p (record x { clock = millis }) (same_core w.namespace w.leasing x _ refl (place_so w p x e h)) h
+effect_so w after items (sets p millis x e forward) h = with_place_so w p (record x { clock = millis }) (same_core w.namespace w.leasing x _ refl (place_so w p x e h)) h
 effect_so w after items (refuses_post p ticket path body a x e) h = with_place_so w p (with_posted ticket x) (same_core w.namespace w.leasing x _ refl (place_so w p x e h)) h
-effect_so w after items (executes number call e) h =
+effect_so w after items (executes number call e fresh) h =
     let u = call_under w number call e h in
     record { places = h.places; calls = with_nth_all (SentUnder w.namespace) w.calls number _ u h.calls; store = executes_so w call u h.store }
-effect_so w after items (expires lease t e) h = with_store_so w t (one_more w.namespace w.members w.store t (lives.expires lease) refl (sym (ap (state_or w.store) e)) h.store) h
+effect_so w after items (expires lease t e due) h = with_store_so w t (one_more w.namespace w.members w.store t (lives.expires lease) refl (sym (ap (state_or w.store) e)) h.store) h
 effect_so w after items (applies member revision t e) h = with_store_so w t (one_more w.namespace w.members w.store t (lives.applies member revision) refl (sym (ap (state_or w.store) e)) h.store) h
 effect_so w after items (pushes number s t i e a b f) h = record { places = h.places; calls = h.calls; store = pushes_so w number t i f h.store }
 effect_so w after items (turns p x e o v y own told at is t) h =

@@ -1,6 +1,8 @@
 -- What is told of the calls that are made on what stands outside: on a link to the members of a cluster, on a spawner of
 -- parts, and on a host that accepts connections.
 use Rattle.std.specs.Prelude.{◌≡◌, ℕ, ◌≤◌, Bool, true, false, List, ◌++◌, Option, None, Some, Result, Ok, Err}
+use Rattle.outside.specs.declared.link.AnswerEnd.{AnswerEnd}
+use Rattle.outside.specs.declared.link.CallKind.{CallKind}
 use Rattle.outside.specs.declared.link.LinkFault.{LinkFault}
 use Rattle.outside.specs.declared.link.LinkFault.TheVariants as link
 use Rattle.outside.specs.declared.source.Failed.{Failed}
@@ -12,15 +14,15 @@ Adds old None more = Unit {0}
 Adds None (Some after) more = ⊥
 Adds (Some before) (Some after) more = after ≡ before ++ more
 
--- a call on a link: its member, its bytes, and what came of it. Of a stream that was begun it tells the bytes that the stream
--- had to give
+-- what is done on a link: a call was sent, with its member, what it is for and its bytes, and what the answer had to give, or why
+-- there is none; or an answer was given back, with what it still gives, how often reading it failed, and how far it was read
 pub data LinkCall : Type 0 where
-  Called : ℕ → List ℕ → Result (List ℕ) LinkFault → LinkCall
-  Begun : ℕ → List ℕ → Result (Option (List ℕ)) LinkFault → LinkCall
+  Begun : ℕ → CallKind → List ℕ → Result (Option (List ℕ)) LinkFault → LinkCall
+  Ended : Option (List ℕ) → ℕ → AnswerEnd → LinkCall
 
--- what a begun stream has to give, or why none was begun
+-- what an answer has to give, or why there is none
 abbrev pub had : {S : Type 0} → (S → Option (List ℕ)) → Result S LinkFault → Result (Option (List ℕ)) LinkFault
-had left (Ok stream) = Ok (left stream)
+had left (Ok answer) = Ok (left answer)
 had left (Err fault) = Err fault
 
 -- what a call on a link does to its count: it rises with each failure but want of memory, and never falls

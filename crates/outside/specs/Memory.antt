@@ -1,8 +1,8 @@
 -- What the forms over memory hold, and what their calls do. Counts end at the last number of 64 bits, where they stay.
-use Rattle.std.specs.Prelude.{◌≡◌, ◌==◌, ℕ, Bool, true, false, min, List, [], ◌∷◌, ◌++◌, drop, take, length, map, Option, None, Some, Result, Ok, Err}
+use Rattle.std.specs.Prelude.{◌≡◌, ◌==◌, ℕ, Bool, true, false, min, List, ◌++◌, drop, take, length, map, Option, None, Some}
 use Rattle.std.specs.List.{list_any}
 use Rattle.outside.specs.Faults.{one_more}
-use Rattle.outside.specs.Calls.{LinkCall, Called, Begun, Handed, HostCall, Listened, Accepted}
+use Rattle.outside.specs.Calls.{LinkCall, Handed, HostCall}
 
 -- a source over memory: what wasn't read yet, how much a call gives at most, which calls fail (numbered from 1), how often
 -- it was called, and how often it has failed
@@ -52,7 +52,7 @@ abbrev pub noted : {N A : Type 0} → (N → A) → Bool → List N → Option (
 noted of true notes = Some (map of notes)
 noted of false notes = None
 
--- a link over memory: what each call is answered with, in order; how much a stream gives in one read at most; the calls that
+-- a link over memory: what each call is answered with, in order; how much an answer gives in one read at most; the calls that
 -- were made, where it tells them; which calls fail (numbered from 1), how often it was called, and how often it has failed
 pub record LinkState : Type 0 where
   pub replies : List (List ℕ)

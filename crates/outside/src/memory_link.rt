@@ -1,35 +1,36 @@
 ghost use Rattle.std.specs.Prelude.{◌≡◌, true, IfOk, IfErr, IsErr, [], ◌∷◌, Some, slice_get};
-ghost use Rattle.outside.specs.Calls.{Adds, Called, Begun, had, HasLinkCause};
+ghost use Rattle.outside.specs.Calls.{Adds, Begun, Ended, had, HasLinkCause};
 ghost use Rattle.outside.specs.Memory.{is_failing, IsCalled};
 ghost use Rattle.outside.specs.Notes.{link_call, supply_left};
 ghost use Rattle.outside.specs.declared.link.LinkFault.TheVariants.{NoMemory as Wanting};
 
-use crate::link::{Link, LinkFault};
+use crate::link::{AnswerEnd, CallKind, Link, LinkFault};
 use crate::memory_source::MemSource;
 use etcd_types::{Bytes, List, NoMemory};
 use std::alloc::Global;
 use std::marker::Model;
 use std::snapshot::Snapshot;
 
-// A call that was made, and what came of it.
+// What was done on a link.
 #[derive(Drop)]
 pub enum LinkNote {
-    Called {
-        member: u32,
-        call: Bytes,
-        answer: Snapshot<Result<Bytes, LinkFault>>,
-    },
     Begun {
         member: u32,
+        kind: CallKind,
         call: Bytes,
         answer: Snapshot<Result<MemSource, LinkFault>>,
+    },
+    Ended {
+        answer: Snapshot<MemSource>,
+        how: AnswerEnd,
     },
 }
 
 /// A link over memory, which answers each call with the next of the replies that it was given, and fails at chosen calls.
-/// It tells its calls for as long as it finds memory to note them.
+/// It tells what is done on it for as long as it finds memory to note it.
 #[derive(Drop)]
 pub struct MemLink {
+    alloc: Global,
     replies: List<Bytes>,
     piece: usize,
     notes: Vec<LinkNote>,
@@ -49,12 +50,13 @@ impl Model for MemLink {
 }
 
 impl MemLink {
-    /// A link whose call with the number n, from 1 on, is answered with the n-th of these replies; a stream gives it in
-    /// pieces of at most `piece` bytes (0 counts as 1). A call with no reply and those with a number in `failing` fail.
+    /// A link whose call with the number n, from 1 on, is answered with the n-th of these replies, in pieces of at most
+    /// `piece` bytes (0 counts as 1). A call with no reply and those with a number in `failing` fail.
     pub fn new(alloc: Global, replies: List<Bytes>, piece: usize, failing: Vec<u64>) -> MemLink
         ensures { result ≡ record { replies = replies; piece = piece; made = Some []; failing = failing.items; calls = 0; faults = 0 } }
     {
         MemLink {
+            alloc,
             replies,
             piece,
             notes: Vec::new(alloc),
@@ -66,8 +68,9 @@ impl MemLink {
     }
 
     // The next reply.
-    fn reply(&mut self, alloc: Global) -> Result<Bytes, LinkFault>
-        ensures gave { IfOk result (λ bytes. slice_get self.old.replies self.old.calls ≡ Some bytes) }
+    fn reply(&mut self) -> Result<MemSource, LinkFault>
+        ensures gave { IfOk result (λ answer. slice_get self.old.replies self.old.calls ≡ Some answer.left) }
+        ensures fresh { IfOk result (λ answer. answer.faults ≡ 0) }
         ensures chosen { is_failing self.old.failing self.old.calls ≡ true → IsErr result }
         ensures cause { HasLinkCause self.old.faults self.new.faults result }
         ensures rest { IsCalled self.old self.new }
@@ -76,7 +79,9 @@ impl MemLink {
         let place = self.calls as usize;
         self.calls = self.calls.saturating_add(1);
         match self.replies.as_slice().get(place) {
-            Some(reply) if !self.failing.contains(&self.calls) => Ok(reply.copy(alloc)?),
+            Some(reply) if !self.failing.contains(&self.calls) => Ok(source_of(
+                self.alloc, reply, self.piece,
+            )?),
             _ => {
                 self.faults = self.faults.saturating_add(1);
                 Err(LinkFault::Failed)
@@ -84,7 +89,7 @@ impl MemLink {
         }
     }
 
-    // Notes a call, for as long as there is memory.
+    // Notes what is done, for as long as there is memory.
     fn note(&mut self, note: LinkNote)
         ensures made { Adds self.old.made self.new.made (link_call note ∷ []) }
         ensures rest { self.new ≡ record self.old { made = self.new.made } }
@@ -96,24 +101,26 @@ impl MemLink {
 }
 
 impl Link for MemLink {
-    type Stream = MemSource;
+    type Answer = MemSource;
 
     ghost made = { λ l. l.made };
 
     ghost faults = { λ l. l.faults };
 
     /// A call whose reply finds no memory answers so.
-    fn call(&mut self, alloc: Global, member: u32, call: &[u8]) -> Result<Bytes, LinkFault>
-        ensures made { Adds self.old.made self.new.made (Called member call.now result ∷ []) }
+    fn begin(&mut self, member: u32, kind: CallKind, call: &[u8]) -> Result<MemSource, LinkFault>
+        ensures made { Adds self.old.made self.new.made (Begun member kind call.now (had supply_left result) ∷ []) }
+        ensures fresh { IfOk result (λ answer. answer.faults ≡ 0) }
         ensures cause { HasLinkCause self.old.faults self.new.faults result }
-        ensures gave { IfOk result (λ bytes. slice_get self.old.replies self.old.calls ≡ Some bytes) }
+        ensures gave { IfOk result (λ answer. slice_get self.old.replies self.old.calls ≡ Some answer.left) }
         ensures chosen { is_failing self.old.failing self.old.calls ≡ true → IsErr result }
         ensures rest { IsCalled self.old self.new }
     {
-        let answer = self.reply(alloc);
-        match Bytes::from_slice(alloc, call) {
-            Ok(call) => self.note(LinkNote::Called {
+        let answer = self.reply();
+        match Bytes::from_slice(self.alloc, call) {
+            Ok(call) => self.note(LinkNote::Begun {
                 member,
+                kind,
                 call,
                 answer: Snapshot::of(&answer),
             }),
@@ -122,32 +129,25 @@ impl Link for MemLink {
         answer
     }
 
-    fn begin(&mut self, alloc: Global, member: u32, call: &[u8]) -> Result<MemSource, LinkFault>
-        ensures made { Adds self.old.made self.new.made (Begun member call.now (had supply_left result) ∷ []) }
-        ensures cause { HasLinkCause self.old.faults self.new.faults result }
-        ensures gave { IfOk result (λ stream. slice_get self.old.replies self.old.calls ≡ Some stream.left) }
-        ensures chosen { is_failing self.old.failing self.old.calls ≡ true → IsErr result }
-        ensures rest { IsCalled self.old self.new }
+    fn end(&mut self, answer: MemSource, how: AnswerEnd)
+        ensures made { Adds self.old.made self.new.made (Ended (supply_left answer) answer.faults how ∷ []) }
+        ensures rest { self.new ≡ record self.old { made = self.new.made } }
     {
-        let answer = match self.reply(alloc) {
-            Ok(reply) => stream_of(alloc, &reply, self.piece),
-            Err(fault) => Err(fault),
-        };
-        match Bytes::from_slice(alloc, call) {
-            Ok(call) => self.note(LinkNote::Begun {
-                member,
-                call,
-                answer: Snapshot::of(&answer),
-            }),
-            Err(NoMemory) => self.tells = false,
-        }
-        answer
+        self.note(LinkNote::Ended {
+            answer: Snapshot::of(&answer),
+            how,
+        });
     }
+
+    fn forget(&mut self, _stream: u64)
+        ensures stays { self.new ≡ self.old }
+    {}
 }
 
 // A source of these bytes.
-fn stream_of(alloc: Global, bytes: &Bytes, piece: usize) -> Result<MemSource, LinkFault>
-    ensures gave { IfOk result (λ stream. stream.left ≡ bytes.now) }
+fn source_of(alloc: Global, bytes: &Bytes, piece: usize) -> Result<MemSource, LinkFault>
+    ensures gave { IfOk result (λ source. source.left ≡ bytes.now) }
+    ensures fresh { IfOk result (λ source. source.faults ≡ 0) }
     ensures wanting { IfErr result (λ fault. fault ≡ Wanting) }
 {
     match Vec::from_slice(alloc, bytes.as_slice()) {

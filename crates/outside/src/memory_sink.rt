@@ -4,6 +4,7 @@ ghost use Rattle.std.specs.Io.KnownBytes.{WriteAppends};
 ghost use Rattle.outside.specs.Faults.{HasCause};
 ghost use Rattle.outside.specs.Memory.{is_failing, took, took_none};
 
+use crate::marks::WriteMark;
 use crate::sink::Sink;
 use crate::source::Failed;
 use std::alloc::Global;
@@ -87,4 +88,9 @@ impl Sink for MemSink {
         }
         Ok(count)
     }
+
+    /// It keeps no mark.
+    fn mark(&mut self, _mark: WriteMark)
+        ensures stays { self.new ≡ self.old }
+    {}
 }

@@ -4,6 +4,7 @@ ghost use Rattle.std.specs.Io.KnownBytes.{ReadConsumes};
 ghost use Rattle.outside.specs.Faults.{HasCause};
 ghost use Rattle.outside.specs.Memory.{is_failing, given_to, gave, gave_none};
 
+use crate::marks::ReadMark;
 use crate::source::{Failed, Source};
 use std::marker::Model;
 
@@ -81,4 +82,9 @@ impl Source for MemSource {
     {
         Ok(())
     }
+
+    /// It keeps no mark.
+    fn mark(&mut self, _mark: ReadMark)
+        ensures stays { self.new ≡ self.old }
+    {}
 }

@@ -1,9 +1,10 @@
-ghost use Rattle.std.specs.Prelude.{List, ℕ, Option, ◌<◌, length, IfOk, OnOk, OnErr};
+ghost use Rattle.std.specs.Prelude.{◌≡◌, List, ℕ, Option, ◌<◌, length, IfOk, OnOk, OnErr};
 ghost use Rattle.std.specs.Io.{WritesAtMost};
 ghost use Rattle.std.specs.Io.KnownBytes.{WriteAppends, Appends};
 ghost use Rattle.outside.specs.Faults.{HasCause};
 ghost use Rattle.outside.specs.Streams.{WritesFront};
 
+use crate::marks::WriteMark;
 use crate::source::Failed;
 
 /// Where bytes go.
@@ -21,6 +22,11 @@ pub trait Sink {
         ensures some { IfOk result (λ count. 0 < length piece.now → 0 < count) }
         ensures bytes { WriteAppends (written self.old) (written self.new) result piece.now }
         ensures cause { HasCause (faults self.old) (faults self.new) result };
+
+    /// Hears what is written next. It writes nothing.
+    fn mark(&mut self, mark: WriteMark)
+        ensures bytes { written self.new ≡ written self.old }
+        ensures kept { faults self.new ≡ faults self.old };
 }
 
 /// Writes all the bytes, by as many writes as it takes. The first write that fails ends it with `Failed`, and a front of

@@ -1,8 +1,9 @@
-ghost use Rattle.std.specs.Prelude.{List, ℕ, Option};
+ghost use Rattle.std.specs.Prelude.{◌≡◌, List, ℕ, Option};
 ghost use Rattle.std.specs.Io.{ReadsAtMost};
 ghost use Rattle.std.specs.Io.KnownBytes.{ReadConsumes, Keeps};
 ghost use Rattle.outside.specs.Faults.{HasCause};
 
+use crate::marks::ReadMark;
 use thiserror::Error;
 
 /// The outside failed, and the count of the object that was called rose.
@@ -30,4 +31,9 @@ pub trait Source {
     fn check(&mut self) -> Result<(), Failed>
         ensures bytes { Keeps (left self.old) (left self.new) }
         ensures cause { HasCause (faults self.old) (faults self.new) result };
+
+    /// Hears what was read of its bytes. It reads nothing.
+    fn mark(&mut self, mark: ReadMark)
+        ensures bytes { left self.new ≡ left self.old }
+        ensures kept { faults self.new ≡ faults self.old };
 }

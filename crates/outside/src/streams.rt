@@ -1,5 +1,6 @@
 ghost use Rattle.std.specs.Prelude.{◌≡◌};
 
+use crate::marks::{ReadMark, WriteMark};
 use crate::sink::Sink;
 use crate::source::{Failed, Source};
 use std::io::{ErrorKind, Read, Write};
@@ -54,6 +55,8 @@ impl<R: Read + Drop> Source for Reading<R> {
     fn check(&mut self) -> Result<(), Failed> {
         Ok(())
     }
+
+    fn mark(&mut self, _mark: ReadMark) {}
 }
 
 /// A writer as a sink. A write that a signal interrupts is tried again, 2^32 - 1 times in all.
@@ -97,4 +100,6 @@ impl<W: Write + Drop> Sink for Writing<W> {
         self.faults = self.faults.saturating_add(1);
         Err(Failed)
     }
+
+    fn mark(&mut self, _mark: WriteMark) {}
 }

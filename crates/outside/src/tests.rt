@@ -1,5 +1,5 @@
 use super::*;
-use etcd_types::{Bytes, List};
+use etcd_types::{Bytes, List, Request};
 use std::alloc::Global;
 use std::io;
 use std::test::Fail;
@@ -139,13 +139,38 @@ fn a_link_over_memory_answers_in_turn(rt: HostRuntime) -> Result<(), Fail> {
     let alloc = rt.alloc();
     let replies = list_of(alloc, &[b"one", b"two", b"three"])?;
     let mut link = MemLink::new(alloc, replies, 2, vec![in alloc; 2]?);
-    assert_eq!(rt; link.call(alloc, 1, b"a")?.as_slice(), b"one".as_slice());
-    assert!(rt; matches!(link.call(alloc, 1, b"b"), Err(LinkFault::Failed)));
-    let mut stream = link.begin(alloc, 2, b"c")?;
+    let mut first = link.begin(1, CallKind::Reads, b"a")?;
+    let (bytes, failures) = drain(alloc, &mut first)?;
+    assert_eq!(rt; bytes.as_slice(), b"one".as_slice());
+    assert_eq!(rt; failures, 0);
+    link.end(first, AnswerEnd::Whole);
+    assert!(rt;
+        matches!(
+            link.begin(1, CallKind::Writes, b"b"),
+            Err(LinkFault::Failed)
+        )
+    );
+    let mut stream = link.begin(2, CallKind::Watches(7), b"c")?;
     let mut room = [0u8; 8];
+    stream.mark(ReadMark::Message);
     assert!(rt; stream.check().is_ok() && stream.read(&mut room) == Ok(2));
     assert_eq!(rt; &room[..2], b"th".as_slice());
-    assert!(rt; matches!(link.call(alloc, 1, b"d"), Err(LinkFault::Failed)));
+    link.forget(7);
+    link.end(stream, AnswerEnd::Broken);
+    assert!(rt; matches!(link.begin(1, CallKind::Asks, b"d"), Err(LinkFault::Failed)));
+    Ok(())
+}
+
+#[test]
+fn a_request_has_the_kind_of_its_variant(rt: HostRuntime) -> Result<(), Fail> {
+    assert_eq!(rt; RequestKind::of(&Request::Leases), RequestKind::Leases);
+    let grant = Request::Grant { ttl: 5, lease: 9 };
+    assert_eq!(rt; RequestKind::of(&grant), RequestKind::Grant);
+    let compaction = Request::Compact {
+        revision: 5,
+        physical: true,
+    };
+    assert_eq!(rt; RequestKind::of(&compaction), RequestKind::Compact);
     Ok(())
 }
 

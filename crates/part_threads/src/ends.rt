@@ -9,9 +9,9 @@ pub trait Ends: Drop {
 
     type Sink: Sink + Drop;
 
-    type Stream: Source + Drop;
+    type Answer: Source + Drop;
 
-    type Link: Link<Stream = Self::Stream> + Drop;
+    type Link: Link<Answer = Self::Answer> + Drop;
 
     type Clock: Clock + Drop;
 

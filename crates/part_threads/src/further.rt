@@ -24,7 +24,9 @@ pub struct Nothing<C> {
 
 impl<C> Nothing<C> {
     /// One that has refused none.
-    pub fn new() -> Nothing<C> {
+    pub fn new() -> Nothing<C>
+        ensures fresh { result.faults ≡ 0 }
+    {
         Nothing {
             faults: 0,
             of: PhantomData,

@@ -1,4 +1,4 @@
-ghost use Rattle.std.specs.Prelude.{◌≡◌, IfErr, None, ◌∷◌, []};
+ghost use Rattle.std.specs.Prelude.{◌≡◌, IfErr, IfSome, None, ◌∷◌, []};
 ghost use Rattle.outside.specs.Calls.{Adds, Handed, is_done};
 ghost use Rattle.outside.specs.Faults.{HasCause};
 ghost use Rattle.outside.specs.declared.parts.Part.{Part};
@@ -69,10 +69,11 @@ where
     E::Conn: Send + 'static,
     E::Source: Send + 'static,
     E::Sink: Send + 'static,
-    E::Stream: Send + 'static,
+    E::Answer: Send + 'static,
     E::Link: Send + 'static,
     E::Clock: Send + 'static,
     E::Draw: Send + 'static,
+    ensures fresh { IfSome result (λ threaded. threaded.faults ≡ 0) }
 {
     Some(Threaded {
         rt,
@@ -90,13 +91,15 @@ where
     E::Conn: Send + 'static,
     E::Source: Send + 'static,
     E::Sink: Send + 'static,
-    E::Stream: Send + 'static,
+    E::Answer: Send + 'static,
     E::Link: Send + 'static,
     E::Clock: Send + 'static,
     E::Draw: Send + 'static,
 {
     /// A spawner that has started none, or nothing where memory or a thread is wanting.
-    pub fn new(rt: R, alloc: Global, ends: E) -> Option<Server<R, E>> {
+    pub fn new(rt: R, alloc: Global, ends: E) -> Option<Server<R, E>>
+        ensures fresh { IfSome result (λ server. server.faults ≡ 0) }
+    {
         let followers = starting(rt, alloc, ends.another().ok()?, Nothing::new())?;
         starting(rt, alloc, ends, followers)
     }

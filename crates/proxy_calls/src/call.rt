@@ -1,20 +1,28 @@
-ghost use Rattle.std.specs.Prelude.{◌≡◌, ◌≤◌, IfOk};
-ghost use Rattle.work_model.specs.Calls.{Calls, call_of, lost_on};
+ghost use Rattle.std.specs.Prelude.{◌≡◌, IfOk};
+ghost use Rattle.work_model.specs.Calls.{IsCalled, call_of, kept_call_of, lost_on};
 
 use crate::hear::hear;
 use api_request::encode_request;
 use etcd_types::{Answer, Bytes, NoMemory, Request};
-use http_wire::write_call;
-use outside::{Link, LinkFault};
+use http_wire::{write_call, write_kept_call};
+use outside::{CallKind, Link, LinkFault};
 use std::alloc::Global;
 use work_model::CallFault;
 
-/// The bytes of a request's call to a host.
+/// The bytes of a request's call to a host, which asks for the connection's end behind its answer.
 pub fn call_bytes(alloc: Global, host: &[u8], request: &Request) -> Result<Bytes, NoMemory>
     ensures { IfOk result (λ bytes. bytes ≡ call_of host.now request.now) }
 {
     let (path, body) = encode_request(alloc, request)?;
     Ok(write_call(alloc, host, path.as_slice(), body.as_slice())?)
+}
+
+/// The bytes of a request's call to a host, behind whose answer the connection may stay.
+fn kept_call_bytes(alloc: Global, host: &[u8], request: &Request) -> Result<Bytes, NoMemory>
+    ensures { IfOk result (λ bytes. bytes ≡ kept_call_of host.now request.now) }
+{
+    let (path, body) = encode_request(alloc, request)?;
+    Ok(write_kept_call(alloc, host, path.as_slice(), body.as_slice())?)
 }
 
 /// What a link's failure says of its call.
@@ -27,22 +35,29 @@ fn lost_on(fault: LinkFault) -> CallFault
     }
 }
 
-/// Makes one call of a request to a member, and says what its answer is. For want of memory the call may not be made.
+/// Makes one call of a request to a member, and says what its answer is. The answer is given back to the link, which hears whether its
+/// connection may carry another call. For want of memory the call may not be made.
 pub fn make_call<L: Link>(
     alloc: Global,
     link: &mut L,
     host: &[u8],
     member: u32,
+    kind: CallKind,
     request: &Request,
 ) -> Result<Answer, CallFault>
-    ensures kept { L.faults link.old ≤ L.faults link.new }
-    ensures calls { Calls host.now member request.now (L.made link.old) (L.made link.new) (L.faults link.old) (L.faults link.new) result }
+    ensures { IsCalled host.now member kind request.now (L.made link.old) (L.made link.new)
+        (L.faults link.old) (L.faults link.new) result }
 {
-    let Ok(bytes) = call_bytes(alloc, host, request) else {
+    let Ok(bytes) = kept_call_bytes(alloc, host, request) else {
         return Err(CallFault::NoMemory);
     };
-    match link.call(alloc, member, bytes.as_slice()) {
-        Ok(answer) => hear(alloc, request, answer.as_slice()),
+    match link.begin(member, kind, bytes.as_slice()) {
+        Ok(answer) => {
+            let mut source = answer;
+            let (said, how) = hear(alloc, request, &mut source);
+            link.end(source, how);
+            said
+        }
         Err(fault) => Err(lost_on(fault)),
     }
 }

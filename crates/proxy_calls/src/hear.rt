@@ -1,6 +1,6 @@
-ghost use Rattle.std.specs.Prelude.{◌≡◌, IfSome};
+ghost use Rattle.std.specs.Prelude.{◌≡◌};
 ghost use Rattle.core_model.specs.Heard.{is_known};
-ghost use Rattle.work_model.specs.Calls.{Says, lost_by, tells};
+ghost use Rattle.work_model.specs.Calls.{Heard, Says, end_of, lost_by, tells};
 
 use api_reply::decode_reply;
 use etcd_types::code::{
@@ -8,9 +8,9 @@ use etcd_types::code::{
     UNIMPLEMENTED,
 };
 use etcd_types::{Answer, Request};
-use http_wire::{Wire, WireFault};
+use http_wire::{AnswerHead, Framing, Wire, WireFault};
 use json_model::NotReply;
-use outside::{CALL_LIMIT, Reading, Source};
+use outside::{AnswerEnd, CALL_LIMIT, Source};
 use std::alloc::Global;
 use work_model::CallFault;
 
@@ -36,13 +36,14 @@ fn tells(answer: &Answer) -> bool
     }
 }
 
-/// What a fault of the wire over the bytes of an answer says.
+/// What a fault of the wire over an answer says.
 fn lost_by(fault: WireFault) -> CallFault
     ensures { result ≡ lost_by fault }
 {
     match fault {
-        WireFault::ReadFault | WireFault::WriteFault | WireFault::NoMemory => CallFault::NoMemory,
-        WireFault::BadHead
+        WireFault::WriteFault | WireFault::NoMemory => CallFault::NoMemory,
+        WireFault::ReadFault
+        | WireFault::BadHead
         | WireFault::HeadTooLong
         | WireFault::BodyTooLong
         | WireFault::BadChunk
@@ -50,26 +51,23 @@ fn lost_by(fault: WireFault) -> CallFault
     }
 }
 
-/// What the bytes that a source gives say to a request.
-fn hear_from<S: Source>(
-    alloc: Global,
-    request: &Request,
-    source: &mut S,
-) -> Result<Answer, CallFault>
-    ensures { IfSome (S.left source.old) (λ all. Says request.now all result) }
+/// How an answer with this head ended that was read whole, by whether nothing was read beyond it.
+fn end_of(head: AnswerHead, is_clear: bool) -> AnswerEnd
+    ensures { result ≡ end_of head is_clear }
 {
-    let Ok(mut wire) = Wire::new(alloc) else {
-        return Err(CallFault::NoMemory);
-    };
-    let (status, framing) = match wire.read_answer(source) {
-        Ok(answer) => answer,
-        Err(fault) => return Err(lost_by(fault)),
-    };
-    let body = match wire.read_whole(source, framing, CALL_LIMIT) {
-        Ok(body) => body,
-        Err(fault) => return Err(lost_by(fault)),
-    };
-    match decode_reply(alloc, request, status, body.as_slice()) {
+    let is_to_end = matches!(head.framing, Framing::ToEnd);
+    if !head.closes && head.status >= 200 && !is_to_end && is_clear {
+        AnswerEnd::Whole
+    } else {
+        AnswerEnd::Broken
+    }
+}
+
+/// What an answer of this status and body says to a request.
+fn say(alloc: Global, request: &Request, status: u16, body: &[u8]) -> Result<Answer, CallFault>
+    ensures { Says request.now status body.now result }
+{
+    match decode_reply(alloc, request, status, body) {
         Ok(answer) => {
             if tells(&answer) {
                 Ok(answer)
@@ -82,10 +80,34 @@ fn hear_from<S: Source>(
     }
 }
 
-/// What the bytes of an answer say to a request.
-pub(crate) fn hear(alloc: Global, request: &Request, all: &[u8]) -> Result<Answer, CallFault>
-    ensures { Says request.now all.now result }
+/// Reads an answer whole. What it says to a request, and how far it was read.
+pub(crate) fn hear<S: Source>(
+    alloc: Global,
+    request: &Request,
+    source: &mut S,
+) -> (Result<Answer, CallFault>, AnswerEnd)
+    requires fresh { S.faults source.old ≡ 0 }
+    ensures { Heard request.now (S.left source.old) (S.left source.new) (S.faults source.new)
+        result.1 result.0 }
 {
-    let mut source = Reading::new(all);
-    hear_from(alloc, request, &mut source)
+    let Ok(mut wire) = Wire::new(alloc) else {
+        return (Err(CallFault::NoMemory), AnswerEnd::Broken);
+    };
+    let head = match wire.read_answer(source) {
+        Ok(head) => head,
+        Err(fault) => {
+            let why = lost_by(fault);
+            return (Err(why), AnswerEnd::Broken);
+        }
+    };
+    let body = match wire.read_whole(source, head.framing, CALL_LIMIT) {
+        Ok(body) => body,
+        Err(fault) => {
+            let why = lost_by(fault);
+            return (Err(why), AnswerEnd::Broken);
+        }
+    };
+    let said = say(alloc, request, head.status, body.as_slice());
+    let how = end_of(head, wire.is_clear());
+    (said, how)
 }

@@ -4,6 +4,8 @@
 
 mod call;
 mod hear;
+mod kinds;
 
 pub use call::{call_bytes, make_call};
+pub use kinds::kind_of;
 pub use work_model::CallFault;

@@ -41,6 +41,7 @@ use Rattle.core_model.specs.Takes as takes
 use Rattle.core_model.specs.Watching.{taken_item, stream_job, with_watches}
 use Rattle.core_laws.specs.Outcomes.{may_have, Gives, gave, faulted}
 use Rattle.core_laws.proofs.Outcomes.{steps_give, worn_does_nothing}
+use Rattle.core_face.specs.Steps.{takes_no_memory}
 use Rattle.proxy_core.specs.Faults.{IsFaultOf, AnswersFit}
 
 either : {A : Type 0} (P : A → Type 0) (b : Bool) (x y : A) → P x → P y → P (cond b x y)
@@ -220,11 +221,15 @@ outcome_fits e c d now o h = by_worn (is_worn c) refl
         absurd (other fault.Worn (stepped c e now).outcome (ap (λ (y : Stepped). y.outcome) (worn_does_nothing c e now w)) (ap (λ (y : Stepped). y.outcome) h))
     by_worn false w = by_what (stepped c e now) (ap (λ (y : Stepped). y.outcome) h) (steps_give c e now w)
 
+never_so : (b : Bool) → (b ≡ true → ⊥) → b ≡ false
+never_so true n = absurd (n refl)
+never_so false n = refl
+
 pub answers_fit : AnswersFit
-answers_fit e c d now (Ok o) h = outcome_fits e c d now o h
-answers_fit e c d now (Err fault.NoMemory) h = tt
+answers_fit e c d now (Ok o) h = outcome_fits e c d now o h.0
+answers_fit e c d now (Err fault.NoMemory) h = never_so (takes_no_memory e) (λ t. h.1 t refl)
 answers_fit e c d now (Err fault.Worn) h = tt
-answers_fit e c d now (Err (fault.TicketUsed n)) h = fault_fits e c d now (fault.TicketUsed n) h
-answers_fit e c d now (Err (fault.NoSuchTicket n)) h = fault_fits e c d now (fault.NoSuchTicket n) h
-answers_fit e c d now (Err (fault.NoSuchCall n)) h = fault_fits e c d now (fault.NoSuchCall n) h
-answers_fit e c d now (Err (fault.NoSuchStream n)) h = fault_fits e c d now (fault.NoSuchStream n) h
+answers_fit e c d now (Err (fault.TicketUsed n)) h = fault_fits e c d now (fault.TicketUsed n) h.0
+answers_fit e c d now (Err (fault.NoSuchTicket n)) h = fault_fits e c d now (fault.NoSuchTicket n) h.0
+answers_fit e c d now (Err (fault.NoSuchCall n)) h = fault_fits e c d now (fault.NoSuchCall n) h.0
+answers_fit e c d now (Err (fault.NoSuchStream n)) h = fault_fits e c d now (fault.NoSuchStream n) h.0

@@ -1,5 +1,5 @@
--- Which answers an event may have: outcomes of its kind, and the faults of what it names.
-use Rattle.std.specs.Prelude.{◌≡◌, ℕ, true, Option, Result, Ok, Err}
+-- Which answers an event may have: outcomes of its kind, and the faults of what it names. Losses, ticks, cuts and leaving take no memory.
+use Rattle.std.specs.Prelude.{◌≡◌, ◌≢◌, ℕ, true, false, Option, Result, Ok, Err}
 use Rattle.core_model.specs.declared.event.CoreEvent.{CoreEvent}
 use Rattle.core_model.specs.declared.event.CoreEvent.TheVariants as event
 use Rattle.core_model.specs.declared.event.Job.{Job}
@@ -11,12 +11,12 @@ use Rattle.core_model.specs.State.{Core}
 use Rattle.core_model.specs.Step.{stepped}
 use Rattle.core_model.specs.Stepped.{gives}
 use Rattle.core_laws.specs.Outcomes.{may_have}
-use Rattle.core_face.specs.Steps.{FaultsSo, Steps}
+use Rattle.core_face.specs.Steps.{FaultsSo, Steps, takes_no_memory}
 
--- a worn proxy, and want of memory, are faults of any event
+-- a worn proxy is a fault of any event, and want of memory of each that takes memory
 abbrev pub IsFaultOf : CoreEvent → StepFault → Type 0
 IsFaultOf e fault.Worn = Unit {0}
-IsFaultOf e fault.NoMemory = Unit {0}
+IsFaultOf e fault.NoMemory = takes_no_memory e ≡ false
 IsFaultOf (event.Ask ticket q word) (fault.TicketUsed n) = n ≡ ticket
 IsFaultOf (event.Take ticket) (fault.NoSuchTicket n) = n ≡ ticket
 IsFaultOf (event.Leave ticket) (fault.NoSuchTicket n) = n ≡ ticket
@@ -30,9 +30,13 @@ abbrev pub IsAnswerTo : CoreEvent → Result Outcome StepFault → Type 0
 IsAnswerTo e (Ok o) = may_have e o ≡ true
 IsAnswerTo e (Err f) = IsFaultOf e f
 
+-- a step of the machine: what the rules say, and want of memory only where memory is taken
+abbrev pub CoreSteps : Core → CoreEvent → ℕ → Result Outcome StepFault → Core → Type 0
+CoreSteps before e now answer after = Steps before e now after answer × (takes_no_memory e ≡ true → answer ≢ Err fault.NoMemory)
+
 -- each answer of a step is one that its event may have
 abbrev pub AnswersFit : Type 0
-AnswersFit = (e : CoreEvent) (old new : Core) (now : ℕ) (r : Result Outcome StepFault) → Steps old e now new r → IsAnswerTo e r
+AnswersFit = (e : CoreEvent) (old new : Core) (now : ℕ) (r : Result Outcome StepFault) → CoreSteps old e now r new → IsAnswerTo e r
 
 -- the step of a worker that asks what is due
 abbrev pub GivesJob : Core → ℕ → Core → Result (Option Job) StepFault → Type 0

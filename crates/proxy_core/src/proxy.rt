@@ -96,11 +96,11 @@ impl Machine for Core {
 
     type Fault = StepFault;
 
-    ghost use Rattle.core_face.specs.Steps.{Steps};
+    ghost use Rattle.proxy_core.specs.Faults.{CoreSteps};
 
     ghost may = { λ event. Unit {0} };
 
-    ghost steps = { λ before event now answer after. Steps before event now after answer };
+    ghost steps = { CoreSteps };
 
     fn step(&mut self, event: CoreEvent, now: u64) -> Result<Outcome, StepFault> {
         let told = told_by(&self.kept, &event);

@@ -8,8 +8,7 @@ use Rattle.core_model.specs.declared.event.StepFault.{StepFault}
 use Rattle.core_model.specs.declared.event.StepFault.TheVariants as step
 use Rattle.core_model.specs.State.{Core}
 use Rattle.core_laws.specs.Outcomes.{may_have}
-use Rattle.core_face.specs.Steps.{Steps}
-use Rattle.proxy_core.specs.Faults.{IsFaultOf, IsAnswerTo}
+use Rattle.proxy_core.specs.Faults.{IsFaultOf, IsAnswerTo, CoreSteps}
 use Rattle.proxy_core.proofs.Faults.{answers_fit}
 use Rattle.serve_model.specs.Steps.{FitsOutcome, FitsFault, FitsAnswer}
 
@@ -28,7 +27,7 @@ outcome_fits e o h = absurd (cc)
 
 fault_fits : (e : CoreEvent) (f : StepFault) → IsFaultOf e f → FitsFault e f
 fault_fits e step.Worn h = tt
-fault_fits e step.NoMemory h = tt
+fault_fits e step.NoMemory h = h
 fault_fits (Ask ticket request word) (step.TicketUsed other) h = h
 fault_fits e (step.TicketUsed other) h = absurd h
 fault_fits (Take ticket) (step.NoSuchTicket other) h = h
@@ -45,5 +44,5 @@ answer_fits : (e : CoreEvent) (r : Result Outcome StepFault) → IsAnswerTo e r 
 answer_fits e (Ok o) h = outcome_fits e o h
 answer_fits e (Err f) h = fault_fits e f h
 
-pub step_fits : (old new : Core) (e : CoreEvent) (now : ℕ) (r : Result Outcome StepFault) → Steps old e now new r → FitsAnswer e r
+pub step_fits : (old new : Core) (e : CoreEvent) (now : ℕ) (r : Result Outcome StepFault) → CoreSteps old e now r new → FitsAnswer e r
 step_fits old new e now r s = answer_fits e r (answers_fit e old new now r s)

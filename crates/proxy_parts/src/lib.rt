@@ -4,15 +4,19 @@
 
 // What is never inlined here keeps a thread's stack small: docs/DECISIONS.md.
 
+mod connection;
 mod place;
 mod run;
 mod seated;
+mod seating;
 mod ticker;
 mod worker;
 
+pub use connection::serve_connection;
 pub use part_model::PartEnd;
 pub use place::Place;
 pub use run::{PartDone, run_part};
 pub use seated::Seated;
+pub use seating::Seating;
 pub use ticker::{TICK, keep_ticking, tick};
 pub use worker::{TURNS, keep_working};

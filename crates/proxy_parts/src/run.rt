@@ -1,27 +1,29 @@
-ghost use Rattle.std.specs.Prelude.{◌≡◌, ◌≤◌, false, None, Some, List, Option, Result, ℕ, [], ◌∷◌};
+ghost use Rattle.std.specs.Prelude.{◌≡◌, false, Some, IsTrue};
 ghost use Rattle.std.specs.Arc.{arc_value};
-ghost use Rattle.outside.specs.Calls.{Adds, Begun};
 ghost use Rattle.outside.specs.Faults.{Rose};
-ghost use Rattle.outside.specs.declared.link.LinkFault.{LinkFault as BeginFault};
+ghost use Rattle.turn_hub.specs.History.{Begins};
 ghost use Rattle.turn_hub.specs.Known.{made};
+ghost use Rattle.serve_model.specs.Complete.{Completes};
 ghost use Rattle.serve_model.specs.Dialog.{Dialog};
 ghost use Rattle.serve_model.specs.Numbers.{LastNumbered};
 ghost use Rattle.serve_model.specs.Steps.{NoEvent};
-ghost use Rattle.stream_model.specs.Parts.{Follows};
+ghost use Rattle.stream_model.specs.Parts.{IsFollowed};
 ghost use Rattle.work_model.specs.Working.{IsAt, ledger};
 ghost use Rattle.part_model.specs.Kinds.{IfConnection, IfFollower, IfTicker, IfWorker, draws, links, place_in, spawns};
 ghost use Rattle.part_model.specs.Rounds.{IsSpent};
 ghost use Rattle.part_model.specs.Ticking.{Ticking};
 ghost use Rattle.proxy_parts.specs.Homes.{home_of};
 ghost use Rattle.proxy_parts.specs.Parts.{Followed, Served};
+ghost use Rattle.proxy_parts.specs.Passes.{Grows, IsSound, is_at_limit};
 
+use crate::connection::serve_connection;
 use crate::place::Place;
 use crate::seated::Seated;
+use crate::seating::Seating;
 use crate::ticker::keep_ticking;
 use crate::worker::{TURNS, keep_working};
 use outside::{Clock, Draw, Follow, Link, Part, Sink, Source, Spawner, TicketRange};
 use part_model::PartEnd;
-use proxy_server::serve_on;
 use proxy_streams::follow_stream;
 use serve_model::SessionEnd;
 use std::alloc::Global;
@@ -50,13 +52,17 @@ fn run_worker<R: Wait, L: Link, P: Spawner<Pass = Place>, C: Clock>(
 where
     P::Conn: Drop,
     ensures home { home_of result ≡ home_of place }
-    ensures spent { IsSpent (arc_value place.hosts) (IsAt home_of (home_of place)) NoEvent TURNS (ledger (Some (made place.pass)) (L.made link.old) (P.handed spawner.old) (L.faults link.old) (P.faults spawner.old))
-        (ledger (Some (made result.pass)) (L.made link.new) (P.handed spawner.new) (L.faults link.new) (P.faults spawner.new)) }
+    ensures grows { Grows place.pass result.pass }
+    ensures spent { IsSpent (arc_value place.hosts) (IsAt home_of (home_of place)) NoEvent
+        (IsTrue (is_at_limit result.pass)) TURNS (ledger (Some (made place.pass)) (L.made link.old)
+        (P.handed spawner.old) (L.faults link.old) (P.faults spawner.old))
+        (ledger (Some (made result.pass)) (L.made link.new) (P.handed spawner.new)
+        (L.faults link.new) (P.faults spawner.new)) }
 {
     let Place { hub, hosts, pass } = place;
-    let mut seated = Seated::new(rt, &hub, &hosts, pass);
-    keep_working(rt, alloc, &mut seated, clock, link, spawner, &hosts);
-    let pass = seated.into_pass();
+    let mut seating = Seating::new(rt, &hub, &hosts, pass);
+    keep_working(rt, alloc, &mut seating, clock, link, spawner, &hosts);
+    let pass = seating.into_pass();
     Place { hub, hosts, pass }
 }
 
@@ -69,10 +75,12 @@ fn run_ticker<R: Wait, C: Clock, D: Draw>(
     draw: &mut D,
 ) -> Place
     ensures home { home_of result ≡ home_of place }
-    ensures ticking { Ticking (Some (made place.pass)) (Some (made result.pass)) (D.given draw.old) (D.given draw.new) }
+    ensures grows { Grows place.pass result.pass }
+    ensures ticking { Ticking (IsTrue (is_at_limit result.pass)) (Some (made place.pass))
+        (Some (made result.pass)) (D.given draw.old) (D.given draw.new) }
 {
     let Place { hub, hosts, pass } = place;
-    let mut seated = Seated::new(rt, &hub, &hosts, pass);
+    let mut seated = Seated::new(rt, &hub, pass);
     keep_ticking(rt, &mut seated, clock, draw);
     let pass = seated.into_pass();
     Place { hub, hosts, pass }
@@ -91,15 +99,25 @@ fn run_connection<R: Wait, S: Source, K: Sink, C: Clock, D: Draw>(
     draw: &mut D,
 ) -> (Place, SessionEnd)
     ensures home { home_of result.0 ≡ home_of place }
-    ensures read_cause { result.1 ≡ SessionEnd.ReadFault → Rose (S.faults source.old) (S.faults source.new) }
-    ensures write_cause { result.1 ≡ SessionEnd.WriteFault → Rose (K.faults sink.old) (K.faults sink.new) }
-    ensures numbered { LastNumbered result.1 tickets.end tickets.next (D.given draw.old) (D.given draw.new) (Some (made place.pass)) (Some (made result.0.pass)) }
-    ensures dialog { Dialog NoEvent (S.left source.old) (Some (made place.pass)) (Some (made result.0.pass)) (K.written sink.old) (K.written sink.new) result.1 }
+    ensures grows { Grows place.pass result.0.pass }
+    ensures read_cause { result.1 ≡ SessionEnd.ReadFault
+        → Rose (S.faults source.old) (S.faults source.new) }
+    ensures write_cause { result.1 ≡ SessionEnd.WriteFault
+        → Rose (K.faults sink.old) (K.faults sink.new) }
+    ensures numbered { LastNumbered result.1 tickets.end tickets.next (D.given draw.old)
+        (D.given draw.new) (Some (made place.pass)) (Some (made result.0.pass)) }
+    ensures dialog { Dialog NoEvent (IsTrue (is_at_limit result.0.pass)) (S.left source.old)
+        (Some (made place.pass)) (Some (made result.0.pass)) (K.written sink.old)
+        (K.written sink.new) result.1 }
+    ensures complete { Completes (S.left source.old) (Some (made place.pass))
+        (Some (made result.0.pass)) (IsTrue (is_at_limit result.0.pass)) tickets.end tickets.next
+        (S.faults source.old) (S.faults source.new) (K.faults sink.old)
+        (K.faults sink.new) result.1 }
 {
-    let Place { hub, hosts, pass } = place;
-    let mut seated = Seated::new(rt, &hub, &hosts, pass);
-    let end = serve_on(rt, alloc, &mut seated, tickets, clock, draw, source, sink);
-    let pass = seated.into_pass();
+    let Place { hub, hosts, mut pass } = place;
+    let end = serve_connection(
+        rt, alloc, &hub, &mut pass, tickets, clock, draw, source, sink,
+    );
     (Place { hub, hosts, pass }, end)
 }
 
@@ -114,19 +132,21 @@ fn run_follower<R: Wait, L: Link, C: Clock>(
     clock: &mut C,
 ) -> (Place, StreamEnd)
     ensures home { home_of result.0 ≡ home_of place }
-    ensures kept { L.faults link.old ≤ L.faults link.new }
-    ensures follows { (begun : Result (Option (List ℕ)) BeginFault) × Adds (L.made link.old) (L.made link.new) (Begun follow.now.member follow.now.call begun ∷ [])
-        × Follows follow.now.stream begun (L.faults link.old) (L.faults link.new) (Some (made place.pass)) (Some (made result.0.pass)) result.1 }
+    ensures grows { Grows place.pass result.0.pass }
+    ensures followed { IsFollowed (IsTrue (is_at_limit result.0.pass)) follow.now (L.made link.old)
+        (L.made link.new) (L.faults link.old) (L.faults link.new) (Some (made place.pass))
+        (Some (made result.0.pass)) result.1 }
 {
     let Place { hub, hosts, pass } = place;
-    let mut seated = Seated::new(rt, &hub, &hosts, pass);
+    let mut seated = Seated::new(rt, &hub, pass);
     let end = follow_stream(rt, alloc, &mut seated, clock, link, follow);
     let pass = seated.into_pass();
     (Place { hub, hosts, pass }, end)
 }
 
 /// Runs the call that a part names: a worker works and a ticker ticks until no further step can be made, a connection is served and a
-/// stream is followed once. It gives the place back, of the same hub and hosts, and a connection's source and sink.
+/// stream is followed once. It gives the place back, of the same hub and hosts, and a connection's source and sink. What the place's pass
+/// has then seen is a history that the core allows, and begins with what it had seen before.
 pub fn run_part<R: Wait, S: Source, K: Sink, L: Link, P: Spawner<Pass = Place>, C: Clock, D: Draw>(
     rt: &R,
     alloc: Global,
@@ -139,13 +159,25 @@ pub fn run_part<R: Wait, S: Source, K: Sink, L: Link, P: Spawner<Pass = Place>, 
 where
     P::Conn: Drop,
     ensures home { home_of result.place ≡ home_of (place_in part) }
-    ensures worker { IfWorker part (λ place. (result.end ≡ PartEnd.Worn) × IsSpent (arc_value place.hosts) (IsAt home_of (home_of place)) NoEvent TURNS
-        (ledger (Some (made place.pass)) (L.made link.old) (P.handed spawner.old) (L.faults link.old) (P.faults spawner.old))
-        (ledger (Some (made result.place.pass)) (L.made link.new) (P.handed spawner.new) (L.faults link.new) (P.faults spawner.new))) }
-    ensures ticker { IfTicker part (λ place. (result.end ≡ PartEnd.Worn) × Ticking (Some (made place.pass)) (Some (made result.place.pass)) (D.given draw.old) (D.given draw.new)) }
-    ensures connection { IfConnection part (λ place connection tickets. Served S.left S.faults K.written K.faults connection tickets (Some (made place.pass)) (Some (made result.place.pass))
-        (D.given draw.old) (D.given draw.new) result.source result.sink result.end) }
-    ensures follower { IfFollower part (λ place follow. Followed follow (L.made link.old) (L.made link.new) (L.faults link.old) (L.faults link.new) (Some (made place.pass)) (Some (made result.place.pass)) result.end) }
+    ensures allowed { IsSound result.place.pass }
+    ensures grows { Begins (place_in part).pass.seen result.place.pass.seen }
+    ensures worker { IfWorker part (λ place. (result.end ≡ PartEnd.Worn) × IsSpent
+        (arc_value place.hosts) (IsAt home_of (home_of place)) NoEvent
+        (IsTrue (is_at_limit result.place.pass)) TURNS (ledger (Some (made place.pass))
+        (L.made link.old) (P.handed spawner.old) (L.faults link.old) (P.faults spawner.old))
+        (ledger (Some (made result.place.pass)) (L.made link.new) (P.handed spawner.new)
+        (L.faults link.new) (P.faults spawner.new))) }
+    ensures ticker { IfTicker part (λ place. (result.end ≡ PartEnd.Worn) × Ticking
+        (IsTrue (is_at_limit result.place.pass)) (Some (made place.pass))
+        (Some (made result.place.pass)) (D.given draw.old) (D.given draw.new)) }
+    ensures connection { IfConnection part (λ place connection tickets. Served S.left S.faults
+        K.written K.faults connection tickets (IsTrue (is_at_limit result.place.pass))
+        (Some (made place.pass)) (Some (made result.place.pass)) (D.given draw.old)
+        (D.given draw.new) result.source result.sink result.end) }
+    ensures follower { IfFollower part (λ place follow. Followed follow
+        (IsTrue (is_at_limit result.place.pass)) (L.made link.old) (L.made link.new)
+        (L.faults link.old) (L.faults link.new) (Some (made place.pass))
+        (Some (made result.place.pass)) result.end) }
     ensures unlinked { links part ≡ false → link.new ≡ link.old }
     ensures unspawned { spawns part ≡ false → spawner.new ≡ spawner.old }
     ensures undrawn { draws part ≡ false → draw.new ≡ draw.old }

@@ -1,49 +1,46 @@
-ghost use Rattle.std.specs.Prelude.{◌≡◌, [], Some, length};
-ghost use Rattle.std.specs.Arc.{arc_value};
-ghost use Rattle.turn_hub.specs.Known.{made, opening_of};
+ghost use Rattle.std.specs.Prelude.{◌≡◌, [], Some};
+ghost use Rattle.turn_hub.specs.Known.{made};
 ghost use Rattle.serve_model.specs.Steps.{NoEvent};
+ghost use Rattle.proxy_parts.specs.Passes.{Grows, is_at_limit};
 
-use crate::place::Place;
 use core_model::{CoreEvent, Outcome};
-use etcd_types::{Bytes, List, NoMemory};
 use outside::Clock;
 use proxy_core::Core;
 use proxy_server::Turn;
-use proxy_workers::Seats;
 use serve_model::TurnFault;
-use std::alloc::Global;
-use std::sync::{Arc, Wait};
+use std::snapshot::Snapshot;
+use std::sync::Wait;
 use turn_hub::{Hub, HubFault, Pass};
 
 /// A pass at a hub whose core many parts step.
 #[derive(Drop)]
 pub struct Seated<'a, R: Wait> {
     rt: &'a R,
-    hub: &'a Arc<Hub<Core>, Global>,
-    hosts: &'a Arc<List<Bytes>, Global>,
+    hub: &'a Hub<Core>,
     pass: Pass<Core>,
-    ghost mine: { pass.hub ≡ arc_value hub.now },
-    ghost numbered: { (opening_of (arc_value hub.now)).settings.members ≡ length (arc_value hosts.now) },
+    // the pass before it was seated
+    begun: Snapshot<Pass<Core>>,
+    ghost mine: { pass.hub ≡ hub.now },
 }
 
 impl<'a, R: Wait> Seated<'a, R> {
-    /// A turn over a pass of the hub, whose core was opened with as many members as there are hosts.
-    pub fn new(
-        rt: &'a R,
-        hub: &'a Arc<Hub<Core>, Global>,
-        hosts: &'a Arc<List<Bytes>, Global>,
-        pass: Pass<Core>,
-    ) -> Seated<'a, R>
-        requires mine { pass.hub ≡ arc_value hub.now }
-        requires numbered { (opening_of (arc_value hub.now)).settings.members ≡ length (arc_value hosts.now) }
-        ensures pass { result.pass ≡ pass }
-        ensures hosts { result.hosts.now ≡ hosts.now }
+    /// A turn over a pass of the hub, which meets the hub's history first.
+    pub fn new(rt: &'a R, hub: &'a Hub<Core>, pass: Pass<Core>) -> Seated<'a, R>
+        requires { pass.hub ≡ hub.now }
+        ensures hub { result.pass.hub ≡ pass.hub }
+        ensures made { made result.pass ≡ made pass }
+        ensures begun { result.begun.value ≡ pass }
+        ensures grows { Grows pass result.pass }
     {
+        let begun = Snapshot::of(&pass);
+        let mut pass = pass;
+        let mut other = hub.split(&mut pass);
+        hub.meet(&mut pass, &mut other);
         Seated {
             rt,
             hub,
-            hosts,
             pass,
+            begun,
         }
     }
 
@@ -53,18 +50,30 @@ impl<'a, R: Wait> Seated<'a, R> {
     {
         self.pass
     }
+
+    /// A further pass, which has seen what this one has.
+    pub(crate) fn split(&mut self) -> Pass<Core>
+        ensures apart { result ≡ record self.old.pass { own = [] } }
+        ensures same { self.new ≡ self.old }
+    {
+        self.hub.split(&mut self.pass)
+    }
 }
 
 impl<'a, R: Wait> Turn for Seated<'a, R> {
-    type Home = (Pass<Core>, List<Bytes>);
+    type Home = Pass<Core>;
 
     ghost use Rattle.std.specs.Prelude.{[]};
 
-    ghost home = { λ s. (record s.pass { seen = []; own = [] }, arc_value s.hosts.now) };
+    ghost home = { λ s. record s.pass { seen = []; own = [] } };
 
     ghost made = { λ s. Some (made s.pass) };
 
     ghost rests = { NoEvent };
+
+    ghost worn = { λ s. is_at_limit s.pass };
+
+    ghost allowed = { λ s. Grows s.begun.value s.pass };
 
     fn turn<C: Clock>(&mut self, event: CoreEvent, clock: &mut C) -> Result<Outcome, TurnFault> {
         match self.hub.step(self.rt, &mut self.pass, event, clock) {
@@ -77,20 +86,5 @@ impl<'a, R: Wait> Turn for Seated<'a, R> {
     fn rest<C: Clock>(&mut self, _clock: &mut C) -> Result<(), TurnFault> {
         self.hub.wait(self.rt, &mut self.pass);
         Ok(())
-    }
-}
-
-impl<'a, R: Wait> Seats for Seated<'a, R> {
-    type Place = Place;
-
-    ghost use Rattle.proxy_parts.specs.Homes.{home_of};
-
-    ghost place_home = { home_of };
-
-    fn another(&mut self) -> Result<Place, NoMemory> {
-        let hub = Arc::try_clone(self.hub)?;
-        let hosts = Arc::try_clone(self.hosts)?;
-        let pass = self.hub.split(&mut self.pass);
-        Ok(Place { hub, hosts, pass })
     }
 }

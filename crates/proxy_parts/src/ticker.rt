@@ -1,7 +1,7 @@
-ghost use Rattle.std.specs.Prelude.{◌≡◌};
-ghost use Rattle.part_model.specs.Ticking.{OneTick, Ticking, is_last};
+ghost use Rattle.std.specs.Prelude.{◌≡◌, IsTrue};
+ghost use Rattle.part_model.specs.Ticking.{OneTick, Ticking};
 
-use core_model::{CoreEvent, StepFault};
+use core_model::CoreEvent;
 use outside::{Clock, Draw};
 use proxy_server::Turn;
 use serve_model::TurnFault;
@@ -10,14 +10,16 @@ use std::sync::Wait;
 /// The ticker rests so many milliseconds between two ticks.
 pub const TICK: u64 = 500;
 
-/// Makes one step on Tick, with one drawn word.
+/// Makes one step on Tick, with one drawn word. It fails where the turn or its core makes no more steps, and for nothing else.
 pub fn tick<T: Turn, C: Clock, D: Draw>(
     turn: &mut T,
     clock: &mut C,
     draw: &mut D,
 ) -> Result<(), TurnFault>
     ensures home { T.home turn.new ≡ T.home turn.old }
-    ensures ticked { OneTick (T.made turn.old) (T.made turn.new) (D.given draw.old) (D.given draw.new) result }
+    ensures allowed { T.allowed turn.old → T.allowed turn.new }
+    ensures ticked { OneTick (IsTrue (T.worn turn.new)) (T.made turn.old) (T.made turn.new)
+        (D.given draw.old) (D.given draw.new) result }
 {
     let drawn = draw.word();
     let fault = match turn.turn(CoreEvent::Tick { word: drawn }, clock) {
@@ -27,17 +29,7 @@ pub fn tick<T: Turn, C: Clock, D: Draw>(
     Err(fault)
 }
 
-/// Whether no step is made any more behind a tick.
-fn is_last(ticked: &Result<(), TurnFault>) -> bool
-    ensures { result ≡ is_last ticked.now }
-{
-    matches!(
-        ticked,
-        Err(TurnFault::Worn | TurnFault::Core(StepFault::Worn))
-    )
-}
-
-/// Ticks again and again, until no further step can be made. Want of memory in the core is passed over: the next tick comes.
+/// Ticks again and again, until no further step can be made.
 pub fn keep_ticking<R: Wait, T: Turn, C: Clock, D: Draw>(
     rt: &R,
     turn: &mut T,
@@ -45,12 +37,14 @@ pub fn keep_ticking<R: Wait, T: Turn, C: Clock, D: Draw>(
     draw: &mut D,
 )
     ensures home { T.home turn.new ≡ T.home turn.old }
-    ensures ticking { Ticking (T.made turn.old) (T.made turn.new) (D.given draw.old) (D.given draw.new) }
+    ensures allowed { T.allowed turn.old → T.allowed turn.new }
+    ensures ticking { Ticking (IsTrue (T.worn turn.new)) (T.made turn.old) (T.made turn.new)
+        (D.given draw.old) (D.given draw.new) }
 {
     'ticks: for _ in rt.forever() {
-        let ticked = tick(turn, clock, draw);
-        if is_last(&ticked) {
-            return;
+        match tick(turn, clock, draw) {
+            Ok(()) => {}
+            Err(_) => return,
         }
         clock.pause(TICK);
     }

@@ -1,4 +1,4 @@
-ghost use Rattle.std.specs.Prelude.{◌≡◌};
+ghost use Rattle.std.specs.Prelude.{◌≡◌, IsTrue};
 ghost use Rattle.work_model.specs.Working.{IsAt, ledger};
 ghost use Rattle.part_model.specs.Rounds.{IsSpent};
 
@@ -27,8 +27,12 @@ pub fn keep_working<R: Wait, T: Seats, L: Link, P: Spawner<Pass = T::Place>, C: 
 where
     P::Conn: Drop,
     ensures home { T.home turn.new ≡ T.home turn.old }
-    ensures spent { IsSpent hosts.now (IsAt T.place_home (T.home turn.old)) T.rests TURNS (ledger (T.made turn.old) (L.made link.old) (P.handed spawner.old) (L.faults link.old) (P.faults spawner.old))
-        (ledger (T.made turn.new) (L.made link.new) (P.handed spawner.new) (L.faults link.new) (P.faults spawner.new)) }
+    ensures allowed { T.allowed turn.old → T.allowed turn.new }
+    ensures spent { IsSpent hosts.now (IsAt T.place_home (T.home turn.old)) T.rests
+        (IsTrue (T.worn turn.new)) TURNS (ledger (T.made turn.old) (L.made link.old)
+        (P.handed spawner.old) (L.faults link.old) (P.faults spawner.old))
+        (ledger (T.made turn.new) (L.made link.new) (P.handed spawner.new) (L.faults link.new)
+        (P.faults spawner.new)) }
 {
     'rounds: for _ in rt.forever() {
         match work(rt, alloc, turn, clock, link, spawner, hosts, TURNS) {

@@ -1,5 +1,5 @@
 -- Ends that don't come from where they would need a cause.
-use Rattle.std.proofs.Common.{◌≡◌, ℕ, ◌≤◌, subst}
+use Rattle.std.proofs.Common.{◌≡◌, ℕ, ◌≤◌, subst, arith}
 use Rattle.serve_model.specs.declared.ends.SessionEnd.{SessionEnd}
 use Rattle.serve_model.specs.declared.ends.SessionEnd.TheVariants as end
 use Rattle.serve_model.specs.Dialog.{Breaking}
@@ -37,3 +37,7 @@ asking_else end.OutOfTickets a = a
 asking_else (end.TicketTaken ticket) a = tt
 asking_else end.Worn a = tt
 asking_else end.NoMemory a = tt
+
+-- a count that rose had not fallen before
+pub rose_before : (first earlier later : ℕ) → first ≤ earlier → Rose earlier later → Rose first later
+rose_before first earlier later k r = omega arith

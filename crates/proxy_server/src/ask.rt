@@ -1,10 +1,9 @@
-ghost use Rattle.std.specs.Prelude.{◌≡◌, ◌≤◌, List, [], IfErr};
+ghost use Rattle.std.specs.Prelude.{◌≡◌, ◌≤◌, [], IfErr, IsTrue};
 ghost use Rattle.std.specs.Io.KnownBytes.{Keeps};
 ghost use Rattle.outside.specs.Faults.{Rose};
-ghost use Rattle.serve_model.specs.Steps.{Step, Did};
-ghost use Rattle.serve_model.specs.Dialog.{Gone, is_worn, is_in_use};
+ghost use Rattle.serve_model.specs.Dialog.{is_worn, is_in_use};
 ghost use Rattle.serve_model.specs.Numbers.{Asked, AsksOne};
-ghost use Rattle.serve_model.specs.Parts.{Asks};
+ghost use Rattle.serve_model.specs.Parts.{Asks, Left, IsOfTicket};
 ghost use Rattle.proxy_server.specs.Causes.{IsOfAsking};
 
 use crate::ends::{end_by, end_of};
@@ -32,14 +31,17 @@ fn is_in_use(fault: TurnFault) -> bool
     matches!(fault, TurnFault::Core(StepFault::TicketUsed(_)))
 }
 
-/// Leaves the ticket where it is still known.
+/// Leaves the ticket where it is still known and steps are still made.
 fn leave<T: Turn, C: Clock>(turn: &mut T, clock: &mut C, ticket: u64, end: SessionEnd) -> SessionEnd
     ensures home { T.home turn.new ≡ T.home turn.old }
+    ensures allowed { T.allowed turn.old → T.allowed turn.new }
     ensures asking { IsOfAsking end → IsOfAsking result }
     ensures reading { result ≡ SessionEnd.ReadFault → end ≡ SessionEnd.ReadFault }
     ensures writing { result ≡ SessionEnd.WriteFault → end ≡ SessionEnd.WriteFault }
     ensures quiet { Asked (T.made turn.old) (T.made turn.new) [] }
-    ensures left { (tail : List Step) × Gone ticket end result tail × Did T.rests (T.made turn.old) (T.made turn.new) tail }
+    ensures late { IsTrue (T.worn turn.old) → IsTrue (T.worn turn.new) }
+    ensures left { IsOfTicket ticket end → Left T.rests (IsTrue (T.worn turn.new)) ticket end result
+        (T.made turn.old) (T.made turn.new) }
 {
     match end {
         SessionEnd::Worn => SessionEnd::Worn,
@@ -69,14 +71,18 @@ pub(crate) fn ask<R: Wait, T: Turn, S: Source, K: Sink, C: Clock>(
     request: Request,
 ) -> Result<Attempt, SessionEnd>
     ensures home { T.home turn.new ≡ T.home turn.old }
-    ensures read_cause { IfErr result (λ end. end ≡ SessionEnd.ReadFault → Rose (S.faults source.old) (S.faults source.new)) }
-    ensures write_cause { IfErr result (λ end. end ≡ SessionEnd.WriteFault → Rose (K.faults sink.old) (K.faults sink.new)) }
+    ensures allowed { T.allowed turn.old → T.allowed turn.new }
+    ensures read_cause { IfErr result (λ end. end ≡ SessionEnd.ReadFault
+        → Rose (S.faults source.old) (S.faults source.new)) }
+    ensures write_cause { IfErr result (λ end. end ≡ SessionEnd.WriteFault
+        → Rose (K.faults sink.old) (K.faults sink.new)) }
     ensures reads { S.faults source.old ≤ S.faults source.new }
     ensures writes { K.faults sink.old ≤ K.faults sink.new }
     ensures end { IfErr result IsOfAsking }
     ensures ahead { Keeps (S.left source.old) (S.left source.new) }
     ensures one { AsksOne ticket word (T.made turn.old) (T.made turn.new) result }
-    ensures asks { Asks T.rests request (T.made turn.old) (T.made turn.new) (K.written sink.old) (K.written sink.new) result }
+    ensures asks { Asks T.rests (IsTrue (T.worn turn.new)) request (T.made turn.old)
+        (T.made turn.new) (K.written sink.old) (K.written sink.new) result }
 {
     let asked = CoreEvent::Ask {
         ticket,

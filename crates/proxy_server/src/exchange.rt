@@ -1,4 +1,4 @@
-ghost use Rattle.std.specs.Prelude.{◌≡◌, ◌≤◌, ◌<◌, ◌+◌, None, IfNone, IfSome, IfOk, IfErr};
+ghost use Rattle.std.specs.Prelude.{◌≡◌, ◌≤◌, ◌<◌, ◌+◌, None, IfNone, IfSome, IfOk, IfErr, IsTrue};
 ghost use Rattle.std.specs.Io.KnownBytes.{Keeps};
 ghost use Rattle.outside.specs.Faults.{Rose};
 ghost use Rattle.http_wire.specs.Connections.{bytes_ahead};
@@ -13,10 +13,18 @@ use crate::refused::{asked, refuse_request};
 use crate::turn::Turn;
 use etcd_types::{NoMemory, Request};
 use http_wire::Wire;
-use outside::{Clock, Draw, Sink, Source, TicketRange};
+use outside::{Clock, Draw, ReadMark, RequestKind, Sink, Source, TicketRange};
 use serve_model::{Attempt, Received, SessionEnd};
 use std::alloc::Global;
 use std::sync::Wait;
+
+/// Says what kind of request was read.
+fn name_kind<S: Source>(source: &mut S, kind: RequestKind)
+    ensures ahead { Keeps (S.left source.old) (S.left source.new) }
+    ensures reads { S.faults source.new ≡ S.faults source.old }
+{
+    source.mark(ReadMark::Request(kind));
+}
 
 /// Asks a request with the next ticket and a drawn word, if a ticket is left.
 #[inline(never)]
@@ -32,17 +40,24 @@ fn respond<R: Wait, T: Turn, S: Source, K: Sink, C: Clock, D: Draw>(
     request: Request,
 ) -> Result<Attempt, SessionEnd>
     ensures home { T.home turn.new ≡ T.home turn.old }
+    ensures allowed { T.allowed turn.old → T.allowed turn.new }
     ensures limit { tickets.new.end ≡ tickets.old.end }
-    ensures next { IfOk result (λ attempt. tickets.old.next < tickets.old.end × tickets.new.next ≡ tickets.old.next + 1) }
+    ensures next { IfOk result (λ attempt. tickets.old.next < tickets.old.end
+        × tickets.new.next ≡ tickets.old.next + 1) }
     ensures breaking { IfErr result Breaking }
-    ensures read_cause { IfErr result (λ end. end ≡ SessionEnd.ReadFault → Rose (S.faults source.old) (S.faults source.new)) }
-    ensures write_cause { IfErr result (λ end. end ≡ SessionEnd.WriteFault → Rose (K.faults sink.old) (K.faults sink.new)) }
+    ensures read_cause { IfErr result (λ end. end ≡ SessionEnd.ReadFault
+        → Rose (S.faults source.old) (S.faults source.new)) }
+    ensures write_cause { IfErr result (λ end. end ≡ SessionEnd.WriteFault
+        → Rose (K.faults sink.old) (K.faults sink.new)) }
     ensures reads { S.faults source.old ≤ S.faults source.new }
     ensures writes { K.faults sink.old ≤ K.faults sink.new }
     ensures ahead { Keeps (S.left source.old) (S.left source.new) }
-    ensures numbered { NumberedBy tickets.old.end tickets.old.next tickets.new.next (D.given draw.old) (D.given draw.new) (T.made turn.old) (T.made turn.new) result }
-    ensures asks { Asks T.rests request (T.made turn.old) (T.made turn.new) (K.written sink.old) (K.written sink.new) result }
+    ensures numbered { NumberedBy tickets.old.end tickets.old.next tickets.new.next
+        (D.given draw.old) (D.given draw.new) (T.made turn.old) (T.made turn.new) result }
+    ensures asks { Asks T.rests (IsTrue (T.worn turn.new)) request (T.made turn.old)
+        (T.made turn.new) (K.written sink.old) (K.written sink.new) result }
 {
+    name_kind(source, RequestKind::of(&request));
     if tickets.next >= tickets.end {
         return Err(SessionEnd::OutOfTickets);
     }
@@ -78,15 +93,21 @@ fn answer<R: Wait, T: Turn, S: Source, K: Sink, C: Clock, D: Draw>(
     received: &Received,
 ) -> Option<SessionEnd>
     ensures home { T.home turn.new ≡ T.home turn.old }
+    ensures allowed { T.allowed turn.old → T.allowed turn.new }
     ensures limit { tickets.new.end ≡ tickets.old.end }
     ensures breaking { IfSome result Breaking }
-    ensures read_cause { IfSome result (λ end. end ≡ SessionEnd.ReadFault → Rose (S.faults source.old) (S.faults source.new)) }
-    ensures write_cause { IfSome result (λ end. end ≡ SessionEnd.WriteFault → Rose (K.faults sink.old) (K.faults sink.new)) }
+    ensures read_cause { IfSome result (λ end. end ≡ SessionEnd.ReadFault
+        → Rose (S.faults source.old) (S.faults source.new)) }
+    ensures write_cause { IfSome result (λ end. end ≡ SessionEnd.WriteFault
+        → Rose (K.faults sink.old) (K.faults sink.new)) }
     ensures reads { S.faults source.old ≤ S.faults source.new }
     ensures writes { K.faults sink.old ≤ K.faults sink.new }
     ensures ahead { Keeps (S.left source.old) (S.left source.new) }
-    ensures numbered { NumberedSo tickets.old.end tickets.old.next tickets.new.next (D.given draw.old) (D.given draw.new) (T.made turn.old) (T.made turn.new) result }
-    ensures responds { Responds T.rests received.now.head.method (asked_of received.now.head received.now.body) (T.made turn.old) (T.made turn.new) (K.written sink.old) (K.written sink.new) result }
+    ensures numbered { NumberedSo tickets.old.end tickets.old.next tickets.new.next
+        (D.given draw.old) (D.given draw.new) (T.made turn.old) (T.made turn.new) result }
+    ensures responds { Responds T.rests (IsTrue (T.worn turn.new)) received.now.head.method
+        (asked_of received.now.head received.now.body) (T.made turn.old) (T.made turn.new)
+        (K.written sink.old) (K.written sink.new) result }
 {
     'tries: loop {
         match asked(alloc, received) {
@@ -98,6 +119,7 @@ fn answer<R: Wait, T: Turn, S: Source, K: Sink, C: Clock, D: Draw>(
                 Err(end) => return Some(end),
             },
             Ok(Err(refused)) => {
+                name_kind(source, RequestKind::Other);
                 match refuse_request(alloc, sink, &received.head.method, &refused) {
                     Ok(()) => return None,
                     Err(fault) => return Some(end_by(fault)),
@@ -122,14 +144,20 @@ pub(crate) fn exchange<R: Wait, T: Turn, S: Source, K: Sink, C: Clock, D: Draw>(
 ) -> Option<SessionEnd>
     requires sound { wire.old.fault ≡ None }
     ensures home { T.home turn.new ≡ T.home turn.old }
+    ensures allowed { T.allowed turn.old → T.allowed turn.new }
     ensures limit { tickets.new.end ≡ tickets.old.end }
     ensures sound { IfNone result (wire.new.fault ≡ None) }
-    ensures read_cause { IfSome result (λ end. end ≡ SessionEnd.ReadFault → Rose (S.faults source.old) (S.faults source.new)) }
-    ensures write_cause { IfSome result (λ end. end ≡ SessionEnd.WriteFault → Rose (K.faults sink.old) (K.faults sink.new)) }
+    ensures read_cause { IfSome result (λ end. end ≡ SessionEnd.ReadFault
+        → Rose (S.faults source.old) (S.faults source.new)) }
+    ensures write_cause { IfSome result (λ end. end ≡ SessionEnd.WriteFault
+        → Rose (K.faults sink.old) (K.faults sink.new)) }
     ensures reads { S.faults source.old ≤ S.faults source.new }
     ensures writes { K.faults sink.old ≤ K.faults sink.new }
-    ensures numbered { NumberedSo tickets.old.end tickets.old.next tickets.new.next (D.given draw.old) (D.given draw.new) (T.made turn.old) (T.made turn.new) result }
-    ensures turned { Turned T.rests (bytes_ahead (S.left source.old) wire.old) (bytes_ahead (S.left source.new) wire.new) (T.made turn.old) (T.made turn.new) (K.written sink.old) (K.written sink.new) result }
+    ensures numbered { NumberedSo tickets.old.end tickets.old.next tickets.new.next
+        (D.given draw.old) (D.given draw.new) (T.made turn.old) (T.made turn.new) result }
+    ensures turned { Turned T.rests (IsTrue (T.worn turn.new))
+        (bytes_ahead (S.left source.old) wire.old) (bytes_ahead (S.left source.new) wire.new)
+        (T.made turn.old) (T.made turn.new) (K.written sink.old) (K.written sink.new) result }
 {
     let received = match receive(alloc, wire, source, sink) {
         Ok(received) => received,

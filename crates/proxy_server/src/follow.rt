@@ -1,4 +1,4 @@
-ghost use Rattle.std.specs.Prelude.{◌≡◌, ◌≤◌, [], IfErr};
+ghost use Rattle.std.specs.Prelude.{◌≡◌, ◌≤◌, [], IfErr, IsTrue};
 ghost use Rattle.std.specs.Io.KnownBytes.{Keeps};
 ghost use Rattle.outside.specs.Faults.{Rose};
 ghost use Rattle.serve_model.specs.Numbers.{Asked};
@@ -27,14 +27,18 @@ pub(crate) fn follow<R: Wait, T: Turn, S: Source, K: Sink, C: Clock>(
     ticket: u64,
 ) -> Result<(), Stop>
     ensures home { T.home turn.new ≡ T.home turn.old }
-    ensures read_cause { IfErr result (λ why. end_in why ≡ SessionEnd.ReadFault → Rose (S.faults source.old) (S.faults source.new)) }
-    ensures write_cause { IfErr result (λ why. end_in why ≡ SessionEnd.WriteFault → Rose (K.faults sink.old) (K.faults sink.new)) }
+    ensures allowed { T.allowed turn.old → T.allowed turn.new }
+    ensures read_cause { IfErr result (λ why. end_in why ≡ SessionEnd.ReadFault
+        → Rose (S.faults source.old) (S.faults source.new)) }
+    ensures write_cause { IfErr result (λ why. end_in why ≡ SessionEnd.WriteFault
+        → Rose (K.faults sink.old) (K.faults sink.new)) }
     ensures reads { S.faults source.old ≤ S.faults source.new }
     ensures writes { K.faults sink.old ≤ K.faults sink.new }
     ensures end { IfErr result (λ why. IsOfAsking (end_in why)) }
     ensures ahead { Keeps (S.left source.old) (S.left source.new) }
     ensures quiet { Asked (T.made turn.old) (T.made turn.new) [] }
-    ensures follows { Follows T.rests ticket (T.made turn.old) (T.made turn.new) (K.written sink.old) (K.written sink.new) result }
+    ensures follows { Follows T.rests (IsTrue (T.worn turn.new)) ticket (T.made turn.old)
+        (T.made turn.new) (K.written sink.old) (K.written sink.new) result }
 {
     let mut begun = false;
     'takes: for _ in rt.forever() {

@@ -30,7 +30,9 @@ fn is_of_bytes(fault: WireFault) -> bool
 #[tactic(auto, using(serve_model::proofs::Said::front_by))]
 fn refuse_bytes<K: Sink>(alloc: Global, sink: &mut K, fault: WireFault)
     ensures kept { K.faults sink.old ≤ K.faults sink.new }
-    ensures told { MatchBool (is_of_bytes fault) (WritesFront (K.written sink.old) (K.written sink.new) (spec.refusal (Refused.Bytes))) (Keeps (K.written sink.old) (K.written sink.new)) }
+    ensures told { MatchBool (is_of_bytes fault) (WritesFront (K.written sink.old)
+        (K.written sink.new) (spec.refusal (Refused.Bytes)))
+        (Keeps (K.written sink.old) (K.written sink.new)) }
 {
     if is_of_bytes(fault) {
         let _ = refuse(alloc, sink, &Refused::Bytes);
@@ -41,8 +43,10 @@ fn refuse_bytes<K: Sink>(alloc: Global, sink: &mut K, fault: WireFault)
 #[tactic(auto, unfolding(serve_model::specs::Dialog::go_on_of))]
 fn encourage<K: Sink>(sink: &mut K, head: &Head) -> Result<(), WireFault>
     ensures kept { K.faults sink.old ≤ K.faults sink.new }
-    ensures cause { IsErrOf result WireFault.WriteFault → Rose (K.faults sink.old) (K.faults sink.new) }
-    ensures written { Writes (K.written sink.old) (K.written sink.new) (spec.go_on_of head.now) result }
+    ensures cause { IsErrOf result WireFault.WriteFault
+        → Rose (K.faults sink.old) (K.faults sink.new) }
+    ensures written { Writes (K.written sink.old) (K.written sink.new)
+        (spec.go_on_of head.now) result }
 {
     if head.expects {
         write_continue(sink)
@@ -61,12 +65,16 @@ pub(crate) fn receive<S: Source, K: Sink>(
 ) -> Result<Received, SessionEnd>
     requires sound { wire.old.fault ≡ None }
     ensures sound { OnOk result (wire.new.fault ≡ None) }
-    ensures read_cause { IfErr result (λ end. end ≡ SessionEnd.ReadFault → Rose (S.faults source.old) (S.faults source.new)) }
-    ensures write_cause { IfErr result (λ end. end ≡ SessionEnd.WriteFault → Rose (K.faults sink.old) (K.faults sink.new)) }
+    ensures read_cause { IfErr result (λ end. end ≡ SessionEnd.ReadFault
+        → Rose (S.faults source.old) (S.faults source.new)) }
+    ensures write_cause { IfErr result (λ end. end ≡ SessionEnd.WriteFault
+        → Rose (K.faults sink.old) (K.faults sink.new)) }
     ensures other { IfErr result IsElse }
     ensures reads { S.faults source.old ≤ S.faults source.new }
     ensures writes { K.faults sink.old ≤ K.faults sink.new }
-    ensures gets { Gets (bytes_ahead (S.left source.old) wire.old) (bytes_ahead (S.left source.new) wire.new) (K.written sink.old) (K.written sink.new) result }
+    ensures gets { Gets (bytes_ahead (S.left source.old) wire.old)
+        (bytes_ahead (S.left source.new) wire.new) (K.written sink.old)
+        (K.written sink.new) result }
 {
     let head = match wire.read_head(source) {
         Ok(Some(head)) => head,

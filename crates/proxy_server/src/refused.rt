@@ -96,7 +96,8 @@ fn name_of(fault: &ApiFault) -> Option<&Bytes>
 
 /// The words of a fault, with its name.
 fn fault_words(alloc: Global, fault: &ApiFault) -> Result<Bytes, NoMemory>
-    ensures { IfOk result (λ words. words ≡ spec.with_name (codes "proxy: " ++ api_fault_text fault.now) (spec.named_in fault.now)) }
+    ensures { IfOk result (λ words. words ≡ spec.with_name
+        (codes "proxy: " ++ api_fault_text fault.now) (spec.named_in fault.now)) }
 {
     let kind = format!(in alloc; "proxy: {fault}")?;
     let mut words = kind.into_bytes();
@@ -142,9 +143,11 @@ pub(crate) fn refuse<K: Sink>(
     sink: &mut K,
     refused: &Refused,
 ) -> Result<(), WireFault>
-    ensures written { Writes (K.written sink.old) (K.written sink.new) (spec.refusal refused.now) result }
+    ensures written { Writes (K.written sink.old) (K.written sink.new)
+        (spec.refusal refused.now) result }
     ensures fault { IfErr result IsOfWriting }
-    ensures cause { IsErrOf result WireFault.WriteFault → Rose (K.faults sink.old) (K.faults sink.new) }
+    ensures cause { IsErrOf result WireFault.WriteFault
+        → Rose (K.faults sink.old) (K.faults sink.new) }
     ensures kept { K.faults sink.old ≤ K.faults sink.new }
 {
     let Ok((status, body)) = refusal(alloc, refused) else {
@@ -162,9 +165,11 @@ pub(crate) fn refuse_request<K: Sink>(
     method: &Method,
     refused: &Refused,
 ) -> Result<(), WireFault>
-    ensures written { Writes (K.written sink.old) (K.written sink.new) (spec.refusal_to method.now refused.now) result }
+    ensures written { Writes (K.written sink.old) (K.written sink.new)
+        (spec.refusal_to method.now refused.now) result }
     ensures fault { IfErr result IsOfWriting }
-    ensures cause { IsErrOf result WireFault.WriteFault → Rose (K.faults sink.old) (K.faults sink.new) }
+    ensures cause { IsErrOf result WireFault.WriteFault
+        → Rose (K.faults sink.old) (K.faults sink.new) }
     ensures kept { K.faults sink.old ≤ K.faults sink.new }
 {
     let Ok((status, body)) = refusal(alloc, refused) else {

@@ -1,5 +1,6 @@
-ghost use Rattle.std.specs.Prelude.{◌≡◌};
+ghost use Rattle.std.specs.Prelude.{◌≡◌, IsTrue};
 ghost use Rattle.outside.specs.Faults.{Rose};
+ghost use Rattle.serve_model.specs.Complete.{Completes};
 ghost use Rattle.serve_model.specs.Dialog.{Dialog};
 ghost use Rattle.serve_model.specs.Numbers.{LastNumbered};
 
@@ -24,10 +25,18 @@ pub fn serve_on<R: Wait, T: Turn, S: Source, K: Sink, C: Clock, D: Draw>(
     sink: &mut K,
 ) -> SessionEnd
     ensures home { T.home turn.new ≡ T.home turn.old }
-    ensures read_cause { result ≡ SessionEnd.ReadFault → Rose (S.faults source.old) (S.faults source.new) }
-    ensures write_cause { result ≡ SessionEnd.WriteFault → Rose (K.faults sink.old) (K.faults sink.new) }
-    ensures numbered { LastNumbered result tickets.end tickets.next (D.given draw.old) (D.given draw.new) (T.made turn.old) (T.made turn.new) }
-    ensures dialog { Dialog T.rests (S.left source.old) (T.made turn.old) (T.made turn.new) (K.written sink.old) (K.written sink.new) result }
+    ensures allowed { T.allowed turn.old → T.allowed turn.new }
+    ensures read_cause { result ≡ SessionEnd.ReadFault
+        → Rose (S.faults source.old) (S.faults source.new) }
+    ensures write_cause { result ≡ SessionEnd.WriteFault
+        → Rose (K.faults sink.old) (K.faults sink.new) }
+    ensures numbered { LastNumbered result tickets.end tickets.next (D.given draw.old)
+        (D.given draw.new) (T.made turn.old) (T.made turn.new) }
+    ensures dialog { Dialog T.rests (IsTrue (T.worn turn.new)) (S.left source.old) (T.made turn.old)
+        (T.made turn.new) (K.written sink.old) (K.written sink.new) result }
+    ensures complete { Completes (S.left source.old) (T.made turn.old) (T.made turn.new)
+        (IsTrue (T.worn turn.new)) tickets.end tickets.next (S.faults source.old)
+        (S.faults source.new) (K.faults sink.old) (K.faults sink.new) result }
 {
     let Ok(mut wire) = Wire::new(alloc) else {
         return SessionEnd::NoMemory;

@@ -1,4 +1,4 @@
-ghost use Rattle.std.specs.Prelude.{◌≡◌, ◌≤◌, [], IfErr};
+ghost use Rattle.std.specs.Prelude.{◌≡◌, ◌≤◌, [], IfErr, IsTrue};
 ghost use Rattle.outside.specs.Faults.{Rose};
 ghost use Rattle.serve_model.specs.Numbers.{Asked};
 ghost use Rattle.serve_model.specs.Parts.{Takes, PassesOn, end_in};
@@ -20,7 +20,8 @@ fn pass_on<K: Sink>(
     begun: bool,
     item: &WatchItem,
 ) -> Result<Taken, Stop>
-    ensures cause { IfErr result (λ why. end_in why ≡ SessionEnd.WriteFault → Rose (K.faults sink.old) (K.faults sink.new)) }
+    ensures cause { IfErr result (λ why. end_in why ≡ SessionEnd.WriteFault
+        → Rose (K.faults sink.old) (K.faults sink.new)) }
     ensures kept { K.faults sink.old ≤ K.faults sink.new }
     ensures end { IfErr result (λ why. IsOfTakes (end_in why)) }
     ensures asking { IfErr result (λ why. IsOfAsking (end_in why)) }
@@ -56,12 +57,15 @@ pub(crate) fn take<T: Turn, K: Sink, C: Clock>(
     begun: bool,
 ) -> Result<Taken, Stop>
     ensures home { T.home turn.new ≡ T.home turn.old }
-    ensures cause { IfErr result (λ why. end_in why ≡ SessionEnd.WriteFault → Rose (K.faults sink.old) (K.faults sink.new)) }
+    ensures allowed { T.allowed turn.old → T.allowed turn.new }
+    ensures cause { IfErr result (λ why. end_in why ≡ SessionEnd.WriteFault
+        → Rose (K.faults sink.old) (K.faults sink.new)) }
     ensures kept { K.faults sink.old ≤ K.faults sink.new }
     ensures end { IfErr result (λ why. IsOfTakes (end_in why)) }
     ensures asking { IfErr result (λ why. IsOfAsking (end_in why)) }
     ensures quiet { Asked (T.made turn.old) (T.made turn.new) [] }
-    ensures takes { Takes T.rests ticket begun (T.made turn.old) (T.made turn.new) (K.written sink.old) (K.written sink.new) result }
+    ensures takes { Takes T.rests (IsTrue (T.worn turn.new)) ticket begun (T.made turn.old)
+        (T.made turn.new) (K.written sink.old) (K.written sink.new) result }
 {
     match turn.turn(CoreEvent::Take { ticket }, clock) {
         Ok(Outcome::Pending) => Ok(Taken::Nothing),

@@ -12,9 +12,11 @@ use std::alloc::Global;
 /// Writes the reply that an answer is.
 #[tactic(auto, unfolding(serve_model::specs::Dialog::reply_of), using(serve_model::proofs::Said::tells_by, serve_model::proofs::Said::front_none))]
 fn write_answer<K: Sink>(alloc: Global, sink: &mut K, answer: &Answer) -> Result<(), WireFault>
-    ensures written { Tells (K.written sink.old) (K.written sink.new) (spec.reply_of answer.now) result }
+    ensures written { Tells (K.written sink.old) (K.written sink.new)
+        (spec.reply_of answer.now) result }
     ensures fault { IfErr result IsOfWriting }
-    ensures cause { IsErrOf result WireFault.WriteFault → Rose (K.faults sink.old) (K.faults sink.new) }
+    ensures cause { IsErrOf result WireFault.WriteFault
+        → Rose (K.faults sink.old) (K.faults sink.new) }
     ensures kept { K.faults sink.old ≤ K.faults sink.new }
 {
     let Ok((status, text)) = encode_reply(alloc, answer) else {
@@ -31,9 +33,11 @@ pub(crate) fn tell<K: Sink>(
     begun: bool,
     answer: &Answer,
 ) -> Result<(), WireFault>
-    ensures written { Tells (K.written sink.old) (K.written sink.new) (spec.said_as_reply begun answer.now) result }
+    ensures written { Tells (K.written sink.old) (K.written sink.new)
+        (spec.said_as_reply begun answer.now) result }
     ensures fault { IfErr result IsOfWriting }
-    ensures cause { IsErrOf result WireFault.WriteFault → Rose (K.faults sink.old) (K.faults sink.new) }
+    ensures cause { IsErrOf result WireFault.WriteFault
+        → Rose (K.faults sink.old) (K.faults sink.new) }
     ensures kept { K.faults sink.old ≤ K.faults sink.new }
 {
     if begun {
@@ -45,9 +49,11 @@ pub(crate) fn tell<K: Sink>(
 
 /// Writes the head of a reply in chunks, where that isn't written yet.
 fn begin<K: Sink>(sink: &mut K, begun: bool) -> Result<(), WireFault>
-    ensures written { Tells (K.written sink.old) (K.written sink.new) (spec.head_unless begun) result }
+    ensures written { Tells (K.written sink.old) (K.written sink.new)
+        (spec.head_unless begun) result }
     ensures fault { IfErr result IsOfWriting }
-    ensures cause { IsErrOf result WireFault.WriteFault → Rose (K.faults sink.old) (K.faults sink.new) }
+    ensures cause { IsErrOf result WireFault.WriteFault
+        → Rose (K.faults sink.old) (K.faults sink.new) }
     ensures kept { K.faults sink.old ≤ K.faults sink.new }
 {
     if begun { Ok(()) } else { begin_chunks(sink) }
@@ -57,7 +63,8 @@ fn begin<K: Sink>(sink: &mut K, begun: bool) -> Result<(), WireFault>
 fn end<K: Sink>(sink: &mut K, last: bool) -> Result<(), WireFault>
     ensures written { Tells (K.written sink.old) (K.written sink.new) (spec.end_if last) result }
     ensures fault { IfErr result IsOfWriting }
-    ensures cause { IsErrOf result WireFault.WriteFault → Rose (K.faults sink.old) (K.faults sink.new) }
+    ensures cause { IsErrOf result WireFault.WriteFault
+        → Rose (K.faults sink.old) (K.faults sink.new) }
     ensures kept { K.faults sink.old ≤ K.faults sink.new }
 {
     if last { end_chunks(sink) } else { Ok(()) }
@@ -80,9 +87,11 @@ pub(crate) fn tell_item<K: Sink>(
     begun: bool,
     item: &WatchItem,
 ) -> Result<(), WireFault>
-    ensures written { Tells (K.written sink.old) (K.written sink.new) (spec.said_in_chunk begun item.now) result }
+    ensures written { Tells (K.written sink.old) (K.written sink.new)
+        (spec.said_in_chunk begun item.now) result }
     ensures fault { IfErr result IsOfWriting }
-    ensures cause { IsErrOf result WireFault.WriteFault → Rose (K.faults sink.old) (K.faults sink.new) }
+    ensures cause { IsErrOf result WireFault.WriteFault
+        → Rose (K.faults sink.old) (K.faults sink.new) }
     ensures kept { K.faults sink.old ≤ K.faults sink.new }
 {
     let Ok(text) = encode_item(alloc, item) else {

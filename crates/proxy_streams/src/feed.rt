@@ -1,10 +1,10 @@
-ghost use Rattle.std.specs.Prelude.{◌≡◌};
+ghost use Rattle.std.specs.Prelude.{◌≡◌, IsTrue};
 ghost use Rattle.serve_model.specs.Dialog.{is_worn};
 ghost use Rattle.stream_model.specs.Parts.{Feeds, IsCut, is_for_memory, end_of};
 
 use core_model::{CoreEvent, Outcome, StepFault};
 use etcd_types::WatchItem;
-use outside::Clock;
+use outside::{Clock, ReadMark, Source};
 use proxy_server::Turn;
 use serve_model::TurnFault;
 use stream_model::StreamEnd;
@@ -52,7 +52,10 @@ pub(crate) fn cut<T: Turn, C: Clock>(
     end: StreamEnd,
 ) -> StreamEnd
     ensures home { T.home turn.new ≡ T.home turn.old }
-    ensures cut { IsCut stream end result (T.made turn.old) (T.made turn.new) }
+    ensures late { IsTrue (T.worn turn.old) → IsTrue (T.worn turn.new) }
+    ensures allowed { T.allowed turn.old → T.allowed turn.new }
+    ensures cut { IsCut (IsTrue (T.worn turn.new)) stream end result
+        (T.made turn.old) (T.made turn.new) }
 {
     let done = turn.turn(CoreEvent::Cut { stream }, clock);
     if is_worn(&done) { StreamEnd::Worn } else { end }
@@ -66,7 +69,10 @@ pub(crate) fn feed<T: Turn, C: Clock>(
     item: WatchItem,
 ) -> Option<StreamEnd>
     ensures home { T.home turn.new ≡ T.home turn.old }
-    ensures feeds { Feeds stream item (T.made turn.old) (T.made turn.new) result }
+    ensures late { IsTrue (T.worn turn.old) → IsTrue (T.worn turn.new) }
+    ensures allowed { T.allowed turn.old → T.allowed turn.new }
+    ensures feeds { Feeds (IsTrue (T.worn turn.new)) stream item
+        (T.made turn.old) (T.made turn.new) result }
 {
     let fault = match turn.turn(CoreEvent::Item { stream, item }, clock) {
         Ok(_) => return None,
@@ -78,4 +84,25 @@ pub(crate) fn feed<T: Turn, C: Clock>(
     } else {
         Some(end_of(fault))
     }
+}
+
+/// Feeds a message, and tells the source that it came from that it was heard. None where the stream goes on.
+pub(crate) fn feed_from<T: Turn, S: Source, C: Clock>(
+    turn: &mut T,
+    clock: &mut C,
+    source: &mut S,
+    stream: u64,
+    item: WatchItem,
+) -> Option<StreamEnd>
+    ensures home { T.home turn.new ≡ T.home turn.old }
+    ensures late { IsTrue (T.worn turn.old) → IsTrue (T.worn turn.new) }
+    ensures allowed { T.allowed turn.old → T.allowed turn.new }
+    ensures feeds { Feeds (IsTrue (T.worn turn.new)) stream item
+        (T.made turn.old) (T.made turn.new) result }
+    ensures bytes { S.left source.new ≡ S.left source.old }
+    ensures kept { S.faults source.new ≡ S.faults source.old }
+{
+    let end = feed(turn, clock, stream, item);
+    source.mark(ReadMark::Message);
+    end
 }

@@ -6,5 +6,5 @@ mod feed;
 mod follow;
 mod next;
 
-pub use follow::{follow_on, follow_stream};
+pub use follow::follow_stream;
 pub use stream_model::StreamEnd;

@@ -1,15 +1,15 @@
 ghost use Rattle.std.specs.Prelude.{◌≡◌, ◌≤◌, None, IfOk};
 ghost use Rattle.http_wire.specs.Connections.{bytes_ahead};
+ghost use Rattle.stream_model.specs.Parts.{Opens, Nexts, cut_at, stop_by};
 ghost use Rattle.stream_model.specs.Following.{end_by};
-ghost use Rattle.stream_model.specs.Parts.{Opens, Nexts};
 
 use api_reply::decode_item;
 use etcd_types::WatchItem;
 use http_wire::{Framing, LINE_LIMIT, Wire, WireFault};
 use json_model::NotReply;
-use outside::Source;
+use outside::{AnswerEnd, Source};
 use std::alloc::Global;
-use stream_model::StreamEnd;
+use stream_model::{Stop, StreamEnd};
 
 /// How following a stream ends by a fault of its wire.
 fn end_by(fault: WireFault) -> StreamEnd
@@ -21,22 +21,53 @@ fn end_by(fault: WireFault) -> StreamEnd
     }
 }
 
+/// How a stream stops by a fault in its body: the answer counts as too long where a line passed the limit.
+fn stop_by(fault: WireFault) -> Stop
+    ensures { result ≡ stop_by fault }
+{
+    match fault {
+        WireFault::NoMemory => cut_at(StreamEnd::NoMemory),
+        WireFault::BodyTooLong => Stop {
+            end: StreamEnd::Cut,
+            read: AnswerEnd::TooLong,
+        },
+        WireFault::BadHead
+        | WireFault::HeadTooLong
+        | WireFault::BadChunk
+        | WireFault::EndedEarly
+        | WireFault::ReadFault
+        | WireFault::WriteFault => cut_at(StreamEnd::Cut),
+    }
+}
+
+/// The end of a stream whose answer isn't read on.
+pub(crate) fn cut_at(end: StreamEnd) -> Stop
+    ensures { result ≡ cut_at end }
+{
+    Stop {
+        end,
+        read: AnswerEnd::Broken,
+    }
+}
+
 /// Reads the head of the answer, which has to have status 200.
-pub(crate) fn open<S: Source>(wire: &mut Wire, source: &mut S) -> Result<Framing, StreamEnd>
+pub(crate) fn open<S: Source>(wire: &mut Wire, source: &mut S) -> Result<Framing, Stop>
     requires sound { wire.old.fault ≡ None }
     ensures sound { IfOk result (λ framing. wire.new.fault ≡ None) }
     ensures kept { S.faults source.old ≤ S.faults source.new }
-    ensures opens { Opens (bytes_ahead (S.left source.old) wire.old) (bytes_ahead (S.left source.new) wire.new) (S.faults source.old) (S.faults source.new) result }
+    ensures opens { Opens
+        (bytes_ahead (S.left source.old) wire.old) (bytes_ahead (S.left source.new) wire.new)
+        (S.faults source.old) (S.faults source.new) result }
 {
     match wire.read_answer(source) {
-        Ok((status, framing)) => {
-            if status == 200 {
-                Ok(framing)
+        Ok(head) => {
+            if head.status == 200 {
+                Ok(head.framing)
             } else {
-                Err(StreamEnd::Cut)
+                Err(cut_at(StreamEnd::Cut))
             }
         }
-        Err(fault) => Err(end_by(fault)),
+        Err(fault) => Err(cut_at(end_by(fault))),
     }
 }
 
@@ -46,20 +77,22 @@ pub(crate) fn next<S: Source>(
     wire: &mut Wire,
     source: &mut S,
     framing: &mut Framing,
-) -> Result<WatchItem, StreamEnd>
+) -> Result<WatchItem, Stop>
     requires sound { wire.old.fault ≡ None }
     ensures sound { IfOk result (λ item. wire.new.fault ≡ None) }
     ensures kept { S.faults source.old ≤ S.faults source.new }
-    ensures nexts { Nexts framing.old framing.new (bytes_ahead (S.left source.old) wire.old) (bytes_ahead (S.left source.new) wire.new) (S.faults source.old) (S.faults source.new) result }
+    ensures nexts { Nexts framing.old framing.new
+        (bytes_ahead (S.left source.old) wire.old) (bytes_ahead (S.left source.new) wire.new)
+        (S.faults source.old) (S.faults source.new) result }
 {
     let line = match wire.next_line(source, framing, LINE_LIMIT) {
         Ok(Some(line)) => line,
-        Ok(None) => return Err(StreamEnd::Cut),
-        Err(fault) => return Err(end_by(fault)),
+        Ok(None) => return Err(cut_at(StreamEnd::Cut)),
+        Err(fault) => return Err(stop_by(fault)),
     };
     match decode_item(alloc, line.as_slice()) {
         Ok(item) => Ok(item),
-        Err(NotReply::Unreadable) => Err(StreamEnd::Cut),
-        Err(NotReply::NoMemory) => Err(StreamEnd::NoMemory),
+        Err(NotReply::Unreadable) => Err(cut_at(StreamEnd::Cut)),
+        Err(NotReply::NoMemory) => Err(cut_at(StreamEnd::NoMemory)),
     }
 }

@@ -1,8 +1,5 @@
-ghost use Rattle.std.specs.Prelude.{◌≡◌, IfOk, List};
-ghost use Rattle.outside.specs.Calls.{LinkCall, Handed};
-ghost use Rattle.outside.specs.declared.parts.Part.{Part as Given};
-ghost use Rattle.serve_model.specs.Steps.{Adds, Step};
-ghost use Rattle.work_model.specs.Working.{CallDoes, BeginDoes, IsDone, OnLink, OnSpawner, IsAt, host_of, ledger, lost_end};
+ghost use Rattle.std.specs.Prelude.{◌≡◌, IfOk, IsTrue};
+ghost use Rattle.work_model.specs.Working.{IsAt, IsCallMade, IsDone, IsHandedOver, host_of, ledger, lost_end};
 ghost use Rattle.proxy_workers.specs.Handed.{IsFollower};
 
 use crate::seats::Seats;
@@ -10,7 +7,7 @@ use crate::steps::{feed, report};
 use core_model::{CoreEvent, Job};
 use etcd_types::{Bytes, List, NoMemory, Request};
 use outside::{Clock, Follow, Link, Part, Spawner};
-use proxy_calls::{call_bytes, make_call};
+use proxy_calls::{call_bytes, kind_of, make_call};
 use proxy_server::Turn;
 use std::alloc::Global;
 use work_model::{CallFault, WorkEnd};
@@ -47,16 +44,20 @@ fn do_call<T: Turn, L: Link, C: Clock>(
     request: &Request,
 ) -> Option<WorkEnd>
     ensures home { T.home turn.new ≡ T.home turn.old }
-    ensures does { (steps : List Step) × (calls : List LinkCall) × CallDoes host.now call member request.now steps calls result × Adds (T.made turn.old) (T.made turn.new) steps
-        × OnLink (L.made link.old) (L.made link.new) (L.faults link.old) (L.faults link.new) calls }
+    ensures late { IsTrue (T.worn turn.old) → IsTrue (T.worn turn.new) }
+    ensures allowed { T.allowed turn.old → T.allowed turn.new }
+    ensures made { IsCallMade (IsTrue (T.worn turn.new)) host.now call member request.now
+        (T.made turn.old) (T.made turn.new)
+        (L.made link.old) (L.made link.new) (L.faults link.old) (L.faults link.new) result }
 {
-    match make_call(alloc, link, host, member, request) {
+    let kind = kind_of(request);
+    match make_call(alloc, link, host, member, kind, request) {
         Ok(answer) => report(turn, clock, call, answer),
         Err(fault) => feed(turn, clock, CoreEvent::Lost { call }, lost_end(fault)),
     }
 }
 
-/// A stream that is to be followed, with a seat of its own and the bytes of its call.
+/// A stream that is to be followed, with a seat of its own and the bytes of its call, which asks for a connection of its own.
 fn follower<T: Seats, C>(
     alloc: Global,
     turn: &mut T,
@@ -67,7 +68,10 @@ fn follower<T: Seats, C>(
 ) -> Result<Part<T::Place, C>, NoMemory>
     ensures made { T.made turn.new ≡ T.made turn.old }
     ensures home { T.home turn.new ≡ T.home turn.old }
-    ensures part { IfOk result (λ part. IsFollower T.place_home (T.home turn.old) host.now stream member request.now part) }
+    ensures late { IsTrue (T.worn turn.old) → IsTrue (T.worn turn.new) }
+    ensures allowed { T.allowed turn.old → T.allowed turn.new }
+    ensures part { IfOk result (λ part. IsFollower T.place_home (T.home turn.old)
+        host.now stream member request.now part) }
 {
     let call = call_bytes(alloc, host, request)?;
     let place = turn.another()?;
@@ -95,8 +99,12 @@ fn do_begin<T: Seats, P: Spawner<Pass = T::Place>, C: Clock>(
 where
     P::Conn: Drop,
     ensures home { T.home turn.new ≡ T.home turn.old }
-    ensures does { (steps : List Step) × (handed : List (Handed (Given T.Place P.Conn))) × BeginDoes host.now (IsAt T.place_home (T.home turn.old)) stream member request.now steps handed result
-        × Adds (T.made turn.old) (T.made turn.new) steps × OnSpawner (P.handed spawner.old) (P.handed spawner.new) (P.faults spawner.old) (P.faults spawner.new) handed }
+    ensures late { IsTrue (T.worn turn.old) → IsTrue (T.worn turn.new) }
+    ensures allowed { T.allowed turn.old → T.allowed turn.new }
+    ensures over { IsHandedOver (IsTrue (T.worn turn.new)) host.now
+        (IsAt T.place_home (T.home turn.old)) stream member request.now
+        (T.made turn.old) (T.made turn.new) (P.handed spawner.old) (P.handed spawner.new)
+        (P.faults spawner.old) (P.faults spawner.new) result }
 {
     let Ok(part) = follower(alloc, turn, host, stream, member, request) else {
         return feed(
@@ -126,8 +134,14 @@ pub(crate) fn do_job<T: Seats, L: Link, P: Spawner<Pass = T::Place>, C: Clock>(
 where
     P::Conn: Drop,
     ensures home { T.home turn.new ≡ T.home turn.old }
-    ensures done { IsDone hosts.now (IsAt T.place_home (T.home turn.old)) job.now (ledger (T.made turn.old) (L.made link.old) (P.handed spawner.old) (L.faults link.old) (P.faults spawner.old))
-        (ledger (T.made turn.new) (L.made link.new) (P.handed spawner.new) (L.faults link.new) (P.faults spawner.new)) result }
+    ensures late { IsTrue (T.worn turn.old) → IsTrue (T.worn turn.new) }
+    ensures allowed { T.allowed turn.old → T.allowed turn.new }
+    ensures done { IsDone hosts.now (IsAt T.place_home (T.home turn.old))
+        (IsTrue (T.worn turn.new)) job.now
+        (ledger (T.made turn.old) (L.made link.old) (P.handed spawner.old)
+        (L.faults link.old) (P.faults spawner.old))
+        (ledger (T.made turn.new) (L.made link.new) (P.handed spawner.new)
+        (L.faults link.new) (P.faults spawner.new)) result }
 {
     match job {
         Job::Call {
@@ -159,6 +173,9 @@ where
             *member,
             request,
         ),
-        Job::Close { .. } => None,
+        Job::Close { stream } => {
+            link.forget(*stream);
+            None
+        }
     }
 }

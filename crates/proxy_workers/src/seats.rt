@@ -1,4 +1,4 @@
-ghost use Rattle.std.specs.Prelude.{◌≡◌, IfOk};
+ghost use Rattle.std.specs.Prelude.{◌≡◌, IfOk, IsTrue};
 
 use etcd_types::NoMemory;
 use proxy_server::Turn;
@@ -15,5 +15,7 @@ pub trait Seats: Turn {
     fn another(&mut self) -> Result<Self::Place, NoMemory>
         ensures made { Self.made self.new ≡ Self.made self.old }
         ensures home { Self.home self.new ≡ Self.home self.old }
+        ensures late { IsTrue (Self.worn self.old) → IsTrue (Self.worn self.new) }
+        ensures allowed { Self.allowed self.old → Self.allowed self.new }
         ensures place { IfOk result (λ place. place_home place ≡ Self.home self.old) };
 }

@@ -1,7 +1,6 @@
-ghost use Rattle.std.specs.Prelude.{◌≡◌, Err, List};
+ghost use Rattle.std.specs.Prelude.{◌≡◌, Err, IsTrue};
 ghost use Rattle.serve_model.specs.Dialog.{is_worn};
-ghost use Rattle.serve_model.specs.Steps.{Adds, Step};
-ghost use Rattle.work_model.specs.Working.{Fed, Reports, is_full};
+ghost use Rattle.work_model.specs.Working.{IsFed, IsReported, is_full};
 
 use core_model::{CoreEvent, StepFault};
 use etcd_types::Answer;
@@ -32,7 +31,10 @@ pub(crate) fn feed<T: Turn, C: Clock>(
     end: Option<WorkEnd>,
 ) -> Option<WorkEnd>
     ensures home { T.home turn.new ≡ T.home turn.old }
-    ensures fed { (steps : List Step) × Fed event end steps result × Adds (T.made turn.old) (T.made turn.new) steps }
+    ensures late { IsTrue (T.worn turn.old) → IsTrue (T.worn turn.new) }
+    ensures allowed { T.allowed turn.old → T.allowed turn.new }
+    ensures fed { IsFed (IsTrue (T.worn turn.new)) event end
+        (T.made turn.old) (T.made turn.new) result }
 {
     let fault = match turn.turn(event, clock) {
         Ok(_) => return end,
@@ -53,7 +55,10 @@ pub(crate) fn report<T: Turn, C: Clock>(
     answer: Answer,
 ) -> Option<WorkEnd>
     ensures home { T.home turn.new ≡ T.home turn.old }
-    ensures reports { (steps : List Step) × Reports call answer steps result × Adds (T.made turn.old) (T.made turn.new) steps }
+    ensures late { IsTrue (T.worn turn.old) → IsTrue (T.worn turn.new) }
+    ensures allowed { T.allowed turn.old → T.allowed turn.new }
+    ensures reports { IsReported (IsTrue (T.worn turn.new)) call answer
+        (T.made turn.old) (T.made turn.new) result }
 {
     let fault = match turn.turn(CoreEvent::Answer { call, answer }, clock) {
         Ok(_) => return None,

@@ -1,6 +1,6 @@
-ghost use Rattle.std.specs.Prelude.{◌≡◌, List, Result};
-ghost use Rattle.serve_model.specs.Steps.{Adds, FitsOutcome, Step};
-ghost use Rattle.work_model.specs.Working.{Draws, IsWorked, IsAt, ended_by, ledger};
+ghost use Rattle.std.specs.Prelude.{◌≡◌, IsTrue};
+ghost use Rattle.serve_model.specs.Steps.{FitsOutcome};
+ghost use Rattle.work_model.specs.Working.{IsAt, IsDrawn, IsWorked, ended_by, ledger};
 
 use crate::job::do_job;
 use crate::seats::Seats;
@@ -41,7 +41,10 @@ fn due_in(outcome: Outcome) -> Option<Job>
 /// Draws what is due, and rests until something is.
 fn draw<R: Wait, T: Turn, C: Clock>(rt: &R, turn: &mut T, clock: &mut C) -> Result<Job, WorkEnd>
     ensures home { T.home turn.new ≡ T.home turn.old }
-    ensures draws { (steps : List Step) × Draws T.rests steps result × Adds (T.made turn.old) (T.made turn.new) steps }
+    ensures late { IsTrue (T.worn turn.old) → IsTrue (T.worn turn.new) }
+    ensures allowed { T.allowed turn.old → T.allowed turn.new }
+    ensures drawn { IsDrawn T.rests (IsTrue (T.worn turn.new))
+        (T.made turn.old) (T.made turn.new) result }
 {
     'looks: for _ in rt.forever() {
         let outcome = match turn.turn(CoreEvent::Work, clock) {
@@ -75,8 +78,14 @@ pub fn work<R: Wait, T: Seats, L: Link, P: Spawner<Pass = T::Place>, C: Clock>(
 where
     P::Conn: Drop,
     ensures home { T.home turn.new ≡ T.home turn.old }
-    ensures worked { IsWorked hosts.now (IsAt T.place_home (T.home turn.old)) T.rests turns (ledger (T.made turn.old) (L.made link.old) (P.handed spawner.old) (L.faults link.old) (P.faults spawner.old))
-        (ledger (T.made turn.new) (L.made link.new) (P.handed spawner.new) (L.faults link.new) (P.faults spawner.new)) result }
+    ensures late { IsTrue (T.worn turn.old) → IsTrue (T.worn turn.new) }
+    ensures allowed { T.allowed turn.old → T.allowed turn.new }
+    ensures worked { IsWorked hosts.now (IsAt T.place_home (T.home turn.old)) T.rests
+        (IsTrue (T.worn turn.new)) turns
+        (ledger (T.made turn.old) (L.made link.old) (P.handed spawner.old)
+        (L.faults link.old) (P.faults spawner.old))
+        (ledger (T.made turn.new) (L.made link.new) (P.handed spawner.new)
+        (L.faults link.new) (P.faults spawner.new)) result }
 {
     'jobs: for _ in 0..turns {
         let job = match draw(rt, turn, clock) {

@@ -93,11 +93,11 @@ turn_changes w p x _ _ _ _ _ _ posted got q at out (leaves ticket o) = one_silen
 
 pub effect_changes : (w after : World) (gained : List Item) (q : ℕ) → Effect w after gained → Changes w q gained
 effect_changes w _ _ q (starts p clock life' i b) = start_changes w p clock life' i q b
-effect_changes w _ _ q (sets p millis x e) = plain w q _ (record { takes = λ t. refl; lives = λ l. refl })
+effect_changes w _ _ q (sets p millis x e forward) = plain w q _ (record { takes = λ t. refl; lives = λ l. refl })
 effect_changes w _ _ q (refuses_post p ticket path body a x e) =
     plain w q _ (silent-append q (item.Posted p ticket path body ∷ []) _ (record { takes = λ t. refl; lives = λ l. refl }) (reply_silent q p _ (ticket, a)))
-effect_changes w _ _ q (executes number call e) = plain w q _ (record { takes = λ t. refl; lives = λ l. refl })
-effect_changes w _ _ q (expires lease t e) = plain w q _ (record { takes = λ t. refl; lives = λ l. refl })
+effect_changes w _ _ q (executes number call e fresh) = plain w q _ (record { takes = λ t. refl; lives = λ l. refl })
+effect_changes w _ _ q (expires lease t e due) = plain w q _ (record { takes = λ t. refl; lives = λ l. refl })
 effect_changes w _ _ q (applies member revision t e) = plain w q _ (record { takes = λ t. refl; lives = λ l. refl })
 effect_changes w _ _ q (pushes number s t i e a b k) = plain w q _ (record { takes = λ t. refl; lives = λ l. refl })
 effect_changes w _ _ q (turns p x e o v y own told at out t) = turn_changes w p x e o v y own told (all_fetched y told).place.posted (all_fetched y told).replies q at out t

@@ -291,7 +291,7 @@ effect_newest namespace whole f items w _ _ ok h (starts p clock life i b) = rec
   sound = h.sound;
   newest = record { places = put_places (newest w.store.history) w w p (new_place w clock life) refl h.newest (new_starts (newest w.store.history) w clock life); calls = h.newest.calls; streams = h.newest.streams };
 }
-effect_newest namespace whole f items w _ _ ok h (sets p millis x e) = record {
+effect_newest namespace whole f items w _ _ ok h (sets p millis x e forward) = record {
   sound = h.sound;
   newest = record { places = put_places (newest w.store.history) w w p (record x { clock = millis }) refl h.newest (h.newest.places p x e); calls = h.newest.calls; streams = h.newest.streams };
 }
@@ -299,7 +299,7 @@ effect_newest namespace whole f items w _ _ ok h (refuses_post p ticket path bod
   sound = h.sound;
   newest = record { places = put_places (newest w.store.history) w w p (with_posted ticket x) refl h.newest (h.newest.places p x e); calls = h.newest.calls; streams = h.newest.streams };
 }
-effect_newest namespace whole f items w _ _ ok h (executes number call e) =
+effect_newest namespace whole f items w _ _ ok h (executes number call e fresh) =
     let t = (exec w.store call.member call.request).0 in
     let a = (exec w.store call.member call.request).1 in
     let k = newest_later (newest w.store.history) (newest t.history) w (grown_newest w.store t (exec_leaves w.store call.member call.request).grown) h.newest in
@@ -314,7 +314,7 @@ effect_newest namespace whole f items w _ _ ok h (executes number call e) =
   where
     one_answer : (a b : Answer) → Some a ≡ Some b → a ≡ b
     one_answer a b e = cc
-effect_newest namespace whole f items w _ _ ok h (expires lease t e) =
+effect_newest namespace whole f items w _ _ ok h (expires lease t e due) =
     let k = newest_later (newest w.store.history) (newest t.history) w (grown_newest w.store t (expired_leaves w.store t lease e).grown) h.newest in
     record { sound = expiries_keep_sound w.store t lease e h.sound; newest = record { places = k.places; calls = k.calls; streams = k.streams } }
 effect_newest namespace whole f items w _ _ ok h (applies member revision t e) =

@@ -84,10 +84,10 @@ begins_line w p _ _ _ (again x e) = refl
 
 pub effect_lines : (w after : World) (gained : List Item) → Effect w after gained → AreOfLines gained
 effect_lines w _ _ (starts p clock life i b) = (begins_line w p clock life i b, tt)
-effect_lines w _ _ (sets p millis x e) = (refl, tt)
+effect_lines w _ _ (sets p millis x e forward) = (refl, tt)
 effect_lines w _ _ (refuses_post p ticket path body a x e) = (refl, reply_lines p _ (ticket, a))
-effect_lines w _ _ (executes number call e) = (refl, tt)
-effect_lines w _ _ (expires lease t e) = (refl, tt)
+effect_lines w _ _ (executes number call e fresh) = (refl, tt)
+effect_lines w _ _ (expires lease t e due) = (refl, tt)
 effect_lines w _ _ (applies member revision t e) = (refl, tt)
 effect_lines w _ _ (pushes number s t i e a b k) = (refl, tt)
 effect_lines w _ _ (turns p x e o v y own told at out t) = lines-append own _ (turn_lines w p _ e o v y own told t) (replies_lines p _ (all_fetched y told).replies)

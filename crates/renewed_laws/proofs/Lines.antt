@@ -180,10 +180,10 @@ refused_kept namespace items w p ticket path body r x h at =
 
 effect_kept : (namespace : List ℕ) (items : List Item) (w after : World) (gained : List Item) → WorldOk namespace items w → Effect w after gained → is_other gained ≡ true → AnswersShowBytes gained → Kept namespace items gained after
 effect_kept namespace items w _ _ h (starts p clock life' i b) o s = start_kept namespace items w p clock life' i h b (start_tells namespace items w p clock life' i b)
-effect_kept namespace items w _ _ h (sets p millis x e) o s = placed_kept namespace items (item.Clock p millis ∷ []) w p x (record x { clock = millis }) h e refl refl refl (λ t g. g) (λ q. (λ xs. refl, λ t. refl)) (tt, tt)
+effect_kept namespace items w _ _ h (sets p millis x e forward) o s = placed_kept namespace items (item.Clock p millis ∷ []) w p x (record x { clock = millis }) h e refl refl refl (λ t g. g) (λ q. (λ xs. refl, λ t. refl)) (tt, tt)
 effect_kept namespace items w _ _ h (refuses p ticket path body a x e) o s = absurd (cc)
-effect_kept namespace items w _ _ h (executes number call e) o s = ran_kept namespace items w _ number call (exec w.store call.member call.request).1 h e (heard_bytes namespace (exec w.store call.member call.request).1 (and_first (answer_shows (exec w.store call.member call.request).1) true s)) refl refl refl
-effect_kept namespace items w _ _ h (expires lease t e) o s = stored_kept namespace items (item.Expired lease) w _ h refl refl refl (λ q. (λ xs. refl, λ t. refl)) (tt, tt)
+effect_kept namespace items w _ _ h (executes number call e fresh) o s = ran_kept namespace items w _ number call (exec w.store call.member call.request).1 h e (heard_bytes namespace (exec w.store call.member call.request).1 (and_first (answer_shows (exec w.store call.member call.request).1) true s)) refl refl refl
+effect_kept namespace items w _ _ h (expires lease t e due) o s = stored_kept namespace items (item.Expired lease) w _ h refl refl refl (λ q. (λ xs. refl, λ t. refl)) (tt, tt)
 effect_kept namespace items w _ _ h (applies member revision t e) o s = stored_kept namespace items (item.Applied member revision) w _ h refl refl refl (λ q. (λ xs. refl, λ t. refl)) (tt, tt)
 effect_kept namespace items w _ _ h (pushes number st t i e a b k) o s = stored_kept namespace items (item.Pushed number i) w _ h refl refl refl (λ q. (λ xs. refl, λ t. refl)) (tt, tt)
 effect_kept namespace items w _ _ h (turns p x e out v y own told at is t) o s =

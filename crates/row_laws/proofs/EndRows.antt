@@ -62,7 +62,7 @@ begun_row own ticket k (Some m) g j n =
       | false ↦ λ t. refl
     ] refl
 
-decided_row : (own : ℕ → ℕ) (m : Moment) (g : Ground) (a : Asked) (j : List ℕ) → row_of own (decided_ground m g a) j ≡ row_of own g j
+pub decided_row : (own : ℕ → ℕ) (m : Moment) (g : Ground) (a : Asked) (j : List ℕ) → row_of own (decided_ground m g a) j ≡ row_of own g j
 decided_row own m g a j =
     let k = ask_key a in
     begun_row own a.ticket k (decision m g k).under g j (λ s. (frees m.header g.own.waits.step (at g.own.entries k) (is_some (at g.acquires k)) (acquirable m g.own k) s).claim)

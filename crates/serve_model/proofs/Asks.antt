@@ -1,5 +1,5 @@
 -- The steps of one request.
-use Rattle.std.proofs.Common.{◌≡◌, ℕ, Bool, true, false, not, ◌||◌, List, [], ◌∷◌, ◌++◌, Option, Result, Ok, Err, refl, append-nil, append_assoc, subst, sym, ap, ◌∙◌}
+use Rattle.std.proofs.Common.{◌≡◌, ℕ, Bool, true, false, not, ◌||◌, List, [], ◌∷◌, ◌++◌, Option, Result, Ok, Err, IfErr, IsTrue, refl, append-nil, append_assoc, subst, sym, ap, ◌∙◌}
 use Rattle.std.proofs.KnownBytes.{Appends-trans}
 use Rattle.std.specs.Io.KnownBytes.{Appends}
 use Rattle.outside.specs.Streams.{WritesFront}
@@ -17,8 +17,8 @@ use Rattle.serve_model.specs.declared.ends.SessionEnd.{SessionEnd}
 use Rattle.serve_model.specs.declared.ends.SessionEnd.TheVariants as end
 use Rattle.serve_model.specs.declared.fault.TurnFault.{TurnFault}
 use Rattle.serve_model.specs.declared.fault.TurnFault.TheVariants as turn
-use Rattle.serve_model.specs.Steps.{Step, steps_by, MadeBy, Rested, Did, Fits, IsOfRest}
-use Rattle.serve_model.specs.Dialog.{ArePartial, TakesAll, Whole, Stopping, Stops, Gone, Breaks, AreInUse, IsUntold, is_worn, is_in_use, end_of, is_final, is_cancel, goes_on, begins, said_at, said_from}
+use Rattle.serve_model.specs.Steps.{Step, steps_by, MadeBy, Rested, Did, Fits, FitsFault, IsOfRest, is_late}
+use Rattle.serve_model.specs.Dialog.{ArePartial, TakesAll, Whole, Stopping, Stops, Gone, Breaks, IsUntold, is_worn, is_in_use, end_of, end_of_step, is_final, is_cancel, goes_on, begins, said_at, said_from}
 use Rattle.serve_model.proofs.Steps.{did_then, did_nothing, did_rest, did_turn, every_append}
 use Rattle.serve_model.specs.declared.progress.Attempt.{Attempt}
 use Rattle.serve_model.specs.declared.progress.Attempt.TheVariants as attempt
@@ -26,7 +26,7 @@ use Rattle.serve_model.specs.declared.progress.Stop.{Stop}
 use Rattle.serve_model.specs.declared.progress.Stop.TheVariants as stop
 use Rattle.serve_model.specs.declared.progress.Taken.{Taken}
 use Rattle.serve_model.specs.declared.progress.Taken.TheVariants as taken
-use Rattle.serve_model.specs.Parts.{Partly, PassesOn, Takes, Follows, Asks, IsTaken, begun_by}
+use Rattle.serve_model.specs.Parts.{Partly, PassesOn, Took, Takes, FollowsAll, Follows, AskedOnce, Asks, Left, IsOfTicket, begun_by}
 use Rattle.serve_model.proofs.Said.{front_all, front_none, front_after, front_more, keeps_itself, appends_nothing}
 
 -- the same result by another name
@@ -70,30 +70,30 @@ module _ (rests : CoreEvent → Type 0) where
   -- ---- one take
 
   pub took_nothing : (ticket now : ℕ) (begun : Bool) (a b : Option (List Step)) (w : Option (List ℕ)) → MadeBy a b (Take ticket) now (Ok Pending)
-      → Takes rests ticket begun a b w w (Ok taken.Nothing)
+      → Took rests ticket begun a b w w taken.Nothing
   took_nothing ticket now begun a b w m =
       (now, Ok Pending, refl, did_turn rests a b (Take ticket) now (Ok Pending) refl m, appends_nothing w)
 
   pub took_reply : (ticket now : ℕ) (begun : Bool) (a b : Option (List Step)) (w w' : Option (List ℕ)) (answer : Answer) → MadeBy a b (Take ticket) now (Ok (Replied answer))
-      → Appends w w' (said_at begun (Ok (Replied answer))) → Takes rests ticket begun a b w w' (Ok taken.Last)
+      → Appends w w' (said_at begun (Ok (Replied answer))) → Took rests ticket begun a b w w' taken.Last
   took_reply ticket now begun a b w w' answer m s =
       (now, Ok (Replied answer), refl, did_turn rests a b (Take ticket) now (Ok (Replied answer)) refl m, s)
 
   took_last : (ticket now : ℕ) (begun : Bool) (a b : Option (List Step)) (w w' : Option (List ℕ)) (item : WatchItem) → MadeBy a b (Take ticket) now (Ok (Item item))
-      → is_cancel item ≡ true → Appends w w' (said_at begun (Ok (Item item))) → Takes rests ticket begun a b w w' (Ok taken.Last)
+      → is_cancel item ≡ true → Appends w w' (said_at begun (Ok (Item item))) → Took rests ticket begun a b w w' taken.Last
   took_last ticket now begun a b w w' item m c s =
       (now, Ok (Item item), c, did_turn rests a b (Take ticket) now (Ok (Item item)) refl m, s)
 
   took_part : (ticket now : ℕ) (begun : Bool) (a b : Option (List Step)) (w w' : Option (List ℕ)) (item : WatchItem) → MadeBy a b (Take ticket) now (Ok (Item item))
-      → is_cancel item ≡ false → Appends w w' (said_at begun (Ok (Item item))) → Takes rests ticket begun a b w w' (Ok taken.Part)
+      → is_cancel item ≡ false → Appends w w' (said_at begun (Ok (Item item))) → Took rests ticket begun a b w w' taken.Part
   took_part ticket now begun a b w w' item m c s =
       (now, Ok (Item item), (ap not c, refl), did_turn rests a b (Take ticket) now (Ok (Item item)) refl m, s)
 
   -- it couldn't be written
-  pub unsaid_last : (ticket now : ℕ) (begun : Bool) (a b : Option (List Step)) (w w' : Option (List ℕ)) (answer : Outcome) (end : SessionEnd)
+  pub unsaid_last : (worn : Type 0) (ticket now : ℕ) (begun : Bool) (a b : Option (List Step)) (w w' : Option (List ℕ)) (answer : Outcome) (end : SessionEnd)
       → MadeBy a b (Take ticket) now (Ok answer) → is_final (Ok answer) ≡ true → IsUntold end → WritesFront w w' (said_at begun (Ok answer))
-      → Takes rests ticket begun a b w w' (Err (stop.Answered end))
-  unsaid_last ticket now begun a b w w' answer end m f u s =
+      → Takes rests worn ticket begun a b w w' (Err (stop.Answered end))
+  unsaid_last worn ticket now begun a b w w' answer end m f u s =
       let e = entry_of (Take ticket) now (Ok answer) in (
         e ∷ [],
         TakesAll.up_to now [] (Ok answer) tt f,
@@ -102,10 +102,10 @@ module _ (rests : CoreEvent → Type 0) where
         subst (WritesFront w w') (sym (one_said begun e)) s,
       )
 
-  unsaid_part : (ticket now : ℕ) (begun : Bool) (a b : Option (List Step)) (w w' : Option (List ℕ)) (item : WatchItem) (end : SessionEnd)
+  unsaid_part : (worn : Type 0) (ticket now : ℕ) (begun : Bool) (a b : Option (List Step)) (w w' : Option (List ℕ)) (item : WatchItem) (end : SessionEnd)
       → MadeBy a b (Take ticket) now (Ok (Item item)) → is_cancel item ≡ false → IsUntold end → WritesFront w w' (said_at begun (Ok (Item item)))
-      → Takes rests ticket begun a b w w' (Err (stop.Unanswered end))
-  unsaid_part ticket now begun a b w w' item end m c u s =
+      → Takes rests worn ticket begun a b w w' (Err (stop.Unanswered end))
+  unsaid_part worn ticket now begun a b w w' item end m c u s =
       let e = entry_of (Take ticket) now (Ok (Item item)) in (
         e ∷ [],
         [],
@@ -116,42 +116,43 @@ module _ (rests : CoreEvent → Type 0) where
       )
 
   -- a message was passed on, or couldn't be
-  pub passed_on : (ticket now : ℕ) (begun : Bool) (a b : Option (List Step)) (w w' : Option (List ℕ)) (item : WatchItem) (result : Result Taken Stop)
-      → MadeBy a b (Take ticket) now (Ok (Item item)) → PassesOn begun item w w' result → Takes rests ticket begun a b w w' result
-  passed_on ticket now begun a b w w' item (Ok taken.Nothing) m p = absurd p
-  passed_on ticket now begun a b w w' item (Ok taken.Part) m p = took_part ticket now begun a b w w' item m p.0 p.1
-  passed_on ticket now begun a b w w' item (Ok taken.Last) m p = took_last ticket now begun a b w w' item m p.0 p.1
-  passed_on ticket now begun a b w w' item (Err (stop.Unanswered end)) m p = unsaid_part ticket now begun a b w w' item end m p.0 p.1 p.2
-  passed_on ticket now begun a b w w' item (Err (stop.Answered end)) m p = unsaid_last ticket now begun a b w w' (Item item) end m p.0 p.1 p.2
+  pub passed_on : (worn : Type 0) (ticket now : ℕ) (begun : Bool) (a b : Option (List Step)) (w w' : Option (List ℕ)) (item : WatchItem) (result : Result Taken Stop)
+      → MadeBy a b (Take ticket) now (Ok (Item item)) → PassesOn begun item w w' result → Takes rests worn ticket begun a b w w' result
+  passed_on worn ticket now begun a b w w' item (Ok taken.Nothing) m p = absurd p
+  passed_on worn ticket now begun a b w w' item (Ok taken.Part) m p = took_part ticket now begun a b w w' item m p.0 p.1
+  passed_on worn ticket now begun a b w w' item (Ok taken.Last) m p = took_last ticket now begun a b w w' item m p.0 p.1
+  passed_on worn ticket now begun a b w w' item (Err (stop.Unanswered end)) m p = unsaid_part worn ticket now begun a b w w' item end m p.0 p.1 p.2
+  passed_on worn ticket now begun a b w w' item (Err (stop.Answered end)) m p = unsaid_last worn ticket now begun a b w w' (Item item) end m p.0 p.1 p.2
 
   -- the take failed
-  failed_is : (ticket now : ℕ) (fault : TurnFault) → Fits (Take ticket) (Err fault) → Stopping ticket (end_of fault) (steps_by (Take ticket) now (Err fault))
-  failed_is ticket now turn.Worn f = Stopping.resting turn.Worn tt
-  failed_is ticket now (turn.Core fault) f = Stopping.taking now fault f
+  failed_is : (worn : Type 0) (ticket now : ℕ) (fault : TurnFault) → (fault ≡ turn.Worn → worn) → Fits (Take ticket) (Err fault)
+      → Stopping worn ticket (end_of fault) (steps_by (Take ticket) now (Err fault))
+  failed_is worn ticket now turn.Worn l f = Stopping.late (l refl)
+  failed_is worn ticket now (turn.Core fault) l f = Stopping.taking now fault f
 
-  pub take_failed : (ticket now : ℕ) (begun : Bool) (a b : Option (List Step)) (w : Option (List ℕ)) (fault : TurnFault) (last : SessionEnd) → last ≡ end_of fault
-      → MadeBy a b (Take ticket) now (Err fault) → Fits (Take ticket) (Err fault) → Takes rests ticket begun a b w w (Err (stop.Unanswered last))
-  take_failed ticket now begun a b w fault last e m f = (
+  pub take_failed : (worn : Type 0) (ticket now : ℕ) (begun : Bool) (a b : Option (List Step)) (w : Option (List ℕ)) (fault : TurnFault) (last : SessionEnd) → last ≡ end_of fault
+      → (fault ≡ turn.Worn → worn) → MadeBy a b (Take ticket) now (Err fault) → Fits (Take ticket) (Err fault) → Takes rests worn ticket begun a b w w (Err (stop.Unanswered last))
+  take_failed worn ticket now begun a b w fault last e l m f = (
     [],
     steps_by (Take ticket) now (Err fault),
     tt,
-    subst (λ (x : SessionEnd). Stopping ticket x (steps_by (Take ticket) now (Err fault))) (sym e) (failed_is ticket now fault f),
+    subst (λ (x : SessionEnd). Stopping worn ticket x (steps_by (Take ticket) now (Err fault))) (sym e) (failed_is worn ticket now fault l f),
     did_turn rests a b (Take ticket) now (Err fault) refl m,
     front_none w w [] (keeps_itself w),
   )
 
   -- the same by another name
-  pub taken_as : (ticket : ℕ) (begun : Bool) (a b : Option (List Step)) (u v : Option (List ℕ)) (x y : Taken) → x ≡ y → Takes rests ticket begun a b u v (Ok x)
-      → Takes rests ticket begun a b u v (Ok y)
-  taken_as ticket begun a b u v x y e t = subst (λ (z : Taken). Takes rests ticket begun a b u v (Ok z)) e t
+  pub taken_as : (ticket : ℕ) (begun : Bool) (a b : Option (List Step)) (u v : Option (List ℕ)) (x y : Taken) → x ≡ y → Took rests ticket begun a b u v x
+      → Took rests ticket begun a b u v y
+  taken_as ticket begun a b u v x y e t = subst (λ (z : Taken). Took rests ticket begun a b u v z) e t
 
-  pub stopped_as : (ticket : ℕ) (a b : Option (List Step)) (u v : Option (List ℕ)) (x y : Stop) → x ≡ y → Follows rests ticket a b u v (Err x)
-      → Follows rests ticket a b u v (Err y)
-  stopped_as ticket a b u v x y e t = subst (λ (z : Stop). Follows rests ticket a b u v (Err z)) e t
+  pub stopped_as : (worn : Type 0) (ticket : ℕ) (a b : Option (List Step)) (u v : Option (List ℕ)) (x y : Stop) → x ≡ y → Follows rests worn ticket a b u v (Err x)
+      → Follows rests worn ticket a b u v (Err y)
+  stopped_as worn ticket a b u v x y e t = subst (λ (z : Stop). Follows rests worn ticket a b u v (Err z)) e t
 
-  pub asked_as : (request : Request) (a b : Option (List Step)) (u v : Option (List ℕ)) (x y : Attempt) → x ≡ y → Asks rests request a b u v (Ok x)
-      → Asks rests request a b u v (Ok y)
-  asked_as request a b u v x y e t = subst (λ (z : Attempt). Asks rests request a b u v (Ok z)) e t
+  pub asked_as : (request : Request) (a b : Option (List Step)) (u v : Option (List ℕ)) (x y : Attempt) → x ≡ y → AskedOnce rests request a b u v x
+      → AskedOnce rests request a b u v y
+  asked_as request a b u v x y e t = subst (λ (z : Attempt). AskedOnce rests request a b u v z) e t
 
   -- ---- rests and takes
 
@@ -182,19 +183,19 @@ module _ (rests : CoreEvent → Type 0) where
   or_true false = refl
 
   pub part_taken : (ticket : ℕ) (begun : Bool) (a b c d : Option (List Step)) (u v w : Option (List ℕ)) → Partly rests ticket begun a b u v → Rested rests b c
-      → Takes rests ticket begun c d v w (Ok taken.Part) → Partly rests ticket true a d u w
+      → Took rests ticket begun c d v w taken.Part → Partly rests ticket true a d u w
   part_taken ticket begun a b c d u v w p r t =
       let all = more ticket t.0 begun a b c d u v w t.1 p r t.2.0 t.3 t.4 in
       subst (λ (x : Bool). Partly rests ticket x a d u w) (ap (λ (x : Bool). begun || x) t.2.1 ∙ or_true begun) all
 
   pub nothing_taken : (ticket : ℕ) (begun : Bool) (a b c d : Option (List Step)) (u v w : Option (List ℕ)) → Partly rests ticket begun a b u v → Rested rests b c
-      → Takes rests ticket begun c d v w (Ok taken.Nothing) → Partly rests ticket begun a d u w
+      → Took rests ticket begun c d v w taken.Nothing → Partly rests ticket begun a d u w
   nothing_taken ticket begun a b c d u v w p r t =
       let all = more ticket t.0 begun a b c d u v w t.1 p r (ap goes_on t.2) t.3 t.4 in
       subst (λ (x : Bool). Partly rests ticket x a d u w) (ap (λ (x : Bool). begun || x) (ap begins t.2) ∙ sym (or_false begun)) all
 
   pub last_taken : (ticket : ℕ) (begun : Bool) (a b c d : Option (List Step)) (u v w : Option (List ℕ)) → Partly rests ticket begun a b u v → Rested rests b c
-      → Takes rests ticket begun c d v w (Ok taken.Last) → Follows rests ticket a d u w (Ok tt)
+      → Took rests ticket begun c d v w taken.Last → FollowsAll rests ticket a d u w
   last_taken ticket begun a b c d u v w p r t =
       let e = entry_of (Take ticket) t.0 t.1 in (
         p.takes ++ e ∷ [],
@@ -216,9 +217,9 @@ module _ (rests : CoreEvent → Type 0) where
       subst (TakesAll ticket) (append_assoc xs takes (e ∷ []))
       (TakesAll.up_to now (xs ++ takes) last (every_append (λ (x : Step). (x.event ≡ Take ticket) × (goes_on x.answer ≡ true)) xs takes p q) f)
 
-  pub stopped_then : (ticket : ℕ) (begun : Bool) (a b c d : Option (List Step)) (u v w : Option (List ℕ)) (why : Stop) → Partly rests ticket begun a b u v → Rested rests b c
-      → Takes rests ticket begun c d v w (Err why) → Follows rests ticket a d u w (Err why)
-  stopped_then ticket begun a b c d u v w (stop.Unanswered end) p r s = (
+  pub stopped_then : (worn : Type 0) (ticket : ℕ) (begun : Bool) (a b c d : Option (List Step)) (u v w : Option (List ℕ)) (why : Stop) → Partly rests ticket begun a b u v → Rested rests b c
+      → Takes rests worn ticket begun c d v w (Err why) → Follows rests worn ticket a d u w (Err why)
+  stopped_then worn ticket begun a b c d u v w (stop.Unanswered end) p r s = (
     p.takes ++ s.0,
     s.1,
     every_append (λ (x : Step). (x.event ≡ Take ticket) × (goes_on x.answer ≡ true)) p.takes s.0 p.partial s.2,
@@ -226,7 +227,7 @@ module _ (rests : CoreEvent → Type 0) where
     subst (Did rests a d) (sym (append_assoc p.takes s.0 s.1)) (did_then rests a c d p.takes (s.0 ++ s.1) (rested a b c p.takes p.did r) s.4),
     front_behind begun u v w p.takes s.0 p.begun_so p.said s.5,
   )
-  stopped_then ticket begun a b c d u v w (stop.Answered end) p r s = (
+  stopped_then worn ticket begun a b c d u v w (stop.Answered end) p r s = (
     p.takes ++ s.0,
     all_behind ticket p.takes s.0 p.partial s.1,
     s.2,
@@ -234,51 +235,91 @@ module _ (rests : CoreEvent → Type 0) where
     front_behind begun u v w p.takes s.0 p.begun_so p.said s.4,
   )
 
-  pub rest_failed : (ticket : ℕ) (begun : Bool) (a b c : Option (List Step)) (u v : Option (List ℕ)) (fault : TurnFault) (last : SessionEnd) → last ≡ end_of fault
-      → Partly rests ticket begun a b u v → Rested rests b c → IsOfRest fault → Follows rests ticket a c u v (Err (stop.Unanswered last))
-  rest_failed ticket begun a b c u v fault last e p r f = (
+  rest_stops : (worn : Type 0) (ticket : ℕ) (fault : TurnFault) → IsOfRest fault → (IsTrue (is_late fault) → worn) → Stopping worn ticket (end_of fault) []
+  rest_stops worn ticket turn.Worn f l = Stopping.late (l refl)
+  rest_stops worn ticket (turn.Core step.Worn) f l = Stopping.late (l refl)
+  rest_stops worn ticket (turn.Core step.NoMemory) f l = Stopping.untold end.NoMemory tt
+  rest_stops worn ticket (turn.Core (step.TicketUsed other)) f l = absurd f
+  rest_stops worn ticket (turn.Core (step.NoSuchTicket other)) f l = absurd f
+  rest_stops worn ticket (turn.Core (step.NoSuchCall other)) f l = absurd f
+  rest_stops worn ticket (turn.Core (step.NoSuchStream other)) f l = absurd f
+
+  pub rest_failed : (worn : Type 0) (ticket : ℕ) (begun : Bool) (a b c : Option (List Step)) (u v : Option (List ℕ)) (fault : TurnFault) (last : SessionEnd) → last ≡ end_of fault
+      → Partly rests ticket begun a b u v → Rested rests b c → IsOfRest fault → (IsTrue (is_late fault) → worn) → Follows rests worn ticket a c u v (Err (stop.Unanswered last))
+  rest_failed worn ticket begun a b c u v fault last e p r f l = (
     p.takes,
     [],
     p.partial,
-    subst (λ (x : SessionEnd). Stopping ticket x []) (sym e) (Stopping.resting fault f),
+    subst (λ (x : SessionEnd). Stopping worn ticket x []) (sym e) (rest_stops worn ticket fault f l),
     did_then rests a c c p.takes [] (rested a b c p.takes p.did r) (did_nothing rests c),
     front_all u v (said_from false p.takes) p.said,
   )
 
   -- the client went away
-  pub client_went : (ticket : ℕ) (begun : Bool) (a b : Option (List Step)) (u v : Option (List ℕ)) → Partly rests ticket begun a b u v
-      → Follows rests ticket a b u v (Err (stop.Unanswered end.ReadFault))
-  client_went ticket begun a b u v p =
+  pub client_went : (worn : Type 0) (ticket : ℕ) (begun : Bool) (a b : Option (List Step)) (u v : Option (List ℕ)) → Partly rests ticket begun a b u v
+      → Follows rests worn ticket a b u v (Err (stop.Unanswered end.ReadFault))
+  client_went worn ticket begun a b u v p =
       (p.takes, [], p.partial, Stopping.went, did_then rests a b b p.takes [] p.did (did_nothing rests b), front_all u v (said_from false p.takes) p.said)
 
   -- ---- where a ticket is left
 
-  abbrev pub Left : ℕ → SessionEnd → SessionEnd → Option (List Step) → Option (List Step) → Type 0
-  Left ticket first end a b = (tail : List Step) × Gone ticket first end tail × Did rests a b tail
+  -- a connection that ends while a ticket waits ends for want of no other ticket
+  names_it : (ticket : ℕ) (fault : StepFault) → FitsFault (Take ticket) fault → IsOfTicket ticket (end_of_step fault)
+  names_it ticket (step.NoSuchTicket other) f = f
+  names_it ticket step.Worn f = tt
+  names_it ticket step.NoMemory f = tt
+  names_it ticket (step.TicketUsed other) f = tt
+  names_it ticket (step.NoSuchCall other) f = tt
+  names_it ticket (step.NoSuchStream other) f = tt
 
-  pub worn_before : (ticket : ℕ) (first : SessionEnd) (a : Option (List Step)) → Left ticket first end.Worn a a
-  worn_before ticket first a = ([], Gone.worn first, did_nothing rests a)
+  untold_names : (ticket : ℕ) (end : SessionEnd) → IsUntold end → IsOfTicket ticket end
+  untold_names ticket (end.TicketTaken other) u = absurd u
+  untold_names ticket end.Closed u = tt
+  untold_names ticket (end.BadRequest fault) u = tt
+  untold_names ticket end.ReadFault u = tt
+  untold_names ticket end.WriteFault u = tt
+  untold_names ticket end.OutOfTickets u = tt
+  untold_names ticket end.Worn u = tt
+  untold_names ticket end.NoMemory u = tt
 
-  pub taken_before : (ticket other : ℕ) (first : SessionEnd) (a : Option (List Step)) → first ≡ end.TicketTaken other → Left ticket first (end.TicketTaken other) a a
-  taken_before ticket other first a e =
-      ([], subst (λ (x : SessionEnd). Gone ticket x (end.TicketTaken other) []) (sym e) (Gone.taken other), did_nothing rests a)
+  stops_at : (worn : Type 0) (ticket : ℕ) (end : SessionEnd) (steps : List Step) → Stopping worn ticket end steps → IsOfTicket ticket end
+  stops_at worn ticket _ _ (Stopping.late l) = tt
+  stops_at worn ticket _ _ (Stopping.taking now fault f) = names_it ticket fault f
+  stops_at worn ticket _ _ Stopping.went = tt
+  stops_at worn ticket _ _ (Stopping.untold end u) = untold_names ticket end u
 
-  pub was_left : (ticket now : ℕ) (a b : Option (List Step)) (end : SessionEnd) (result : Result Outcome TurnFault) → MadeBy a b (Leave ticket) now result
-      → is_worn result ≡ false → Left ticket end end a b
-  was_left ticket now a b end (Ok outcome) m n = (_, Gone.leaves end now (Ok outcome), did_turn rests a b (Leave ticket) now (Ok outcome) refl m)
-  was_left ticket now a b end (Err (turn.Core fault)) m n = (_, Gone.leaves end now (Err fault), did_turn rests a b (Leave ticket) now (Err (turn.Core fault)) refl m)
-  was_left ticket now a b end (Err turn.Worn) m n = absurd (cc)
+  -- what holds where the turn is worn holds where it is worn later
+  stopping_later : (worn worn' : Type 0) (ticket : ℕ) (end : SessionEnd) (steps : List Step) → (worn → worn') → Stopping worn ticket end steps → Stopping worn' ticket end steps
+  stopping_later worn worn' ticket _ _ k (Stopping.late l) = Stopping.late (k l)
+  stopping_later worn worn' ticket _ _ k (Stopping.taking now fault f) = Stopping.taking now fault f
+  stopping_later worn worn' ticket _ _ k Stopping.went = Stopping.went
+  stopping_later worn worn' ticket _ _ k (Stopping.untold end u) = Stopping.untold end u
 
-  pub worn_then : (ticket now : ℕ) (a b : Option (List Step)) (first : SessionEnd) (result : Result Outcome TurnFault) → MadeBy a b (Leave ticket) now result
-      → is_worn result ≡ true → Left ticket first end.Worn a b
-  worn_then ticket now a b first (Ok outcome) m n = absurd (cc)
-  worn_then ticket now a b first (Err (turn.Core fault)) m n = absurd (cc)
-  worn_then ticket now a b first (Err turn.Worn) m n = ([], Gone.worn first, did_turn rests a b (Leave ticket) now (Err turn.Worn) refl m)
+  pub worn_before : (worn : Type 0) (ticket : ℕ) (first : SessionEnd) (a : Option (List Step)) → first ≡ end.Worn → Left rests worn ticket first end.Worn a a
+  worn_before worn ticket first a e = ([], subst (λ (x : SessionEnd). Gone worn ticket x end.Worn []) (sym e) Gone.stands, did_nothing rests a)
+
+  pub taken_before : (worn : Type 0) (ticket other : ℕ) (first : SessionEnd) (a : Option (List Step)) → first ≡ end.TicketTaken other → IsOfTicket ticket first
+      → Left rests worn ticket first (end.TicketTaken other) a a
+  taken_before worn ticket other first a e n =
+      let is : other ≡ ticket = subst (IsOfTicket ticket) e n in
+      ([], subst (λ (x : SessionEnd). Gone worn ticket x (end.TicketTaken other) []) (sym e) (subst (λ (t : ℕ). Gone worn ticket (end.TicketTaken t) (end.TicketTaken t) []) (sym is) Gone.taken), did_nothing rests a)
+
+  pub was_left : (worn : Type 0) (ticket now : ℕ) (a b : Option (List Step)) (end : SessionEnd) (result : Result Outcome TurnFault) → MadeBy a b (Leave ticket) now result
+      → is_worn result ≡ false → Left rests worn ticket end end a b
+  was_left worn ticket now a b end (Ok outcome) m n = (_, Gone.leaves end now (Ok outcome), did_turn rests a b (Leave ticket) now (Ok outcome) refl m)
+  was_left worn ticket now a b end (Err (turn.Core fault)) m n = (_, Gone.leaves end now (Err fault), did_turn rests a b (Leave ticket) now (Err (turn.Core fault)) refl m)
+  was_left worn ticket now a b end (Err turn.Worn) m n = absurd (cc)
+
+  pub worn_then : (worn : Type 0) (ticket now : ℕ) (a b : Option (List Step)) (first : SessionEnd) (result : Result Outcome TurnFault) → IfErr result (λ why. why ≡ turn.Worn → worn)
+      → MadeBy a b (Leave ticket) now result → is_worn result ≡ true → Left rests worn ticket first end.Worn a b
+  worn_then worn ticket now a b first (Ok outcome) l m n = absurd (cc)
+  worn_then worn ticket now a b first (Err (turn.Core fault)) l m n = absurd (cc)
+  worn_then worn ticket now a b first (Err turn.Worn) l m n = ([], Gone.late first (l refl), did_turn rests a b (Leave ticket) now (Err turn.Worn) refl m)
 
   -- ---- the kinds of an Ask
 
   pub replied_at_once : (ticket word now : ℕ) (request : Request) (a b : Option (List Step)) (w w' : Option (List ℕ)) (answer : Answer)
-      → MadeBy a b (Ask ticket request word) now (Ok (Replied answer)) → Appends w w' (said_at false (Ok (Replied answer))) → Asks rests request a b w w' (Ok attempt.Whole)
+      → MadeBy a b (Ask ticket request word) now (Ok (Replied answer)) → Appends w w' (said_at false (Ok (Replied answer))) → AskedOnce rests request a b w w' attempt.Whole
   replied_at_once ticket word now request a b w w' answer m s =
       let e = entry_of (Ask ticket request word) now (Ok (Replied answer)) in (
         e ∷ [],
@@ -287,10 +328,10 @@ module _ (rests : CoreEvent → Type 0) where
         subst (Appends w w') (sym (one_said false e)) s,
       )
 
-  pub reply_unsaid : (ticket word now : ℕ) (request : Request) (a b : Option (List Step)) (w w' : Option (List ℕ)) (answer : Answer) (end : SessionEnd)
+  pub reply_unsaid : (worn : Type 0) (ticket word now : ℕ) (request : Request) (a b : Option (List Step)) (w w' : Option (List ℕ)) (answer : Answer) (end : SessionEnd)
       → MadeBy a b (Ask ticket request word) now (Ok (Replied answer)) → IsUntold end → WritesFront w w' (said_at false (Ok (Replied answer)))
-      → Asks rests request a b w w' (Err end)
-  reply_unsaid ticket word now request a b w w' answer end m u s =
+      → Asks rests worn request a b w w' (Err end)
+  reply_unsaid worn ticket word now request a b w w' answer end m u s =
       let e = entry_of (Ask ticket request word) now (Ok (Replied answer)) in (
         e ∷ [],
         Breaks.unsaid ticket word now answer end u,
@@ -299,7 +340,7 @@ module _ (rests : CoreEvent → Type 0) where
       )
 
   pub ticket_in_use : (ticket word now : ℕ) (request : Request) (a b : Option (List Step)) (w : Option (List ℕ)) (fault : TurnFault) → is_in_use fault ≡ true
-      → MadeBy a b (Ask ticket request word) now (Err fault) → Fits (Ask ticket request word) (Err fault) → Asks rests request a b w w (Ok attempt.InUse)
+      → MadeBy a b (Ask ticket request word) now (Err fault) → Fits (Ask ticket request word) (Err fault) → AskedOnce rests request a b w w attempt.InUse
   ticket_in_use ticket word now request a b w (turn.Core (step.TicketUsed used)) u m f =
       let e = entry_of (Ask ticket request word) now (Err (step.TicketUsed used)) in
       (e ∷ [], ((ticket, word, refl, ap (λ (n : ℕ). Err (step.TicketUsed n)) f), tt), did_turn rests a b (Ask ticket request word) now (Err (turn.Core (step.TicketUsed used))) refl m, refl)
@@ -320,31 +361,31 @@ module _ (rests : CoreEvent → Type 0) where
   of_rest ticket word request (turn.Core (step.NoSuchCall other)) u f = absurd f
   of_rest ticket word request (turn.Core (step.NoSuchStream other)) u f = absurd f
 
-  pub not_asked : (ticket word now : ℕ) (request : Request) (a b : Option (List Step)) (w : Option (List ℕ)) (fault : TurnFault) (last : SessionEnd) → last ≡ end_of fault
-      → is_in_use fault ≡ false → MadeBy a b (Ask ticket request word) now (Err fault) → Fits (Ask ticket request word) (Err fault) → Asks rests request a b w w (Err last)
-  not_asked ticket word now request a b w turn.Worn last e u m f = (
+  pub not_asked : (worn : Type 0) (ticket word now : ℕ) (request : Request) (a b : Option (List Step)) (w : Option (List ℕ)) (fault : TurnFault) (last : SessionEnd) → last ≡ end_of fault
+      → is_in_use fault ≡ false → (fault ≡ turn.Worn → worn) → MadeBy a b (Ask ticket request word) now (Err fault) → Fits (Ask ticket request word) (Err fault) → Asks rests worn request a b w w (Err last)
+  not_asked worn ticket word now request a b w turn.Worn last e u l m f = (
     [],
-    subst (λ (x : SessionEnd). Breaks request x []) (sym e) (Breaks.unasked end.Worn tt),
+    subst (λ (x : SessionEnd). Breaks worn request x []) (sym e) (Breaks.unasked end.Worn (l refl)),
     did_turn rests a b (Ask ticket request word) now (Err turn.Worn) refl m,
     front_none w w [] (keeps_itself w),
   )
-  not_asked ticket word now request a b w (turn.Core fault) last e u m f =
+  not_asked worn ticket word now request a b w (turn.Core fault) last e u l m f =
       let steps = steps_by (Ask ticket request word) now (Err (turn.Core fault)) in (
         steps,
-        subst (λ (x : SessionEnd). Breaks request x steps) (sym e) (Breaks.fails ticket word now fault (of_rest ticket word request (turn.Core fault) u f)),
+        subst (λ (x : SessionEnd). Breaks worn request x steps) (sym e) (Breaks.fails ticket word now fault (of_rest ticket word request (turn.Core fault) u f)),
         did_turn rests a b (Ask ticket request word) now (Err (turn.Core fault)) refl m,
         front_none w w [] (keeps_itself w),
       )
 
   pub waits_whole : (ticket word at : ℕ) (request : Request) (a b c : Option (List Step)) (w w' : Option (List ℕ)) → MadeBy a b (Ask ticket request word) at (Ok Waiting)
-      → Follows rests ticket b c w w' (Ok tt) → Asks rests request a c w w' (Ok attempt.Whole)
+      → FollowsAll rests ticket b c w w' → AskedOnce rests request a c w w' attempt.Whole
   waits_whole ticket word at request a b c w w' m f =
       let e = entry_of (Ask ticket request word) at (Ok Waiting) in
       (e ∷ f.0, Whole.waited ticket word at f.0 f.1, did_then rests a b c (e ∷ []) f.0 (did_turn rests a b (Ask ticket request word) at (Ok Waiting) refl m) f.2, f.3)
 
-  pub waits_unsaid : (ticket word at : ℕ) (request : Request) (a b c : Option (List Step)) (w w' : Option (List ℕ)) (end : SessionEnd) → MadeBy a b (Ask ticket request word) at (Ok Waiting)
-      → Follows rests ticket b c w w' (Err (stop.Answered end)) → Asks rests request a c w w' (Err end)
-  waits_unsaid ticket word at request a b c w w' end m f =
+  pub waits_unsaid : (worn : Type 0) (ticket word at : ℕ) (request : Request) (a b c : Option (List Step)) (w w' : Option (List ℕ)) (end : SessionEnd) → MadeBy a b (Ask ticket request word) at (Ok Waiting)
+      → Follows rests worn ticket b c w w' (Err (stop.Answered end)) → Asks rests worn request a c w w' (Err end)
+  waits_unsaid worn ticket word at request a b c w w' end m f =
       let e = entry_of (Ask ticket request word) at (Ok Waiting) in (
         e ∷ f.0,
         Breaks.waiting ticket word at end f.0 (Stops.unsaid end f.0 f.2 f.1),
@@ -352,14 +393,15 @@ module _ (rests : CoreEvent → Type 0) where
         f.4,
       )
 
-  pub gave_up : (ticket word at : ℕ) (request : Request) (a b c d : Option (List Step)) (w w' : Option (List ℕ)) (first end : SessionEnd)
-      → MadeBy a b (Ask ticket request word) at (Ok Waiting) → Follows rests ticket b c w w' (Err (stop.Unanswered first)) → Left ticket first end c d
-      → Asks rests request a d w w' (Err end)
-  gave_up ticket word at request a b c d w w' first end m f l =
+  pub gave_up : (worn worn' : Type 0) (ticket word at : ℕ) (request : Request) (a b c d : Option (List Step)) (w w' : Option (List ℕ)) (first end : SessionEnd) → (worn → worn')
+      → MadeBy a b (Ask ticket request word) at (Ok Waiting) → Follows rests worn ticket b c w w' (Err (stop.Unanswered first)) → (IsOfTicket ticket first → Left rests worn' ticket first end c d)
+      → Asks rests worn' request a d w w' (Err end)
+  gave_up worn worn' ticket word at request a b c d w w' first end k m f left =
       let e = entry_of (Ask ticket request word) at (Ok Waiting) in
+      let l = left (stops_at worn ticket first f.1 f.3) in
       let steps = f.0 ++ f.1 ++ l.0 in (
         e ∷ steps,
-        Breaks.waiting ticket word at end steps (Stops.gone first end f.0 f.1 l.0 f.2 f.3 l.1),
+        Breaks.waiting ticket word at end steps (Stops.gone first end f.0 f.1 l.0 f.2 (stopping_later worn worn' ticket first f.1 k f.3) l.1),
         did_then rests a b d (e ∷ []) steps (did_turn rests a b (Ask ticket request word) at (Ok Waiting) refl m) (did_then rests b c d (f.0 ++ f.1) l.0 f.4 l.2),
         subst (λ (xs : List Step). WritesFront w w' (said_from false xs)) (sym (append_assoc f.0 f.1 l.0)) (front_of_more false w w' f.0 (f.1 ++ l.0) f.5),
       )

@@ -16,8 +16,8 @@ use Rattle.serve_model.specs.declared.ends.SessionEnd.TheVariants as end
 use Rattle.serve_model.specs.declared.progress.Attempt.TheVariants as attempt
 use Rattle.serve_model.specs.declared.refused.Refused.{Refused}
 use Rattle.serve_model.specs.Steps.{Step, Did}
-use Rattle.serve_model.specs.Dialog.{Last, Suits, Said, Ahead, IsRequest, Exchange, Ends, Turned, StopsIn, Breaks, Breaking, IsUntold, AreInUse, begins, said_at, said_from, said_for, said_in, refusal_to, go_on_of, asked_of}
-use Rattle.serve_model.specs.Parts.{EndsUnasked, Asks, Tried, Responds, begun_by}
+use Rattle.serve_model.specs.Dialog.{Last, Suits, SuitsUnread, Said, Ahead, IsRequest, Exchange, Ends, GoesOn, Breaks, Breaking, IsUntold, AreInUse, begins, said_at, said_from, said_for, said_in, refusal_to, go_on_of, asked_of}
+use Rattle.serve_model.specs.Parts.{EndsUnasked, AskedOnce, Asks, Tried, Responded, Responds, begun_by}
 use Rattle.serve_model.proofs.Steps.{did_nothing, did_then, every_append}
 use Rattle.serve_model.proofs.Said.{front_none, front_by, front_after, keeps_itself}
 use Rattle.serve_model.proofs.Asks.{said_append}
@@ -39,6 +39,27 @@ ahead_kept P None b c p k = tt
 ahead_kept P (Some all) None c p k = absurd p
 ahead_kept P (Some all) (Some rest) None p k = absurd k
 ahead_kept P (Some all) (Some rest) (Some same) p k = subst (P all) (sym k) p
+
+-- a request that was read whole is none that wasn't
+never_closing : (end : SessionEnd) (x : Exchange) → SuitsUnread end (Last.Closing x) → ⊥
+never_closing end.Closed x s = s
+never_closing (end.BadRequest fault) x s = s
+never_closing end.ReadFault x s = s
+never_closing end.WriteFault x s = s
+never_closing end.OutOfTickets x s = s
+never_closing (end.TicketTaken ticket) x s = s
+never_closing end.Worn x s = s
+never_closing end.NoMemory x s = s
+
+never_broken : (end : SessionEnd) (x : Exchange) → SuitsUnread end (Last.Broken x) → ⊥
+never_broken end.Closed x s = s
+never_broken (end.BadRequest fault) x s = s
+never_broken end.ReadFault x s = s
+never_broken end.WriteFault x s = s
+never_broken end.OutOfTickets x s = s
+never_broken (end.TicketTaken ticket) x s = s
+never_broken end.Worn x s = s
+never_broken end.NoMemory x s = s
 
 module _ (rests : CoreEvent → Type 0) where
   -- ---- what was asked with tickets that were in use
@@ -64,13 +85,13 @@ module _ (rests : CoreEvent → Type 0) where
   tried_as x y a b u v e t = subst (λ (z : Result Request Refused). Tried rests z a b u v) e t
 
   pub one_more_try : (request : Request) (a b c : Option (List Step)) (u v w : Option (List ℕ)) → Tried rests (Ok request) a b u v
-      → Asks rests request b c v w (Ok attempt.InUse) → Tried rests (Ok request) a c u w
+      → AskedOnce rests request b c v w attempt.InUse → Tried rests (Ok request) a c u w
   one_more_try request a b c u v w t m =
       let Uses : Step → Type 0 = λ e. (ticket : ℕ) × (word : ℕ) × (e.event ≡ Ask ticket request word) × (e.answer ≡ Err (step.TicketUsed ticket)) in
       (t.0 ++ m.0, every_append Uses t.0 m.0 t.1 m.1, did_then rests a b c t.0 m.0 t.2 m.2, m.3 ∙ t.3)
 
   pub was_told : (method : List ℕ) (request : Request) (a b c : Option (List Step)) (u v w : Option (List ℕ)) → Tried rests (Ok request) a b u v
-      → Asks rests request b c v w (Ok attempt.Whole) → Responds rests method (Ok request) a c u w None
+      → AskedOnce rests request b c v w attempt.Whole → Responded rests method (Ok request) a c u w
   was_told method request a b c u v w t m = (
     t.0 ++ m.0,
     record { tries = t.0; rest = m.0; in_use = t.1; parts = refl; last = m.1 },
@@ -78,9 +99,9 @@ module _ (rests : CoreEvent → Type 0) where
     subst (Appends u w) (sym (said_after_used request t.0 m.0 t.1)) (subst (λ (x : Option (List ℕ)). Appends x w (said_from false m.0)) t.3 m.3),
   )
 
-  pub not_told : (method : List ℕ) (request : Request) (a b c : Option (List Step)) (u v w : Option (List ℕ)) (end : SessionEnd) → Tried rests (Ok request) a b u v
-      → Asks rests request b c v w (Err end) → Responds rests method (Ok request) a c u w (Some end)
-  not_told method request a b c u v w end t m = (
+  pub not_told : (worn : Type 0) (method : List ℕ) (request : Request) (a b c : Option (List Step)) (u v w : Option (List ℕ)) (end : SessionEnd) → Tried rests (Ok request) a b u v
+      → Asks rests worn request b c v w (Err end) → Responds rests worn method (Ok request) a c u w (Some end)
+  not_told worn method request a b c u v w end t m = (
     t.0 ++ m.0,
     record { tries = t.0; rest = m.0; in_use = t.1; parts = refl; last = m.1 },
     did_then rests a b c t.0 m.0 t.2 m.2,
@@ -88,8 +109,8 @@ module _ (rests : CoreEvent → Type 0) where
   )
 
   -- no ticket is left
-  pub out_of_tickets : (request : Request) (made : Option (List Step)) (w : Option (List ℕ)) → Asks rests request made made w w (Err end.OutOfTickets)
-  out_of_tickets request made w = ([], Breaks.unasked end.OutOfTickets tt, did_nothing rests made, front_none w w [] (keeps_itself w))
+  pub out_of_tickets : (worn : Type 0) (request : Request) (made : Option (List Step)) (w : Option (List ℕ)) → Asks rests worn request made made w w (Err end.OutOfTickets)
+  out_of_tickets worn request made w = ([], Breaks.unasked end.OutOfTickets tt, did_nothing rests made, front_none w w [] (keeps_itself w))
 
   -- ---- a refusal, and a request that memory was wanting to decode
 
@@ -97,60 +118,63 @@ module _ (rests : CoreEvent → Type 0) where
   did_the_same a b e = subst (λ (x : Option (List Step)). Did rests a x []) (sym e) (did_nothing rests a)
 
   pub was_refused : (method : List ℕ) (refused : Refused) (a b : Option (List Step)) (u v w : Option (List ℕ)) → Tried rests (Err refused) a b u v
-      → Appends v w (refusal_to method refused) → Responds rests method (Err refused) a b u w None
+      → Appends v w (refusal_to method refused) → Responded rests method (Err refused) a b u w
   was_refused method refused a b u v w t r =
       ([], refl, did_the_same a b t.0, subst (λ (x : Option (List ℕ)). Appends x w (refusal_to method refused)) t.1 r)
 
-  pub not_refused : (method : List ℕ) (refused : Refused) (a b : Option (List Step)) (u v w : Option (List ℕ)) (fault : WireFault) (end : SessionEnd)
-      → IsUntold end → Tried rests (Err refused) a b u v → Writes v w (refusal_to method refused) (Err fault) → Responds rests method (Err refused) a b u w (Some end)
-  not_refused method refused a b u v w fault end un t r = (
+  pub not_refused : (worn : Type 0) (method : List ℕ) (refused : Refused) (a b : Option (List Step)) (u v w : Option (List ℕ)) (fault : WireFault) (end : SessionEnd)
+      → IsUntold end → Tried rests (Err refused) a b u v → Writes v w (refusal_to method refused) (Err fault) → Responds rests worn method (Err refused) a b u w (Some end)
+  not_refused worn method refused a b u v w fault end un t r = (
     [],
     (refl, un),
     did_the_same a b t.0,
     subst (λ (x : Option (List ℕ)). WritesFront x w (refusal_to method refused)) t.1 (front_by v w (refusal_to method refused) (Err fault) r),
   )
 
-  pub not_decoded : (method : List ℕ) (asked : Result Request Refused) (a b : Option (List Step)) (u v : Option (List ℕ)) → Tried rests asked a b u v
-      → Responds rests method asked a b u v (Some end.NoMemory)
-  not_decoded method (Ok request) a b u v t = (
+  pub not_decoded : (worn : Type 0) (method : List ℕ) (asked : Result Request Refused) (a b : Option (List Step)) (u v : Option (List ℕ)) → Tried rests asked a b u v
+      → Responds rests worn method asked a b u v (Some end.NoMemory)
+  not_decoded worn method (Ok request) a b u v t = (
     t.0,
     record { tries = t.0; rest = []; in_use = t.1; parts = sym (append-nil t.0); last = Breaks.unasked end.NoMemory tt },
     t.2,
     subst (λ (x : Option (List ℕ)). WritesFront u x (said_from false t.0)) (sym t.3) (front_none u u (said_from false t.0) (keeps_itself u)),
   )
-  not_decoded method (Err refused) a b u v t = (
+  not_decoded worn method (Err refused) a b u v t = (
     [],
     (refl, tt),
     did_the_same a b t.0,
     subst (λ (x : Option (List ℕ)). WritesFront u x (refusal_to method refused)) (sym t.1) (front_none u u (refusal_to method refused) (keeps_itself u)),
   )
 
-  pub responds_as : (method : List ℕ) (x y : Result Request Refused) (made made' : Option (List Step)) (written written' : Option (List ℕ)) (result : Option SessionEnd) → x ≡ y
-      → Responds rests method x made made' written written' result → Responds rests method y made made' written written' result
-  responds_as method x y made made' written written' result e r =
-      subst (λ (a : Result Request Refused). Responds rests method a made made' written written' result) e r
+  pub responds_as : (worn : Type 0) (method : List ℕ) (x y : Result Request Refused) (made made' : Option (List Step)) (written written' : Option (List ℕ)) (end : SessionEnd) → x ≡ y
+      → Responds rests worn method x made made' written written' (Some end) → Responds rests worn method y made made' written written' (Some end)
+  responds_as worn method x y made made' written written' end e r =
+      subst (λ (a : Result Request Refused). Responds rests worn method a made made' written written' (Some end)) e r
+
+  pub responded_as : (method : List ℕ) (x y : Result Request Refused) (made made' : Option (List Step)) (written written' : Option (List ℕ)) → x ≡ y
+      → Responded rests method x made made' written written' → Responded rests method y made made' written written'
+  responded_as method x y made made' written written' e r = subst (λ (a : Result Request Refused). Responded rests method a made made' written written') e r
 
   -- ---- the whole exchange
 
-  pub unasked : (left : Option (List ℕ)) (made : Option (List Step)) (written written' : Option (List ℕ)) (end : SessionEnd)
-      → EndsUnasked left written written' end → Ends rests left made made written written' end
-  unasked left made written written' end u = record {
+  suits_unread : (worn : Type 0) (end : SessionEnd) (last : Last) → SuitsUnread end last → Suits worn end last
+  suits_unread worn end Last.Ended s = s
+  suits_unread worn end (Last.Closing x) s = absurd (never_closing end x s)
+  suits_unread worn end (Last.Unread fault) s = s
+  suits_unread worn end (Last.BadBody head fault) s = s
+  suits_unread worn end Last.Nothing s = s
+  suits_unread worn end (Last.Announced head) s = s
+  suits_unread worn end (Last.Broken x) s = absurd (never_broken end x s)
+
+  pub unasked : (worn : Type 0) (left : Option (List ℕ)) (made : Option (List Step)) (written written' : Option (List ℕ)) (end : SessionEnd)
+      → EndsUnasked left written written' end → Ends rests worn left made made written written' end
+  unasked worn left made written written' end u = record {
     last = u.last;
-    suits = u.suits;
+    suits = suits_unread worn end u.last u.suits;
     is_last = u.is_last;
     did = subst (Did rests made made) (sym u.no_steps) (did_nothing rests made);
     said = u.said;
   }
-
-  suits_broken : (end : SessionEnd) (x : Exchange) → Breaking end → StopsIn (asked_of x.head x.body) end x.steps → Suits end (Last.Broken x)
-  suits_broken end.Closed x b s = absurd b
-  suits_broken (end.BadRequest fault) x b s = absurd b
-  suits_broken end.ReadFault x b s = s
-  suits_broken end.WriteFault x b s = s
-  suits_broken end.OutOfTickets x b s = s
-  suits_broken (end.TicketTaken ticket) x b s = s
-  suits_broken end.Worn x b s = s
-  suits_broken end.NoMemory x b s = s
 
   front_is_said : (end : SessionEnd) (old new : Option (List ℕ)) (bytes : List ℕ) → Breaking end → WritesFront old new bytes → Said end old new bytes
   front_is_said end.Closed old new bytes b w = absurd b
@@ -167,34 +191,34 @@ module _ (rests : CoreEvent → Type 0) where
   at_request (Some all) None head body a = absurd a
   at_request (Some all) (Some after) head body a = (after, a)
 
-  pub broken_off : (left rest : Option (List ℕ)) (made made' : Option (List Step)) (old mid new : Option (List ℕ)) (head : Head) (body : List ℕ) (end : SessionEnd)
+  pub broken_off : (worn : Type 0) (left rest : Option (List ℕ)) (made made' : Option (List Step)) (old mid new : Option (List ℕ)) (head : Head) (body : List ℕ) (end : SessionEnd)
       → Ahead (IsRequest head body) left rest → Appends old mid (go_on_of head) → Breaking end
-      → Responds rests head.method (asked_of head body) made made' mid new (Some end) → Ends rests left made made' old new end
-  broken_off left rest made made' old mid new head body end a w b r =
+      → Responds rests worn head.method (asked_of head body) made made' mid new (Some end) → Ends rests worn left made made' old new end
+  broken_off worn left rest made made' old mid new head body end a w b r =
       let x : Exchange = record { head = head; body = body; steps = r.0 } in
       record {
         last = Last.Broken x;
-        suits = suits_broken end x b r.1;
+        suits = (b, r.1);
         is_last = at_request left rest head body a;
         did = r.2;
         said = front_is_said end old new (said_in x) b (front_after old mid new (go_on_of head) (said_for head.method (asked_of head body) r.0) w r.3);
       }
 
   pub exchanged : (left rest : Option (List ℕ)) (made made' : Option (List Step)) (old mid new : Option (List ℕ)) (head : Head) (body : List ℕ)
-      → Ahead (IsRequest head body) left rest → Appends old mid (go_on_of head) → Responds rests head.method (asked_of head body) made made' mid new None → head.close ≡ false
-      → Turned rests left rest made made' old new None
+      → Ahead (IsRequest head body) left rest → Appends old mid (go_on_of head) → Responded rests head.method (asked_of head body) made made' mid new → head.close ≡ false
+      → GoesOn rests left rest made made' old new
   exchanged left rest made made' old mid new head body a w r c = (
     record { head = head; body = body; steps = r.0 },
     record { read = a; answers = r.1; did = r.2; said = Appends-trans old mid new (go_on_of head) (said_for head.method (asked_of head body) r.0) w r.3 },
     c,
   )
 
-  pub closed : (left rest : Option (List ℕ)) (made made' : Option (List Step)) (old mid new : Option (List ℕ)) (head : Head) (body : List ℕ)
-      → Ahead (IsRequest head body) left rest → Appends old mid (go_on_of head) → Responds rests head.method (asked_of head body) made made' mid new None → head.close ≡ true
-      → Ends rests left made made' old new end.Closed
-  closed left rest made made' old mid new head body a w r c = record {
+  pub closed : (worn : Type 0) (left rest : Option (List ℕ)) (made made' : Option (List Step)) (old mid new : Option (List ℕ)) (head : Head) (body : List ℕ)
+      → Ahead (IsRequest head body) left rest → Appends old mid (go_on_of head) → Responded rests head.method (asked_of head body) made made' mid new → head.close ≡ true
+      → Ends rests worn left made made' old new end.Closed
+  closed worn left rest made made' old mid new head body a w r c = record {
     last = Last.Closing (record { head = head; body = body; steps = r.0 });
-    suits = (r.1, c);
+    suits = (refl, r.1, c);
     is_last = at_request left rest head body a;
     did = r.2;
     said = Appends-trans old mid new (go_on_of head) (said_for head.method (asked_of head body) r.0) w r.3;

@@ -5,3 +5,6 @@ pub mod Receives
 pub mod Exchanges
 pub mod Serves
 pub mod Numbers
+pub mod Whole
+pub mod Complete
+pub mod Behind

@@ -110,7 +110,7 @@ has_tickets end limit to other e = absurd (subst IsElse e other)
 pub none_last : (end : SessionEnd) (limit n : ℕ) (given : Option (List ℕ)) (made : Option (List Step)) → (end ≡ OutOfTickets → limit ≤ n)
     → LastNumbered end limit n given given made made
 none_last end limit n given made out =
-    record { pairs = []; to = n; spare = []; asked = asked_none made; rises = refl; below = tt; drawn = gives_none given; none_spare = inl refl; none_left = out }
+    record { pairs = []; to = n; spare = []; asked = asked_none made; rises = refl; below = tt; drawn = gives_none given; none_spare = tt; none_left = out }
 
 -- a request was asked
 pub one_asked : (limit n word : ℕ) (given given' : Option (List ℕ)) (made made' : Option (List Step)) → n < limit → Gives given given' (word ∷ []) → Asked made made' ((n, word) ∷ [])
@@ -127,7 +127,7 @@ one_last end limit n word given given' made made' b other d (inl a) = record {
   rises = (refl, refl);
   below = (b, tt);
   drawn = d;
-  none_spare = inl refl;
+  none_spare = tt;
   none_left = has_tickets end limit (n + 1) other;
 }
 one_last end limit n word given given' made made' b other d (inr a) = record {
@@ -138,7 +138,7 @@ one_last end limit n word given given' made made' b other d (inr a) = record {
   rises = refl;
   below = tt;
   drawn = d;
-  none_spare = inr a.1;
+  none_spare = a.1;
   none_left = has_tickets end limit n other;
 }
 
@@ -171,7 +171,7 @@ all_numbered end limit n m g h a b other p = record {
   rises = p.rises;
   below = p.below;
   drawn = subst (Gives g h) (sym (append-nil (map (λ x. x.1) p.pairs))) p.drawn;
-  none_spare = inl refl;
+  none_spare = tt;
   none_left = has_tickets end limit m other;
 }
 

@@ -9,7 +9,7 @@ use Rattle.core_model.specs.declared.event.CoreEvent.{CoreEvent}
 use Rattle.serve_model.specs.declared.ends.SessionEnd.{SessionEnd}
 use Rattle.serve_model.specs.declared.ends.SessionEnd.TheVariants as end
 use Rattle.serve_model.specs.Steps.{Step, Did}
-use Rattle.serve_model.specs.Dialog.{Last, IsLast, Said, Ahead, IsRequest, Exchange, Ends, Turned, Answers, Requests, Has, Dialog, asked_in, said_in}
+use Rattle.serve_model.specs.Dialog.{Last, IsLast, Said, Ahead, IsRequest, Exchange, Ends, GoesOn, Answers, Requests, Has, Dialog, asked_in, said_in}
 use Rattle.serve_model.proofs.Steps.{did_nothing, did_then, every_append}
 use Rattle.serve_model.proofs.Said.{front_none, front_after, keeps_itself}
 
@@ -32,7 +32,7 @@ said_after end.Worn a b c xs ys p q = front_after a b c xs ys p q
 said_after end.NoMemory a b c xs ys p q = front_after a b c xs ys p q
 
 module _ (rests : CoreEvent → Type 0) where
-  none_yet : (left : Option (List ℕ)) → Ahead (Requests rests []) left left
+  none_yet : (left : Option (List ℕ)) → Ahead (Requests []) left left
   none_yet None = tt
   none_yet (Some all) = refl
 
@@ -40,19 +40,19 @@ module _ (rests : CoreEvent → Type 0) where
       → Has rests left (bytes_ahead left w) made made written written
   at_start left w made written e = record {
     whole = [];
-    read = subst (Ahead (Requests rests []) left) (sym (held_none left w e)) (none_yet left);
+    read = subst (Ahead (Requests []) left) (sym (held_none left w e)) (none_yet left);
     answered = tt;
     did = did_nothing rests made;
     said = Appends-nil written;
   }
 
-  read_more : (xs : List Exchange) (x : Exchange) (all mid rest : List ℕ) → Requests rests xs all mid → IsRequest x.head x.body mid rest
-      → Requests rests (xs ++ x ∷ []) all rest
+  read_more : (xs : List Exchange) (x : Exchange) (all mid rest : List ℕ) → Requests xs all mid → IsRequest x.head x.body mid rest
+      → Requests (xs ++ x ∷ []) all rest
   read_more [] x all mid rest r q = (rest, subst (λ (bytes : List ℕ). IsRequest x.head x.body bytes rest) (sym r) q, refl)
   read_more (y ∷ ys) x all mid rest r q = (r.0, r.1, read_more ys x r.0 mid rest r.2 q)
 
-  ahead_more : (xs : List Exchange) (x : Exchange) (left mid rest : Option (List ℕ)) → Ahead (Requests rests xs) left mid → Ahead (IsRequest x.head x.body) mid rest
-      → Ahead (Requests rests (xs ++ x ∷ [])) left rest
+  ahead_more : (xs : List Exchange) (x : Exchange) (left mid rest : Option (List ℕ)) → Ahead (Requests xs) left mid → Ahead (IsRequest x.head x.body) mid rest
+      → Ahead (Requests (xs ++ x ∷ [])) left rest
   ahead_more xs x None mid rest r q = tt
   ahead_more xs x (Some all) None rest r q = absurd r
   ahead_more xs x (Some all) (Some bytes) None r q = absurd q
@@ -60,7 +60,7 @@ module _ (rests : CoreEvent → Type 0) where
 
   -- the connection goes on
   pub goes_on : (left mid rest : Option (List ℕ)) (made made' made'' : Option (List Step)) (written written' written'' : Option (List ℕ))
-      → Has rests left mid made made' written written' → Turned rests mid rest made' made'' written' written'' None → Has rests left rest made made'' written written''
+      → Has rests left mid made made' written written' → GoesOn rests mid rest made' made'' written' written'' → Has rests left rest made made'' written written''
   goes_on left mid rest made made' made'' written written' written'' h t =
       let x = t.0 in
       record {
@@ -71,16 +71,16 @@ module _ (rests : CoreEvent → Type 0) where
         said = subst (Appends written written'') (sym (one_more said_in h.whole x)) (Appends-trans written written' written'' _ _ h.said t.1.said);
       }
 
-  ends_at : (xs : List Exchange) (last : Last) (left mid : Option (List ℕ)) → Ahead (Requests rests xs) left mid → IfSome mid (IsLast last)
-      → IfSome left (λ (all : List ℕ). (bytes : List ℕ) × Requests rests xs all bytes × IsLast last bytes)
+  ends_at : (xs : List Exchange) (last : Last) (left mid : Option (List ℕ)) → Ahead (Requests xs) left mid → IfSome mid (IsLast last)
+      → IfSome left (λ (all : List ℕ). (bytes : List ℕ) × Requests xs all bytes × IsLast last bytes)
   ends_at xs last None mid r l = tt
   ends_at xs last (Some all) None r l = absurd r
   ends_at xs last (Some all) (Some bytes) r l = (bytes, r, l)
 
   -- the connection ends
-  pub ends : (left mid : Option (List ℕ)) (made made' made'' : Option (List Step)) (written written' written'' : Option (List ℕ)) (end : SessionEnd)
-      → Has rests left mid made made' written written' → Ends rests mid made' made'' written' written'' end → Dialog rests left made made'' written written'' end
-  ends left mid made made' made'' written written' written'' end h e = record {
+  pub ends : (worn : Type 0) (left mid : Option (List ℕ)) (made made' made'' : Option (List Step)) (written written' written'' : Option (List ℕ)) (end : SessionEnd)
+      → Has rests left mid made made' written written' → Ends rests worn mid made' made'' written' written'' end → Dialog rests worn left made made'' written written'' end
+  ends worn left mid made made' made'' written written' written'' end h e = record {
     whole = h.whole;
     last = e.last;
     read = ends_at h.whole e.last left mid h.read e.is_last;
@@ -90,12 +90,12 @@ module _ (rests : CoreEvent → Type 0) where
     said = said_after end written written' written'' _ _ h.said e.said;
   }
 
-  not_begun : (left : Option (List ℕ)) → IfSome left (λ (all : List ℕ). (bytes : List ℕ) × Requests rests [] all bytes × IsLast Last.Nothing bytes)
+  not_begun : (left : Option (List ℕ)) → IfSome left (λ (all : List ℕ). (bytes : List ℕ) × Requests [] all bytes × IsLast Last.Nothing bytes)
   not_begun None = tt
   not_begun (Some all) = (all, refl, tt)
 
-  pub no_wire : (left : Option (List ℕ)) (made : Option (List Step)) (written : Option (List ℕ)) → Dialog rests left made made written written end.NoMemory
-  no_wire left made written = record {
+  pub no_wire : (worn : Type 0) (left : Option (List ℕ)) (made : Option (List Step)) (written : Option (List ℕ)) → Dialog rests worn left made made written written end.NoMemory
+  no_wire worn left made written = record {
     whole = [];
     last = Last.Nothing;
     read = not_begun left;

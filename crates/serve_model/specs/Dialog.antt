@@ -170,11 +170,11 @@ Breaking (BadRequest fault) = ⊥
 Breaking _ = ⊤
 
 -- an end before the request was asked: no ticket is left, the turn makes no more steps, or memory was wanting
-abbrev pub IsUnasked : SessionEnd → Type 0
-IsUnasked OutOfTickets = ⊤
-IsUnasked Worn = ⊤
-IsUnasked NoMemory = ⊤
-IsUnasked _ = ⊥
+abbrev pub IsUnasked : Type 0 → SessionEnd → Type 0
+IsUnasked worn OutOfTickets = ⊤
+IsUnasked worn Worn = worn
+IsUnasked worn NoMemory = ⊤
+IsUnasked worn _ = ⊥
 
 -- an end because the reply wasn't written whole
 abbrev pub IsUntold : SessionEnd → Type 0
@@ -192,38 +192,41 @@ abbrev pub is_in_use : TurnFault → Bool
 is_in_use (turn.Core (step.TicketUsed used)) = true
 is_in_use _ = false
 
--- A connection was to end so, and ends so with these steps: the ticket is left, but where it isn't known any more; the turn makes
--- no more steps, which then is the end.
-pub data Gone (ticket : ℕ) : SessionEnd → SessionEnd → List Step → Type 0 where
-  leaves : (end : SessionEnd) (now : ℕ) (answer : Result Outcome StepFault) → Gone ticket end end (entry_of (Leave ticket) now answer ∷ [])
-  worn : (end : SessionEnd) → Gone ticket end Worn []
-  taken : (other : ℕ) → Gone ticket (TicketTaken other) (TicketTaken other) []
+-- `worn` says here that the turn makes no more steps.
 
--- why a connection ends while a ticket waits, and the step that shows it, if one does: a rest or a take failed, the client went away,
--- or what a take brought wasn't written
-pub data Stopping (ticket : ℕ) : SessionEnd → List Step → Type 0 where
-  resting : (fault : TurnFault) → IsOfRest fault → Stopping ticket (end_of fault) []
-  taking : (now : ℕ) (fault : StepFault) → FitsFault (Take ticket) fault → Stopping ticket (end_of_step fault) (entry_of (Take ticket) now (Err fault) ∷ [])
-  went : Stopping ticket ReadFault []
-  untold : (end : SessionEnd) → IsUntold end → Stopping ticket end []
+-- A connection was to end so, and ends so with these steps: the ticket is left; or the turn makes no more steps, which then is the
+-- end. It isn't left where no step is made any more, or where it isn't known.
+pub data Gone (worn : Type 0) (ticket : ℕ) : SessionEnd → SessionEnd → List Step → Type 0 where
+  leaves : (end : SessionEnd) (now : ℕ) (answer : Result Outcome StepFault) → Gone worn ticket end end (entry_of (Leave ticket) now answer ∷ [])
+  late : (end : SessionEnd) → worn → Gone worn ticket end Worn []
+  stands : Gone worn ticket Worn Worn []
+  taken : Gone worn ticket (TicketTaken ticket) (TicketTaken ticket) []
+
+-- why a connection ends while a ticket waits, and the step that shows it, if one does: the turn makes no more steps, a take failed, the
+-- client went away, memory was wanting, or what a take brought wasn't written
+pub data Stopping (worn : Type 0) (ticket : ℕ) : SessionEnd → List Step → Type 0 where
+  late : worn → Stopping worn ticket Worn []
+  taking : (now : ℕ) (fault : StepFault) → FitsFault (Take ticket) fault → Stopping worn ticket (end_of_step fault) (entry_of (Take ticket) now (Err fault) ∷ [])
+  went : Stopping worn ticket ReadFault []
+  untold : (end : SessionEnd) → IsUntold end → Stopping worn ticket end []
 
 -- The takes of a ticket in whose midst the connection ended: those before the end's cause, its step, and the one that left the ticket; or
 -- all of them, where the last thing couldn't be written.
-pub data Stops (ticket : ℕ) : SessionEnd → List Step → Type 0 where
-  gone : (first end : SessionEnd) (takes failed tail : List Step) → ArePartial ticket takes → Stopping ticket first failed → Gone ticket first end tail
-      → Stops ticket end (takes ++ failed ++ tail)
-  unsaid : (end : SessionEnd) (takes : List Step) → IsUntold end → TakesAll ticket takes → Stops ticket end takes
+pub data Stops (worn : Type 0) (ticket : ℕ) : SessionEnd → List Step → Type 0 where
+  gone : (first end : SessionEnd) (takes failed tail : List Step) → ArePartial ticket takes → Stopping worn ticket first failed → Gone worn ticket first end tail
+      → Stops worn ticket end (takes ++ failed ++ tail)
+  unsaid : (end : SessionEnd) (takes : List Step) → IsUntold end → TakesAll ticket takes → Stops worn ticket end takes
 
 -- The steps of a request in whose midst the connection ended: none; the one that asked it, with a fault, or with a reply that couldn't be
 -- written; or that one and takes.
-pub data Breaks (request : Request) : SessionEnd → List Step → Type 0 where
-  unasked : (end : SessionEnd) → IsUnasked end → Breaks request end []
+pub data Breaks (worn : Type 0) (request : Request) : SessionEnd → List Step → Type 0 where
+  unasked : (end : SessionEnd) → IsUnasked worn end → Breaks worn request end []
   fails : (ticket word now : ℕ) (fault : StepFault) → IsOfRest (turn.Core fault)
-      → Breaks request (end_of_step fault) (entry_of (Ask ticket request word) now (Err fault) ∷ [])
+      → Breaks worn request (end_of_step fault) (entry_of (Ask ticket request word) now (Err fault) ∷ [])
   unsaid : (ticket word now : ℕ) (answer : Answer) (end : SessionEnd) → IsUntold end
-      → Breaks request end (entry_of (Ask ticket request word) now (Ok (Replied answer)) ∷ [])
-  waiting : (ticket word at : ℕ) (end : SessionEnd) (takes : List Step) → Stops ticket end takes
-      → Breaks request end (entry_of (Ask ticket request word) at (Ok Waiting) ∷ takes)
+      → Breaks worn request end (entry_of (Ask ticket request word) now (Ok (Replied answer)) ∷ [])
+  waiting : (ticket word at : ℕ) (end : SessionEnd) (takes : List Step) → Stops worn ticket end takes
+      → Breaks worn request end (entry_of (Ask ticket request word) at (Ok Waiting) ∷ takes)
 
 -- asks of the request with a ticket that was in use
 abbrev pub AreInUse : Request → List Step → Type 0
@@ -298,9 +301,9 @@ abbrev pub Answers : Result Request Refused → List Step → Type 0
 Answers (Err refused) steps = steps ≡ []
 Answers (Ok request) steps = AfterUsed request (Whole request) steps
 
-abbrev pub StopsIn : Result Request Refused → SessionEnd → List Step → Type 0
-StopsIn (Err refused) end steps = (steps ≡ []) × IsUntold end
-StopsIn (Ok request) end steps = AfterUsed request (Breaks request end) steps
+abbrev pub StopsIn : Type 0 → Result Request Refused → SessionEnd → List Step → Type 0
+StopsIn worn (Err refused) end steps = (steps ≡ []) × IsUntold end
+StopsIn worn (Ok request) end steps = AfterUsed request (Breaks worn request end) steps
 
 -- ---- the end of a connection
 
@@ -339,18 +342,23 @@ IsLast Nothing all = ⊤
 IsLast (Announced head) all = (mid : List ℕ) × HeadRead all mid (Ok (Some head))
 IsLast (Broken x) all = (rest : List ℕ) × IsRequest x.head x.body all rest
 
+-- which end goes with it where no request was read whole: the input's end, bytes that are none, or a read, a write or memory that failed
+abbrev pub SuitsUnread : SessionEnd → Last → Type 0
+SuitsUnread Closed Ended = ⊤
+SuitsUnread (BadRequest f) (Unread fault) = (f ≡ fault) × IsTrue (is_of_bytes fault)
+SuitsUnread (BadRequest f) (BadBody head fault) = (f ≡ fault) × IsTrue (is_of_bytes fault)
+SuitsUnread ReadFault Nothing = ⊤
+SuitsUnread NoMemory Nothing = ⊤
+SuitsUnread ReadFault (Announced head) = ⊤
+SuitsUnread WriteFault (Announced head) = ⊤
+SuitsUnread NoMemory (Announced head) = ⊤
+SuitsUnread _ _ = ⊥
+
 -- which of them goes with which end
-abbrev pub Suits : SessionEnd → Last → Type 0
-Suits Closed Ended = ⊤
-Suits Closed (Closing x) = Answers (asked_in x) x.steps × (x.head.close ≡ true)
-Suits (BadRequest f) (Unread fault) = (f ≡ fault) × IsTrue (is_of_bytes fault)
-Suits (BadRequest f) (BadBody head fault) = (f ≡ fault) × IsTrue (is_of_bytes fault)
-Suits Closed _ = ⊥
-Suits (BadRequest f) _ = ⊥
-Suits end Nothing = ⊤
-Suits end (Announced head) = ⊤
-Suits end (Broken x) = StopsIn (asked_in x) end x.steps
-Suits end _ = ⊥
+abbrev pub Suits : Type 0 → SessionEnd → Last → Type 0
+Suits worn end (Closing x) = (end ≡ Closed) × Answers (asked_in x) x.steps × (x.head.close ≡ true)
+Suits worn end (Broken x) = Breaking end × StopsIn worn (asked_in x) end x.steps
+Suits worn end last = SuitsUnread end last
 
 -- all of it was written, or a front of it
 abbrev pub Said : SessionEnd → Option (List ℕ) → Option (List ℕ) → List ℕ → Type 0
@@ -358,6 +366,15 @@ Said Closed old new bytes = Appends old new bytes
 Said _ old new bytes = WritesFront old new bytes
 
 -- ---- the dialog
+
+-- these requests stand in the bytes, one behind the other
+abbrev pub Requests : List Exchange → List ℕ → List ℕ → Type 0
+Requests [] all rest = all ≡ rest
+Requests (x ∷ xs) all rest = (mid : List ℕ) × IsRequest x.head x.body all mid × Requests xs mid rest
+
+-- each was answered whole, and none of them closes
+abbrev pub AreAnswered : List Exchange → Type 0
+AreAnswered xs = Every (λ x. Answers (asked_in x) x.steps × (x.head.close ≡ false)) xs
 
 module _ (rests : CoreEvent → Type 0) where
   -- a request was read and answered whole
@@ -367,27 +384,9 @@ module _ (rests : CoreEvent → Type 0) where
     pub did : Did rests made made' x.steps
     pub said : Appends written written' (said_in x)
 
-  -- the connection ended
-  pub record Ends (left : Option (List ℕ)) (made made' : Option (List Step)) (written written' : Option (List ℕ)) (end : SessionEnd) : Type 0 where
-    pub last : Last
-    pub suits : Suits end last
-    pub is_last : IfSome left (IsLast last)
-    pub did : Did rests made made' (last_steps last)
-    pub said : Said end written written' (last_said last)
-
-  -- one request, and how it goes on
-  abbrev pub Turned : Option (List ℕ) → Option (List ℕ) → Option (List Step) → Option (List Step) → Option (List ℕ) → Option (List ℕ) → Option SessionEnd → Type 0
-  Turned left left' made made' written written' None =
-      (x : Exchange) × Exchanged left left' made made' written written' x × (x.head.close ≡ false)
-  Turned left left' made made' written written' (Some end) = Ends left made made' written written' end
-
-  -- these requests stand in the bytes, one behind the other, and none of them closes
-  abbrev pub Requests : List Exchange → List ℕ → List ℕ → Type 0
-  Requests [] all rest = all ≡ rest
-  Requests (x ∷ xs) all rest = (mid : List ℕ) × IsRequest x.head x.body all mid × Requests xs mid rest
-
-  abbrev pub AreAnswered : List Exchange → Type 0
-  AreAnswered xs = Every (λ x. Answers (asked_in x) x.steps × (x.head.close ≡ false)) xs
+  -- such a request, and the connection goes on
+  abbrev pub GoesOn : Option (List ℕ) → Option (List ℕ) → Option (List Step) → Option (List Step) → Option (List ℕ) → Option (List ℕ) → Type 0
+  GoesOn left left' made made' written written' = (x : Exchange) × Exchanged left left' made made' written written' x × (x.head.close ≡ false)
 
   -- the requests that were answered whole so far
   pub record Has (left left' : Option (List ℕ)) (made made' : Option (List Step)) (written written' : Option (List ℕ)) : Type 0 where
@@ -397,12 +396,26 @@ module _ (rests : CoreEvent → Type 0) where
     pub did : Did rests made made' (flat_map (λ x. x.steps) whole)
     pub said : Appends written written' (flat_map said_in whole)
 
+module _ (rests : CoreEvent → Type 0) (worn : Type 0) where
+  -- the connection ended
+  pub record Ends (left : Option (List ℕ)) (made made' : Option (List Step)) (written written' : Option (List ℕ)) (end : SessionEnd) : Type 0 where
+    pub last : Last
+    pub suits : Suits worn end last
+    pub is_last : IfSome left (IsLast last)
+    pub did : Did rests made made' (last_steps last)
+    pub said : Said end written written' (last_said last)
+
+  -- one request, and how it goes on
+  abbrev pub Turned : Option (List ℕ) → Option (List ℕ) → Option (List Step) → Option (List Step) → Option (List ℕ) → Option (List ℕ) → Option SessionEnd → Type 0
+  Turned left left' made made' written written' None = GoesOn rests left left' made made' written written'
+  Turned left left' made made' written written' (Some end) = Ends left made made' written written' end
+
   -- A whole connection. `left` are the bytes that the source had to give.
   pub record Dialog (left : Option (List ℕ)) (made made' : Option (List Step)) (written written' : Option (List ℕ)) (end : SessionEnd) : Type 0 where
     pub whole : List Exchange
     pub last : Last
     pub read : IfSome left (λ all. (mid : List ℕ) × Requests whole all mid × IsLast last mid)
     pub answered : AreAnswered whole
-    pub suits : Suits end last
+    pub suits : Suits worn end last
     pub did : Did rests made made' (flat_map (λ x. x.steps) whole ++ last_steps last)
     pub said : Said end written written' (flat_map said_in whole ++ last_said last)

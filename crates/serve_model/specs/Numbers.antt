@@ -27,8 +27,7 @@ pub record Asked (made made' : Option (List Step)) (pairs : List (ℕ × ℕ)) :
   pub adds : Adds made made' steps
   pub are : asks steps ≡ pairs
 
--- The Asks have the next tickets, below the limit, and the words drawn, in order; where the connection ends by `Worn`, one more word may have been drawn, and
--- where it is out of tickets none is left.
+-- The Asks have the next tickets, below the limit, and the words drawn, in order.
 pub record Numbered (limit from to : ℕ) (given given' : Option (List ℕ)) (made made' : Option (List Step)) : Type 0 where
   pub pairs : List (ℕ × ℕ)
   pub asked : Asked made made' pairs
@@ -36,6 +35,13 @@ pub record Numbered (limit from to : ℕ) (given given' : Option (List ℕ)) (ma
   pub below : Every (λ a. a.0 < limit) pairs
   pub drawn : Gives given given' (map (λ a. a.1) pairs)
 
+-- nothing, or one word more where it ends by `Worn`
+abbrev pub IsSpare : SessionEnd → List ℕ → Type 0
+IsSpare end [] = ⊤
+IsSpare end (word ∷ []) = end ≡ Worn
+IsSpare end (word ∷ more ∷ words) = ⊥
+
+-- The same of a whole connection: where it ends by `Worn`, one more word may have been drawn, and where it is out of tickets none is left.
 pub record LastNumbered (end : SessionEnd) (limit from : ℕ) (given given' : Option (List ℕ)) (made made' : Option (List Step)) : Type 0 where
   pub pairs : List (ℕ × ℕ)
   pub to : ℕ
@@ -44,7 +50,7 @@ pub record LastNumbered (end : SessionEnd) (limit from : ℕ) (given given' : Op
   pub rises : Rises from to pairs
   pub below : Every (λ a. a.0 < limit) pairs
   pub drawn : Gives given given' (map (λ a. a.1) pairs ++ spare)
-  pub none_spare : (spare ≡ []) ⊎ (end ≡ Worn)
+  pub none_spare : IsSpare end spare
   pub none_left : end ≡ OutOfTickets → limit ≤ to
 
 -- an end that isn't for want of tickets

@@ -13,7 +13,7 @@ use Rattle.core_model.specs.declared.event.Outcome.{Outcome}
 use Rattle.core_model.specs.declared.event.Outcome.TheVariants.{Pending}
 use Rattle.core_model.specs.declared.event.StepFault.{StepFault}
 use Rattle.serve_model.specs.declared.ends.SessionEnd.{SessionEnd}
-use Rattle.serve_model.specs.declared.ends.SessionEnd.TheVariants.{BadRequest, ReadFault, WriteFault, NoMemory}
+use Rattle.serve_model.specs.declared.ends.SessionEnd.TheVariants.{BadRequest, ReadFault, WriteFault, TicketTaken, NoMemory}
 use Rattle.serve_model.specs.declared.progress.Attempt.{Attempt}
 use Rattle.serve_model.specs.declared.progress.Attempt.TheVariants as attempt
 use Rattle.serve_model.specs.declared.progress.Stop.{Stop}
@@ -23,7 +23,7 @@ use Rattle.serve_model.specs.declared.progress.Taken.TheVariants as taken
 use Rattle.serve_model.specs.declared.received.Received as received
 use Rattle.serve_model.specs.declared.refused.Refused.{Refused}
 use Rattle.serve_model.specs.Steps.{Step, Did}
-use Rattle.serve_model.specs.Dialog.{Last, IsLast, Suits, Said, last_steps, last_said, Ahead, IsRequest, go_on_of, Whole, ArePartial, TakesAll, Stopping, Breaks, AreInUse, IsUntold, Answers, StopsIn, is_final, is_cancel, goes_on, begins, said_in_chunk, said_at, said_from, said_for}
+use Rattle.serve_model.specs.Dialog.{Last, IsLast, SuitsUnread, Said, last_steps, last_said, Ahead, IsRequest, go_on_of, Whole, ArePartial, TakesAll, Stopping, Gone, Breaks, AreInUse, IsUntold, Answers, StopsIn, is_final, is_cancel, goes_on, begins, said_in_chunk, said_at, said_from, said_for}
 
 abbrev pub end_by : WireFault → SessionEnd
 end_by wire.ReadFault = ReadFault
@@ -71,7 +71,7 @@ end_in (stop.Answered end) = end
 -- the connection ended with no step
 pub record EndsUnasked (left written written' : Option (List ℕ)) (end : SessionEnd) : Type 0 where
   pub last : Last
-  pub suits : Suits end last
+  pub suits : SuitsUnread end last
   pub is_last : IfSome left (IsLast last)
   pub no_steps : last_steps last ≡ []
   pub said : Said end written written' (last_said last)
@@ -81,22 +81,12 @@ abbrev pub Received : Option (List ℕ) → Option (List ℕ) → Option (List �
 Received left left' written written' (Ok r) = Ahead (IsRequest r.head r.body) left left' × Appends written written' (go_on_of r.head)
 Received left left' written written' (Err end) = EndsUnasked left written written' end
 
+-- it isn't for want of another ticket than this one
+abbrev pub IsOfTicket : ℕ → SessionEnd → Type 0
+IsOfTicket ticket (TicketTaken other) = other ≡ ticket
+IsOfTicket ticket _ = ⊤
+
 module _ (rests : CoreEvent → Type 0) where
-  -- no more is taken of a ticket: what its takes say was written up to some place
-  abbrev pub Stopped : ℕ → Bool → Option (List Step) → Option (List Step) → Option (List ℕ) → Option (List ℕ) → Stop → Type 0
-  Stopped ticket begun made made' written written' (stop.Unanswered end) =
-      (takes : List Step) × (failed : List Step) × ArePartial ticket takes × Stopping ticket end failed × Did rests made made' (takes ++ failed)
-      × WritesFront written written' (said_from begun takes)
-  Stopped ticket begun made made' written written' (stop.Answered end) =
-      (takes : List Step) × TakesAll ticket takes × IsUntold end × Did rests made made' takes × WritesFront written written' (said_from begun takes)
-
-  -- one take, and what it says, where the head of the chunks was written or wasn't
-  abbrev pub Takes : ℕ → Bool → Option (List Step) → Option (List Step) → Option (List ℕ) → Option (List ℕ) → Result Taken Stop → Type 0
-  Takes ticket begun made made' written written' (Ok taken) =
-      (now : ℕ) × (answer : Result Outcome StepFault) × IsTaken taken answer × Did rests made made' (entry_of (Take ticket) now answer ∷ [])
-      × Appends written written' (said_at begun answer)
-  Takes ticket begun made made' written written' (Err why) = Stopped ticket begun made made' written written' why
-
   -- takes behind which more is to come, all of whose messages are written
   pub record Partly (ticket : ℕ) (begun : Bool) (made made' : Option (List Step)) (written written' : Option (List ℕ)) : Type 0 where
     pub takes : List Step
@@ -105,30 +95,67 @@ module _ (rests : CoreEvent → Type 0) where
     pub said : Appends written written' (said_from false takes)
     pub begun_so : begun_by takes ≡ begun
 
+  -- one take, and what it says, where the head of the chunks was written or wasn't
+  abbrev pub Took : ℕ → Bool → Option (List Step) → Option (List Step) → Option (List ℕ) → Option (List ℕ) → Taken → Type 0
+  Took ticket begun made made' written written' taken =
+      (now : ℕ) × (answer : Result Outcome StepFault) × IsTaken taken answer × Did rests made made' (entry_of (Take ticket) now answer ∷ [])
+      × Appends written written' (said_at begun answer)
+
   -- rests and takes, until the last thing was taken and written
-  abbrev pub Follows : ℕ → Option (List Step) → Option (List Step) → Option (List ℕ) → Option (List ℕ) → Result (Unit {0}) Stop → Type 0
-  Follows ticket made made' written written' (Ok done) =
+  abbrev pub FollowsAll : ℕ → Option (List Step) → Option (List Step) → Option (List ℕ) → Option (List ℕ) → Type 0
+  FollowsAll ticket made made' written written' =
       (takes : List Step) × TakesAll ticket takes × Did rests made made' takes × Appends written written' (said_from false takes)
-  Follows ticket made made' written written' (Err why) = Stopped ticket false made made' written written' why
 
-  -- the steps of one request with one ticket
-  abbrev pub Asks : Request → Option (List Step) → Option (List Step) → Option (List ℕ) → Option (List ℕ) → Result Attempt SessionEnd → Type 0
-  Asks request made made' written written' (Ok attempt.Whole) =
+  -- a request was asked with one ticket: it was answered whole, or the ticket was in use
+  abbrev pub AskedOnce : Request → Option (List Step) → Option (List Step) → Option (List ℕ) → Option (List ℕ) → Attempt → Type 0
+  AskedOnce request made made' written written' attempt.Whole =
       (steps : List Step) × Whole request steps × Did rests made made' steps × Appends written written' (said_from false steps)
-  Asks request made made' written written' (Ok attempt.InUse) =
+  AskedOnce request made made' written written' attempt.InUse =
       (steps : List Step) × AreInUse request steps × Did rests made made' steps × (written' ≡ written)
-  Asks request made made' written written' (Err end) =
-      (steps : List Step) × Breaks request end steps × Did rests made made' steps × WritesFront written written' (said_from false steps)
 
-  -- what is done and written for a request of this method that was read
-  abbrev pub Responds : List ℕ → Result Request Refused → Option (List Step) → Option (List Step) → Option (List ℕ) → Option (List ℕ) → Option SessionEnd → Type 0
-  Responds method asked made made' written written' None =
+  -- a request of this method was answered
+  abbrev pub Responded : List ℕ → Result Request Refused → Option (List Step) → Option (List Step) → Option (List ℕ) → Option (List ℕ) → Type 0
+  Responded method asked made made' written written' =
       (steps : List Step) × Answers asked steps × Did rests made made' steps × Appends written written' (said_for method asked steps)
-  Responds method asked made made' written written' (Some end) =
-      (steps : List Step) × StopsIn asked end steps × Did rests made made' steps × WritesFront written written' (said_for method asked steps)
 
   -- it was asked with tickets that were in use, or, where it is refused with no step, not at all
   abbrev pub Tried : Result Request Refused → Option (List Step) → Option (List Step) → Option (List ℕ) → Option (List ℕ) → Type 0
   Tried (Ok request) made made' written written' =
       (tries : List Step) × AreInUse request tries × Did rests made made' tries × (written' ≡ written)
   Tried (Err refused) made made' written written' = (made' ≡ made) × (written' ≡ written)
+
+-- `worn` says that the turn makes no more steps
+module _ (rests : CoreEvent → Type 0) (worn : Type 0) where
+  -- no more is taken of a ticket: what its takes say was written up to some place
+  abbrev pub Stopped : ℕ → Bool → Option (List Step) → Option (List Step) → Option (List ℕ) → Option (List ℕ) → Stop → Type 0
+  Stopped ticket begun made made' written written' (stop.Unanswered end) =
+      (takes : List Step) × (failed : List Step) × ArePartial ticket takes × Stopping worn ticket end failed × Did rests made made' (takes ++ failed)
+      × WritesFront written written' (said_from begun takes)
+  Stopped ticket begun made made' written written' (stop.Answered end) =
+      (takes : List Step) × TakesAll ticket takes × IsUntold end × Did rests made made' takes × WritesFront written written' (said_from begun takes)
+
+  -- one take, or why no more is taken
+  abbrev pub Takes : ℕ → Bool → Option (List Step) → Option (List Step) → Option (List ℕ) → Option (List ℕ) → Result Taken Stop → Type 0
+  Takes ticket begun made made' written written' (Ok taken) = Took rests ticket begun made made' written written' taken
+  Takes ticket begun made made' written written' (Err why) = Stopped ticket begun made made' written written' why
+
+  -- all that comes for a ticket, or why no more is taken
+  abbrev pub Follows : ℕ → Option (List Step) → Option (List Step) → Option (List ℕ) → Option (List ℕ) → Result (Unit {0}) Stop → Type 0
+  Follows ticket made made' written written' (Ok done) = FollowsAll rests ticket made made' written written'
+  Follows ticket made made' written written' (Err why) = Stopped ticket false made made' written written' why
+
+  -- a ticket was left, or needn't be: the connection was to end so, and ends so
+  abbrev pub Left : ℕ → SessionEnd → SessionEnd → Option (List Step) → Option (List Step) → Type 0
+  Left ticket first end made made' = (tail : List Step) × Gone worn ticket first end tail × Did rests made made' tail
+
+  -- the steps of one request with one ticket
+  abbrev pub Asks : Request → Option (List Step) → Option (List Step) → Option (List ℕ) → Option (List ℕ) → Result Attempt SessionEnd → Type 0
+  Asks request made made' written written' (Ok attempt) = AskedOnce rests request made made' written written' attempt
+  Asks request made made' written written' (Err end) =
+      (steps : List Step) × Breaks worn request end steps × Did rests made made' steps × WritesFront written written' (said_from false steps)
+
+  -- what is done and written for a request of this method that was read
+  abbrev pub Responds : List ℕ → Result Request Refused → Option (List Step) → Option (List Step) → Option (List ℕ) → Option (List ℕ) → Option SessionEnd → Type 0
+  Responds method asked made made' written written' None = Responded rests method asked made made' written written'
+  Responds method asked made made' written written' (Some end) =
+      (steps : List Step) × StopsIn worn asked end steps × Did rests made made' steps × WritesFront written written' (said_for method asked steps)

@@ -4,11 +4,12 @@ use Rattle.std.specs.List.{filter}
 use Rattle.turn_hub.specs.declared.history.Entry.{Entry}
 use Rattle.turn_hub.specs.History.{entry_of}
 use Rattle.core_model.specs.declared.event.CoreEvent.{CoreEvent}
-use Rattle.core_model.specs.declared.event.CoreEvent.TheVariants.{Ask, Answer, Lost, Tick, Item, Cut, Take, Leave, Work}
+use Rattle.core_model.specs.declared.event.CoreEvent.TheVariants.{Ask, Answer, Lost, Item, Cut, Take, Leave, Work}
 use Rattle.core_model.specs.declared.event.Outcome.{Outcome}
 use Rattle.core_model.specs.declared.event.Outcome.TheVariants.{Replied, Waiting, Pending, Item as Message, Noted, Job}
 use Rattle.core_model.specs.declared.event.StepFault.{StepFault}
 use Rattle.core_model.specs.declared.event.StepFault.TheVariants as step
+use Rattle.core_face.specs.Steps.{takes_no_memory}
 use Rattle.serve_model.specs.declared.fault.TurnFault.{TurnFault}
 use Rattle.serve_model.specs.declared.fault.TurnFault.TheVariants as turn
 
@@ -53,10 +54,10 @@ pub record Rested (rests : CoreEvent → Type 0) (old new : Option (List Step)) 
   pub none_own : Every (λ e. is_own e.event ≡ false) steps
 
 -- which faults a core may answer to an event: beside those of each, that a ticket is in use to an Ask of it, and that it isn't
--- known to a Take or a Leave of it
+-- known to a Take or a Leave of it. Losses, ticks, cuts and leaving take no memory
 abbrev pub FitsFault : CoreEvent → StepFault → Type 0
 FitsFault event step.Worn = ⊤
-FitsFault event step.NoMemory = ⊤
+FitsFault event step.NoMemory = takes_no_memory event ≡ false
 FitsFault (Ask ticket request word) (step.TicketUsed other) = other ≡ ticket
 FitsFault (Take ticket) (step.NoSuchTicket other) = other ≡ ticket
 FitsFault (Leave ticket) (step.NoSuchTicket other) = other ≡ ticket
@@ -96,6 +97,12 @@ IsOfRest turn.Worn = ⊤
 IsOfRest (turn.Core step.Worn) = ⊤
 IsOfRest (turn.Core step.NoMemory) = ⊤
 IsOfRest (turn.Core _) = ⊥
+
+-- no more steps are made, by the turn or by its core
+abbrev pub is_late : TurnFault → Bool
+is_late turn.Worn = true
+is_late (turn.Core step.Worn) = true
+is_late _ = false
 
 -- Steps were made of which these are the connection's own; each other one is one that a rest may make.
 pub record Did (rests : CoreEvent → Type 0) (old new : Option (List Step)) (mine : List Step) : Type 0 where

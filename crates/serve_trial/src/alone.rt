@@ -1,5 +1,5 @@
-ghost use Rattle.std.specs.Prelude.{◌≡◌, [], Some};
-ghost use Rattle.serve_model.specs.Steps.{MadeBy, Fits};
+ghost use Rattle.std.specs.Prelude.{◌≡◌, ◌≢◌, [], Some, IfErr, IsTrue};
+ghost use Rattle.serve_model.specs.Steps.{MadeBy, Fits, is_late};
 ghost use Rattle.serve_trial.specs.Alone.{told, IsWork};
 
 use crate::small::Core;
@@ -24,6 +24,7 @@ pub struct Alone {
     core: Core,
     steps: Vec<Noted>,
     tells: bool,
+    worn: bool,
 }
 
 impl Alone {
@@ -35,6 +36,7 @@ impl Alone {
             core: Core::new(alloc, used),
             steps: Vec::new(alloc),
             tells: true,
+            worn: false,
         }
     }
 
@@ -42,6 +44,8 @@ impl Alone {
     fn step<C: Clock>(&mut self, event: CoreEvent, clock: &mut C) -> Result<Outcome, TurnFault>
         ensures made { MadeBy (told self.old) (told self.new) event (C.last clock.new) result }
         ensures fits { Fits event result }
+        ensures early { IfErr result (λ why. why ≢ TurnFault.Worn) }
+        ensures worn { self.new.worn ≡ self.old.worn }
     {
         let now = clock.now();
         let asked = Snapshot::of(&event);
@@ -61,6 +65,16 @@ impl Alone {
     }
 }
 
+/// Whether no more steps are made.
+fn is_late(fault: TurnFault) -> bool
+    ensures { result ≡ is_late fault }
+{
+    matches!(
+        fault,
+        TurnFault::Worn | TurnFault::Core(StepFault::Worn)
+    )
+}
+
 impl Turn for Alone {
     type Home = ();
 
@@ -70,6 +84,10 @@ impl Turn for Alone {
 
     ghost rests = { IsWork };
 
+    ghost worn = { λ a. a.worn };
+
+    ghost allowed = { λ a. Unit {0} };
+
     fn turn<C: Clock>(&mut self, event: CoreEvent, clock: &mut C) -> Result<Outcome, TurnFault> {
         self.step(event, clock)
     }
@@ -78,7 +96,10 @@ impl Turn for Alone {
     fn rest<C: Clock>(&mut self, clock: &mut C) -> Result<(), TurnFault> {
         match self.step(CoreEvent::Work, clock) {
             Ok(_) => Ok(()),
-            Err(fault) => Err(fault),
+            Err(fault) => {
+                self.worn = self.worn || is_late(fault);
+                Err(fault)
+            }
         }
     }
 }

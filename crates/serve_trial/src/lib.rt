@@ -1,13 +1,11 @@
-//! Connections tried over a turn of a test: over a core that nobody else steps, and over a pass of a hub. The core is a small
-//! one, which answers a put at once and everything else at a later step, and whose watches end with their second message.
+//! Connections tried over a turn of a test: over a core that nobody else steps. The core is a small one, which answers a
+//! put at once and everything else at a later step, and whose watches end with their second message.
 #![tactic(auto)]
 
 mod alone;
-mod seated;
 mod small;
 
 pub use alone::Alone;
-pub use seated::{Seated, serve_connection};
 pub use small::Core;
 
 #[cfg(test)]

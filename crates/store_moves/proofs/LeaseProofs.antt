@@ -68,7 +68,7 @@ timed_stands holder s t p ttl v i same is_out other leases sound stands =
 turned_test : (a b : ℕ) → (a == b) ≡ (b == a)
 turned_test a b = grind (arith, nat_tests)
 
-lives : (ttl : ℕ) → (granted_ttl ttl == 0) ≡ false
+pub lives : (ttl : ℕ) → (granted_ttl ttl == 0) ≡ false
 lives ttl = grind (arith, nat_tests)
 
 put_either : (leases : ℕ → Bool) (n m : ℕ) → put leases n true m ≡ n == m || leases m

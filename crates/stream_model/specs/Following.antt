@@ -1,8 +1,10 @@
 -- A stream of a member, followed: an answer of status 200 whose body comes in lines, each of them a message, as etcd's JSON gateway
 -- sends them; one step on Item for each, in order; and at its end one on Cut. It ends behind the message that cancels its watch, since
--- a member leaves the body of such a stream open.
+-- a member leaves the body of such a stream open. `worn` says that the machine is worn at the end.
 use Rattle.std.specs.Prelude.{◌≡◌, ℕ, Bool, true, false, List, [], ◌∷◌, ◌++◌, map, Option, None, Some, IfSome, Result, Ok, Err, ⊤}
 use Rattle.outside.specs.Faults.{Rose}
+use Rattle.outside.specs.declared.link.AnswerEnd.{AnswerEnd}
+use Rattle.outside.specs.declared.link.AnswerEnd.TheVariants as answer
 use Rattle.etcd_types.specs.declared.watch.WatchItem.{WatchItem}
 use Rattle.etcd_types.specs.declared.watch.WatchItem.TheVariants.{Canceled}
 use Rattle.json_model.specs.declared.fault.NotReply.TheVariants.{Unreadable}
@@ -10,6 +12,7 @@ use Rattle.json_model.specs.WatchItems.{item_of}
 use Rattle.http_wire.specs.declared.fault.WireFault.{WireFault}
 use Rattle.http_wire.specs.declared.fault.WireFault.TheVariants as wire
 use Rattle.http_wire.specs.declared.limits.TheConstants.{LINE_LIMIT}
+use Rattle.http_wire.specs.declared.message.AnswerHead.{AnswerHead}
 use Rattle.http_wire.specs.declared.message.Framing.{Framing}
 use Rattle.http_wire.specs.Heads.{AnswerRead}
 use Rattle.http_wire.specs.Steps.{NextLine}
@@ -31,9 +34,13 @@ Lines old [] all new rest = (old ≡ new) × (all ≡ rest)
 Lines old (line ∷ lines) all new rest =
     (next : Framing) × (mid : List ℕ) × NextLine LINE_LIMIT old next all mid (Ok (Some line)) × Lines next lines mid new rest
 
+-- an answer of status 200, whose body goes on so
+abbrev pub IsGood : List ℕ → Framing → List ℕ → Type 0
+IsGood all framing rest = (head : AnswerHead) × (head.status ≡ 200) × (head.framing ≡ framing) × AnswerRead all rest (Ok head)
+
 -- an answer of status 200, and these lines of its body
 abbrev pub Opened : List (List ℕ) → List ℕ → Framing → List ℕ → Type 0
-Opened lines all framing rest = (first : Framing) × (mid : List ℕ) × AnswerRead all mid (Ok (200, first)) × Lines first lines mid framing rest
+Opened lines all framing rest = (first : Framing) × (mid : List ℕ) × IsGood all first mid × Lines first lines mid framing rest
 
 -- the same where the bytes are told
 abbrev pub Reads : (List ℕ → Framing → List ℕ → Type 0) → Option (List ℕ) → Framing → Option (List ℕ) → Type 0
@@ -70,7 +77,7 @@ AllGo messages = Every (λ m. is_cancel m.item ≡ false) messages
 pub data Cause : Type 0 where
   Unready : Cause
   Unanswered : WireFault → Cause
-  Refused : ℕ → Framing → Cause
+  Refused : AnswerHead → Cause
   Broken : WireFault → Cause
   Ended : Cause
   Over : Cause
@@ -87,7 +94,7 @@ OpenedMore messages line all = (framing : Framing) × (rest : List ℕ) × Opene
 abbrev pub Stands : Cause → List Message → List ℕ → Type 0
 Stands Unready messages all = messages ≡ []
 Stands (Unanswered fault) messages all = (messages ≡ []) × ((rest : List ℕ) × AnswerRead all rest (Err fault))
-Stands (Refused status framing) messages all = (messages ≡ []) × (status ≡ 200 → ⊥) × ((rest : List ℕ) × AnswerRead all rest (Ok (status, framing)))
+Stands (Refused head) messages all = (messages ≡ []) × (head.status ≡ 200 → ⊥) × ((rest : List ℕ) × AnswerRead all rest (Ok head))
 Stands (Broken fault) messages all =
     (old : Framing) × (new : Framing) × (mid : List ℕ) × (rest : List ℕ) × Opened (lines_of messages) all old mid × NextLine LINE_LIMIT old new mid rest (Err fault)
 Stands Ended messages all =
@@ -107,7 +114,7 @@ end_by _ = how.Cut
 abbrev pub wanted : Cause → Option StreamEnd
 wanted Unready = Some how.NoMemory
 wanted (Unanswered fault) = Some (end_by fault)
-wanted (Refused status framing) = Some how.Cut
+wanted (Refused head) = Some how.Cut
 wanted (Broken fault) = Some (end_by fault)
 wanted Ended = Some how.Cut
 wanted Over = Some how.Cut
@@ -116,6 +123,11 @@ wanted (NoMessage line) = Some how.Cut
 wanted (Unfed m step.NoMemory) = Some how.NoMemory
 wanted (Unfed m fault) = None
 wanted (Late m) = None
+
+-- how far its answer was read by then: a line of it passes the limit, or it broke off in another way
+abbrev pub read_to : Cause → AnswerEnd
+read_to (Broken wire.BodyTooLong) = answer.TooLong
+read_to _ = answer.Broken
 
 -- a read of the source failed
 abbrev pub HasRisen : Cause → ℕ → ℕ → Type 0
@@ -144,28 +156,31 @@ abbrev pub failed : ℕ → Cause → List Step
 failed stream (Unfed m fault) = entry_of (Item stream m.item) m.now (Err fault) ∷ []
 failed stream _ = []
 
--- the stream is cut, unless the hub makes no more steps, which then is the end
-pub data Cuts (stream : ℕ) : StreamEnd → StreamEnd → List Step → Type 0 where
-  cut : (end : StreamEnd) (now : ℕ) (answer : Result Outcome StepFault) → Cuts stream end end (entry_of (Cut stream) now answer ∷ [])
-  worn : (end : StreamEnd) → Cuts stream end how.Worn []
+-- the stream is cut, unless the machine is worn, which then is the end
+pub data Cuts (worn : Type 0) (stream : ℕ) : StreamEnd → StreamEnd → List Step → Type 0 where
+  cut : (end : StreamEnd) (now : ℕ) (given : Result Outcome StepFault) → Cuts worn stream end end (entry_of (Cut stream) now given ∷ [])
+  late : (end : StreamEnd) → worn → Cuts worn stream end how.Worn []
 
 -- the last steps by this cause, and the end: the stream is cut; or it was cut before, or no further step can be made
-pub data Ends (stream : ℕ) : Cause → StreamEnd → List Step → Type 0 where
-  cutting : (cause : Cause) (first end : StreamEnd) (steps : List Step) → wanted cause ≡ Some first → Cuts stream first end steps → Ends stream cause end (failed stream cause ++ steps)
-  gone : (m : Message) → Ends stream (Unfed m (step.NoSuchStream stream)) how.Gone (entry_of (Item stream m.item) m.now (Err (step.NoSuchStream stream)) ∷ [])
-  worn : (m : Message) → Ends stream (Unfed m step.Worn) how.Worn (entry_of (Item stream m.item) m.now (Err step.Worn) ∷ [])
-  late : (m : Message) → Ends stream (Late m) how.Worn []
+pub data Ends (worn : Type 0) (stream : ℕ) : Cause → StreamEnd → List Step → Type 0 where
+  cutting : (cause : Cause) (first end : StreamEnd) (steps : List Step) → wanted cause ≡ Some first → Cuts worn stream first end steps
+      → Ends worn stream cause end (failed stream cause ++ steps)
+  gone : (m : Message)
+      → Ends worn stream (Unfed m (step.NoSuchStream stream)) how.Gone (entry_of (Item stream m.item) m.now (Err (step.NoSuchStream stream)) ∷ [])
+  spent : (m : Message) → Ends worn stream (Unfed m step.Worn) how.Worn (entry_of (Item stream m.item) m.now (Err step.Worn) ∷ [])
+  late : (m : Message) → worn → Ends worn stream (Late m) how.Worn []
 
--- A whole stream. `left` are the bytes that its source had to give, and `earlier` and `later` are its counts.
-pub record Following (stream : ℕ) (left : Option (List ℕ)) (earlier later : ℕ) (made made' : Option (List Step)) (end : StreamEnd) : Type 0 where
+-- A whole stream. `had` are the bytes that its answer had to give, `earlier` and `later` are the answer's counts of failed reads.
+pub record Following (worn : Type 0) (stream : ℕ) (had : Option (List ℕ)) (earlier later : ℕ) (made made' : Option (List Step)) (read_so : AnswerEnd) (end : StreamEnd) : Type 0 where
   pub messages : List Message
   pub read : AreRead messages
   pub cause : Cause
   pub goes : Goes cause messages
-  pub stands : IfSome left (Stands cause messages)
+  pub stands : IfSome had (Stands cause messages)
   pub risen : HasRisen cause earlier later
+  pub ended : read_so ≡ read_to cause
   pub tail : List Step
-  pub ends : Ends stream cause end tail
+  pub ends : Ends worn stream cause end tail
   pub adds : Adds made made' (steps_of stream messages ++ tail)
 
 -- the messages that were fed so far, where the watch goes on

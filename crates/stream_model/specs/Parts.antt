@@ -1,14 +1,19 @@
 -- What the parts of following a stream do.
-use Rattle.std.specs.Prelude.{◌≡◌, ℕ, Bool, true, false, List, [], ◌∷◌, Option, None, Some, IfSome, Result, Ok, Err}
+use Rattle.std.specs.Prelude.{◌≡◌, ℕ, ◌≤◌, Bool, true, false, List, [], ◌∷◌, Option, None, Some, IfSome, Result, Ok, Err}
 use Rattle.etcd_types.specs.declared.watch.WatchItem.{WatchItem}
+use Rattle.outside.specs.Calls.{Adds as Tells, LinkCall, Begun, Ended}
+use Rattle.outside.specs.declared.link.AnswerEnd.{AnswerEnd}
+use Rattle.outside.specs.declared.link.AnswerEnd.TheVariants as answer
+use Rattle.outside.specs.declared.link.CallKind.TheVariants.{Watches}
 use Rattle.outside.specs.declared.link.LinkFault.{LinkFault}
 use Rattle.outside.specs.declared.link.LinkFault.TheVariants as link
+use Rattle.outside.specs.declared.parts.Follow.{Follow}
 use Rattle.outside.specs.Faults.{Rose}
 use Rattle.json_model.specs.declared.fault.NotReply.TheVariants.{Unreadable}
 use Rattle.json_model.specs.WatchItems.{item_of}
+use Rattle.http_wire.specs.declared.fault.WireFault.{WireFault}
 use Rattle.http_wire.specs.declared.limits.TheConstants.{LINE_LIMIT}
 use Rattle.http_wire.specs.declared.message.Framing.{Framing}
-use Rattle.http_wire.specs.Heads.{AnswerRead}
 use Rattle.http_wire.specs.Held.{ReadsAhead}
 use Rattle.http_wire.specs.Steps.{NextLine}
 use Rattle.turn_hub.specs.History.{entry_of}
@@ -20,14 +25,27 @@ use Rattle.serve_model.specs.declared.fault.TurnFault.TheVariants as turn
 use Rattle.serve_model.specs.Steps.{Step, Adds}
 use Rattle.stream_model.specs.declared.ends.StreamEnd.{StreamEnd}
 use Rattle.stream_model.specs.declared.ends.StreamEnd.TheVariants as how
-use Rattle.stream_model.specs.Following.{Cause, Stands, HasRisen, IsQuiet, wanted, Cuts, Following}
+use Rattle.stream_model.specs.declared.ends.Stop.{Stop}
+use Rattle.stream_model.specs.Following.{Cause, IsGood, Reads, Stands, HasRisen, IsQuiet, wanted, end_by, read_to, Cuts, Following}
 use Rattle.stream_model.specs.Following.Cause.{Broken, Ended, Unread, NoMessage}
 
--- an answer of status 200 was opened, or the stream is to be cut
-abbrev pub Opens : Option (List ℕ) → Option (List ℕ) → ℕ → ℕ → Result Framing StreamEnd → Type 0
-Opens left rest earlier later (Ok framing) = ReadsAhead AnswerRead left rest (Ok (200, framing))
-Opens left rest earlier later (Err end) =
-    (cause : Cause) × IsQuiet cause × (wanted cause ≡ Some end) × IfSome left (Stands cause []) × HasRisen cause earlier later
+-- a stream ends so, and its answer isn't read on
+abbrev pub cut_at : StreamEnd → Stop
+cut_at end = record { end = end; read = answer.Broken }
+
+-- how a stream stops whose body is broken by this fault
+abbrev pub stop_by : WireFault → Stop
+stop_by fault = record { end = end_by fault; read = read_to (Broken fault) }
+
+-- a cause by which the stream stops so, which comes of no message
+abbrev pub Stops : Cause → Stop → ℕ → ℕ → Type 0
+Stops cause stop earlier later =
+    IsQuiet cause × (wanted cause ≡ Some stop.end) × (stop.read ≡ read_to cause) × HasRisen cause earlier later
+
+-- an answer of status 200 was opened, whose body goes on so, or the stream is to be cut
+abbrev pub Opens : Option (List ℕ) → Option (List ℕ) → ℕ → ℕ → Result Framing Stop → Type 0
+Opens had rest earlier later (Ok framing) = Reads IsGood had framing rest
+Opens had rest earlier later (Err stop) = (cause : Cause) × Stops cause stop earlier later × IfSome had (Stands cause [])
 
 -- why no message comes, by the bytes of the body that are still ahead
 abbrev pub StandsNext : Cause → Framing → List ℕ → Type 0
@@ -39,11 +57,11 @@ StandsNext (NoMessage line) old all =
 StandsNext _ old all = ⊥
 
 -- the next message, or why none comes
-abbrev pub Nexts : Framing → Framing → Option (List ℕ) → Option (List ℕ) → ℕ → ℕ → Result WatchItem StreamEnd → Type 0
-Nexts old new left rest earlier later (Ok item) =
-    (line : List ℕ) × ReadsAhead (NextLine LINE_LIMIT old new) left rest (Ok (Some line)) × (item_of line ≡ Ok item)
-Nexts old new left rest earlier later (Err end) =
-    (cause : Cause) × IsQuiet cause × (wanted cause ≡ Some end) × IfSome left (StandsNext cause old) × HasRisen cause earlier later
+abbrev pub Nexts : Framing → Framing → Option (List ℕ) → Option (List ℕ) → ℕ → ℕ → Result WatchItem Stop → Type 0
+Nexts old new had rest earlier later (Ok item) =
+    (line : List ℕ) × ReadsAhead (NextLine LINE_LIMIT old new) had rest (Ok (Some line)) × (item_of line ≡ Ok item)
+Nexts old new had rest earlier later (Err stop) =
+    (cause : Cause) × Stops cause stop earlier later × IfSome had (StandsNext cause old)
 
 -- memory was wanting for the step
 abbrev pub is_for_memory : TurnFault → Bool
@@ -56,23 +74,44 @@ end_of (turn.Core (step.NoSuchStream stream)) = how.Gone
 end_of _ = how.Worn
 
 -- a message couldn't be fed
-pub data Refuses (stream : ℕ) (item : WatchItem) : StreamEnd → List Step → Type 0 where
-  cutting : (now : ℕ) (end : StreamEnd) (steps : List Step) → Cuts stream how.NoMemory end steps → Refuses stream item end (entry_of (Item stream item) now (Err step.NoMemory) ∷ steps)
-  gone : (now : ℕ) → Refuses stream item how.Gone (entry_of (Item stream item) now (Err (step.NoSuchStream stream)) ∷ [])
-  worn : (now : ℕ) → Refuses stream item how.Worn (entry_of (Item stream item) now (Err step.Worn) ∷ [])
-  late : Refuses stream item how.Worn []
+pub data Refuses (worn : Type 0) (stream : ℕ) (item : WatchItem) : StreamEnd → List Step → Type 0 where
+  cutting : (now : ℕ) (end : StreamEnd) (steps : List Step) → Cuts worn stream how.NoMemory end steps
+      → Refuses worn stream item end (entry_of (Item stream item) now (Err step.NoMemory) ∷ steps)
+  gone : (now : ℕ) → Refuses worn stream item how.Gone (entry_of (Item stream item) now (Err (step.NoSuchStream stream)) ∷ [])
+  spent : (now : ℕ) → Refuses worn stream item how.Worn (entry_of (Item stream item) now (Err step.Worn) ∷ [])
+  late : worn → Refuses worn stream item how.Worn []
 
--- a message was fed
-abbrev pub Feeds : ℕ → WatchItem → Option (List Step) → Option (List Step) → Option StreamEnd → Type 0
-Feeds stream item made made' None = (now : ℕ) × Adds made made' (entry_of (Item stream item) now (Ok Noted) ∷ [])
-Feeds stream item made made' (Some end) = (steps : List Step) × Refuses stream item end steps × Adds made made' steps
+-- a message was fed, and the core took it
+abbrev pub IsTaken : ℕ → WatchItem → Option (List Step) → Option (List Step) → Type 0
+IsTaken stream item made made' = (now : ℕ) × Adds made made' (entry_of (Item stream item) now (Ok Noted) ∷ [])
+
+-- a message was fed. Where an end is named the stream goes on no more
+abbrev pub Feeds : Type 0 → ℕ → WatchItem → Option (List Step) → Option (List Step) → Option StreamEnd → Type 0
+Feeds worn stream item made made' None = IsTaken stream item made made'
+Feeds worn stream item made made' (Some end) = (steps : List Step) × Refuses worn stream item end steps × Adds made made' steps
 
 -- the stream was cut
-abbrev pub IsCut : ℕ → StreamEnd → StreamEnd → Option (List Step) → Option (List Step) → Type 0
-IsCut stream first end made made' = (steps : List Step) × Cuts stream first end steps × Adds made made' steps
+abbrev pub IsCut : Type 0 → ℕ → StreamEnd → StreamEnd → Option (List Step) → Option (List Step) → Type 0
+IsCut worn stream first end made made' = (steps : List Step) × Cuts worn stream first end steps × Adds made made' steps
 
--- A stream that a link was asked to begin, by what came of it: it was followed, or the stream was cut at once.
-abbrev pub Follows : ℕ → Result (Option (List ℕ)) LinkFault → ℕ → ℕ → Option (List Step) → Option (List Step) → StreamEnd → Type 0
-Follows stream (Ok left) earlier later made made' end = (first : ℕ) × (last : ℕ) × Following stream left first last made made' end
-Follows stream (Err link.Failed) earlier later made made' end = IsCut stream how.Cut end made made' × Rose earlier later
-Follows stream (Err link.NoMemory) earlier later made made' end = IsCut stream how.NoMemory end made made'
+-- a stream was begun on a link, once, and this came of it
+abbrev pub begun : Follow → Result (Option (List ℕ)) LinkFault → LinkCall
+begun follow came = Begun follow.member (Watches follow.stream) follow.call came
+
+-- A stream that is to be followed, by what was done on the link: its answer was followed and given back, or it couldn't be begun, and the
+-- stream was cut at once. The answer's failed reads are counted from none on.
+pub data Follows (worn : Type 0) (follow : Follow) (earlier later : ℕ) (made made' : Option (List Step)) : List LinkCall → StreamEnd → Type 0 where
+  followed : (had left : Option (List ℕ)) (count : ℕ) (how : AnswerEnd) (end : StreamEnd)
+      → Following worn follow.stream had 0 count made made' how end
+      → Follows worn follow earlier later made made' (begun follow (Ok had) ∷ Ended left count how ∷ []) end
+  failed : (end : StreamEnd) → Rose earlier later → IsCut worn follow.stream how.Cut end made made'
+      → Follows worn follow earlier later made made' (begun follow (Err link.Failed) ∷ []) end
+  unbegun : (end : StreamEnd) → IsCut worn follow.stream how.NoMemory end made made'
+      → Follows worn follow earlier later made made' (begun follow (Err link.NoMemory) ∷ []) end
+
+-- a stream was followed, with these calls on the link between two moments
+pub record IsFollowed (worn : Type 0) (follow : Follow) (called called' : Option (List LinkCall)) (faults faults' : ℕ) (made made' : Option (List Step)) (end : StreamEnd) : Type 0 where
+  pub calls : List LinkCall
+  pub told : Tells called called' calls
+  pub kept : faults ≤ faults'
+  pub follows : Follows worn follow faults faults' made made' calls end

@@ -1,3 +1,4 @@
+use outside::AnswerEnd;
 use thiserror::Error;
 
 /// How following a stream ended.
@@ -15,4 +16,11 @@ pub enum StreamEnd {
     /// Memory was wanting.
     #[error("no memory")]
     NoMemory,
+}
+
+/// How following a stream ends, and how far its answer was read by then.
+#[derive(Clone, Copy, Debug, PartialEq, Eq)]
+pub struct Stop {
+    pub end: StreamEnd,
+    pub read: AnswerEnd,
 }

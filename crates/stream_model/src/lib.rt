@@ -4,4 +4,4 @@
 
 mod ends;
 
-pub use ends::StreamEnd;
+pub use ends::{Stop, StreamEnd};

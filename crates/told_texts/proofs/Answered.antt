@@ -278,7 +278,7 @@ effect_holds heard k w after gained l u (starts p clock life i b) s n c h = reco
   world = with_place_holds (k + 128) w p (new_place w clock life) (holding.starts_hold (k + 128) (settings w)) (same_places k (k + 128) w w (more k) refl h);
   answered = (begins_answered w p clock life i b, tt);
 }
-effect_holds heard k w after gained l u (sets p millis x e) s n c h = record {
+effect_holds heard k w after gained l u (sets p millis x e forward) s n c h = record {
   world = with_place_holds (k + 128) w p (record x { clock = millis }) (core_weaker k (k + 128) x.core (more k) (place_holds k w p x e h)) (same_places k (k + 128) w w (more k) refl h);
   answered = (tt, tt);
 }
@@ -286,8 +286,8 @@ effect_holds heard k w after gained l u (refuses_post p t path body a x e) s n c
   world = with_place_holds (k + 128) w p (with_posted t x) (core_weaker k (k + 128) x.core (more k) (place_holds k w p x e h)) (same_places k (k + 128) w w (more k) refl h);
   answered = (tt, reply_answered p (with_posted t x).posted (t, a) n.0 n.1);
 }
-effect_holds heard k w after gained l u (executes m call e) s n c h = record { world = same_places k (k + 128) w after (more k) refl h; answered = (tt, tt) }
-effect_holds heard k w after gained l u (expires lease t e) s n c h = record { world = same_places k (k + 128) w after (more k) refl h; answered = (tt, tt) }
+effect_holds heard k w after gained l u (executes m call e fresh) s n c h = record { world = same_places k (k + 128) w after (more k) refl h; answered = (tt, tt) }
+effect_holds heard k w after gained l u (expires lease t e due) s n c h = record { world = same_places k (k + 128) w after (more k) refl h; answered = (tt, tt) }
 effect_holds heard k w after gained l u (applies member revision t e) s n c h = record { world = same_places k (k + 128) w after (more k) refl h; answered = (tt, tt) }
 effect_holds heard k w after gained l u (pushes m z t i e a b f) s n c h = record { world = same_places k (k + 128) w after (more k) refl h; answered = (tt, tt) }
 effect_holds heard k w after gained l u (turns p x e o v y own told at is t) s n c h =

@@ -174,10 +174,10 @@ turn_asks w v p x y l e o own rest told (leaves t z) g n = (tt, tt)
 
 other_asks : (w after : World) (l : Line) (items : List Item) → Effect w after items → GainsItsOwn l items → Other l → Each AskedHasText items
 other_asks w after l items (starts p clock life i b) g n = (begins_asks w p clock life i b, tt)
-other_asks w after l items (sets p millis x e) g n = (tt, tt)
+other_asks w after l items (sets p millis x e forward) g n = (tt, tt)
 other_asks w after l items (refuses_post p t path body a x e) g n = (tt, reply_asks p _ (t, a))
-other_asks w after l items (executes m call e) g n = (tt, tt)
-other_asks w after l items (expires lease t e) g n = (tt, tt)
+other_asks w after l items (executes m call e fresh) g n = (tt, tt)
+other_asks w after l items (expires lease t e due) g n = (tt, tt)
 other_asks w after l items (applies member revision t e) g n = (tt, tt)
 other_asks w after l items (pushes m s t i e a b f) g n = (tt, tt)
 other_asks w after l items (turns p x e o v y own told at is t) g n =

@@ -165,12 +165,12 @@ record LineGiven (k : ℕ) (after : World) (gained : List Item) : Type 0 where
 
 effect_given : (k : ℕ) (w after : World) (gained : List Item) → Effect w after gained → WorldGiven k w → LineGiven (k + 1) after gained
 effect_given k w after gained (starts p clock life i b) h = record { world = with_place_given (k + 1) w p (new_place w clock life) tt (wider k w h); given = (begins_given (k + 1) w p clock life i b, tt) }
-effect_given k w after gained (sets p millis x e) h =
+effect_given k w after gained (sets p millis x e forward) h =
     record { world = with_place_given (k + 1) w p (record x { clock = millis }) (place_given (k + 1) w p x e (wider k w h)) (wider k w h); given = (tt, tt) }
 effect_given k w after gained (refuses_post p t path body a x e) h =
     record { world = with_place_given (k + 1) w p (with_posted t x) (place_given (k + 1) w p x e (wider k w h)) (wider k w h); given = (tt, reply_given (k + 1) p (with_posted t x).posted (t, a)) }
-effect_given k w after gained (executes n call e) h = let v = wider k w h in record { world = record { places = v.places; few = v.few }; given = (tt, tt) }
-effect_given k w after gained (expires lease t e) h = let v = wider k w h in record { world = record { places = v.places; few = v.few }; given = (tt, tt) }
+effect_given k w after gained (executes n call e fresh) h = let v = wider k w h in record { world = record { places = v.places; few = v.few }; given = (tt, tt) }
+effect_given k w after gained (expires lease t e due) h = let v = wider k w h in record { world = record { places = v.places; few = v.few }; given = (tt, tt) }
 effect_given k w after gained (applies member revision t e) h = let v = wider k w h in record { world = record { places = v.places; few = v.few }; given = (tt, tt) }
 effect_given k w after gained (pushes n s t i e a b f) h =
     let few = h.few in

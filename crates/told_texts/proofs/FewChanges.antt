@@ -108,10 +108,10 @@ turn_grew w v p x y e o own told (leaves t z) = kept w.store w.store refl
 
 effect_grew : (most : ℕ) (w after : World) (items : List Item) → puts w.store.history + 384 ≤ 2 ^ 30 → WorldSpeaks most w → Effect w after items → GrewBy 384 w.store after.store
 effect_grew most w after items room h (starts p clock life i b) = kept w.store w.store refl
-effect_grew most w after items room h (sets p millis x e) = kept w.store w.store refl
+effect_grew most w after items room h (sets p millis x e forward) = kept w.store w.store refl
 effect_grew most w after items room h (refuses_post p t path body a x e) = kept w.store w.store refl
-effect_grew most w after items room h (executes n call e) = steps_grow_little 384 w.store call.member call.request (light call.request (nth_found (CallSpeaks most) w.calls n call e h.calls).narrow) room
-effect_grew most w after items room h (expires lease t e) = expired_grew w.store t lease (omega (arith, room)) e
+effect_grew most w after items room h (executes n call e fresh) = steps_grow_little 384 w.store call.member call.request (light call.request (nth_found (CallSpeaks most) w.calls n call e h.calls).narrow) room
+effect_grew most w after items room h (expires lease t e due) = expired_grew w.store t lease (omega (arith, room)) e
 effect_grew most w after items room h (applies member revision t e) = applied_grew w.store t member revision e
 effect_grew most w after items room h (pushes n s t i e a b f) = pushed_grew w.store t i n f
 effect_grew most w after items room h (turns p x e o v y own told at is t) = turn_grew w v p (with_core x (stepped x.core e x.clock).core) y e o own told t

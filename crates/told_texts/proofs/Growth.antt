@@ -153,10 +153,10 @@ turn_grows w v p x y e o own told (leaves t z) = still w.store w.store refl refl
 
 effect_grows : (w after : World) (items : List Item) → Effect w after items → Grown w.store after.store
 effect_grows w after items (starts p clock life i b) = still w.store w.store refl refl
-effect_grows w after items (sets p millis x e) = still w.store w.store refl refl
+effect_grows w after items (sets p millis x e forward) = still w.store w.store refl refl
 effect_grows w after items (refuses_post p t path body a x e) = still w.store w.store refl refl
-effect_grows w after items (executes n call e) = exec_grows w.store call.member call.request
-effect_grows w after items (expires lease t e) = expired_grows w.store t lease e
+effect_grows w after items (executes n call e fresh) = exec_grows w.store call.member call.request
+effect_grows w after items (expires lease t e due) = expired_grows w.store t lease e
 effect_grows w after items (applies member revision t e) = applied_grows w.store t member revision e
 effect_grows w after items (pushes n s t i e a b f) = pushed_grows w.store t i n f
 effect_grows w after items (turns p x e o v y own told at is t) = turn_grows w v p (with_core x (stepped x.core e x.clock).core) y e o own told t

@@ -244,9 +244,9 @@ record LineSpeaks (most : ℕ) (after : World) (gained : List Item) : Type 0 whe
 effect_speaks : (most : ℕ) (w after : World) (gained : List Item) → most + 1 ≤ max_number → Effect w after gained → Each AskedHasText gained → HasRoom most w.store → HasRoom most after.store → WorldSpeaks most w → LineSpeaks most after gained
 effect_speaks most w after gained l (starts p clock life i b) s r q h =
     record { world = with_place_speaks most w p (new_place w clock life) (proxies.starts_fit (settings w) h.settings) h; made = (begins_made w p clock life i b, tt) }
-effect_speaks most w after gained l (sets p millis x e) s r q h = record { world = with_place_speaks most w p (record x { clock = millis }) (place_found most w p x e h) h; made = (tt, tt) }
+effect_speaks most w after gained l (sets p millis x e forward) s r q h = record { world = with_place_speaks most w p (record x { clock = millis }) (place_found most w p x e h) h; made = (tt, tt) }
 effect_speaks most w after gained l (refuses_post p t path body a x e) s r q h = record { world = with_place_speaks most w p (with_posted t x) (place_found most w p x e h) h; made = (tt, reply_made p _ (t, a)) }
-effect_speaks most w after gained l (executes n call e) s r q h =
+effect_speaks most w after gained l (executes n call e fresh) s r q h =
     let c = nth_found (CallSpeaks most) w.calls n call e h.calls in
     let k = answers_fit most w.store call.member call.request (omega (arith, l)) c.member c.request h.store r q in
     record {
@@ -259,7 +259,7 @@ effect_speaks most w after gained l (executes n call e) s r q h =
       };
       made = (answer_fits most (omega (arith, l)) (exec w.store call.member call.request).1 k.1, tt);
     }
-effect_speaks most w after gained l (expires lease t e) s r q h =
+effect_speaks most w after gained l (expires lease t e due) s r q h =
     record { world = record { settings = h.settings; places = h.places; calls = h.calls; streams = h.streams; store = expiries_fit most w.store t lease (omega (arith, l)) e h.store r }; made = (tt, tt) }
 effect_speaks most w after gained l (applies member revision t e) s r q h =
     record { world = record { settings = h.settings; places = h.places; calls = h.calls; streams = h.streams; store = applies_fit most w.store t member revision e h.store r }; made = (tt, tt) }

@@ -8,11 +8,12 @@ use Rattle.turn_hub.specs.declared.history.Entry.{Entry}
 use Rattle.turn_hub.specs.declared.view.View.{View}
 use Rattle.turn_hub.specs.declared.view.Note.{Note}
 use Rattle.turn_hub.specs.declared.view.Opening.{Opening}
+use Rattle.turn_hub.specs.declared.view.Turn.{Turn}
 use Rattle.turn_hub.specs.History.{Begins, Runs, Stands, times, entries_at, entry_of}
-use Rattle.turn_hub.specs.Views.{taken, added, given, noted_entry, longer}
+use Rattle.turn_hub.specs.Views.{Names, taken, added, given, noted_entry, longer}
 use Rattle.turn_hub.specs.Kinds.{Looked, Added}
 use Rattle.turn_hub.specs.Passes.{known_of}
-use Rattle.turn_hub.specs.Steps.{Makes, Stops}
+use Rattle.turn_hub.specs.Steps.{Makes, Stops, Sees}
 use Rattle.turn_hub.proofs.Lists.{longer-length, times-append}
 
 none-front : (k x : ℕ) (ks : List ℕ) (b : Bool) → cond b (1 + times x ks) (times x ks) ≡ 0 → (b ≡ false) × (times x ks ≡ 0)
@@ -100,26 +101,44 @@ module _ {M E O F : Type 0} (steps : M → E → ℕ → Result O F → M → Ty
         allowed = (n.machine.value, subst R (sym ((λ i. (gave i).seen) ∙ (λ i. (add i).seen))) made.runs);
       }
 
-  -- the turn was taken, the count read and found at the limit, and the turn given back
-  pub stops_step : (v w₁ w₂ w₃ : View M E O F) (m : M) (found : ℕ)
-      → ((k : ℕ) → length v.seen ≤ k → times k v.own ≡ 0) → w₁ ≡ taken v m → Looked steps opened.machine.value w₁ found w₂ → w₂.base ≡ opened.base → w₃ ≡ given w₂ → 2 ^ 62 ≤ found
-      → Stops steps (known_of table opened v) (known_of table opened w₃)
-  stops_step v w₁ w₂ w₃ m found within took told based gave most =
+  -- the turn was taken, the count read, and the turn given back
+  pub sees_step : (v w₁ w₂ w₃ : View M E O F) (m : M) (found : ℕ)
+      → ((k : ℕ) → length v.seen ≤ k → times k v.own ≡ 0) → w₁ ≡ taken v m → Looked steps opened.machine.value w₁ found w₂ → w₂.base ≡ opened.base → w₃ ≡ given w₂
+      → Sees steps (known_of table opened v) (known_of table opened w₃) m
+  sees_step v w₁ w₂ w₃ m found within took told based gave =
       let log = told.log in
       let seen : w₃.seen ≡ log = (λ i. (gave i).seen) ∙ (λ i. (told.after i).seen) in
-      let own : w₃.own ≡ v.own = (λ i. (gave i).own) ∙ (λ i. (told.after i).own) ∙ (λ i. (took i).own) in
+      let kept : w₃.own ≡ w₁.own = (λ i. (gave i).own) ∙ (λ i. (told.after i).own) in
+      let own : w₃.own ≡ v.own = kept ∙ (λ i. (took i).own) in
       let B : List (Entry E O F) → Type 0 = λ l. Begins l log in
       let begins : Begins v.seen log = subst B (λ i. (took i).seen) told.begins in
       let P : List (Entry E O F) → Type 0 = λ l. Begins v.seen l in
-      let R : List (Entry E O F) → Type 0 = λ l. Runs steps opened.machine.value l told.machine in
-      let count = told.count in
-      let room = told.stands.room in
-      let base : w₂.base ≡ w₁.base = λ i. (told.after i).base in
-      let long : length w₃.seen ≡ length log = λ i. length (seen i) in
+      let R : List (Entry E O F) → Type 0 = λ l. Runs steps opened.machine.value l m in
+      let N : Turn M → Type 0 = λ t. Names t told.machine in
+      let same : m ≡ told.machine = subst N (λ i. (took i).turn) told.named in
+      let S : M → Type 0 = λ x. Runs steps opened.machine.value log x in
       record {
         seen = subst P (sym seen) begins;
         own = own;
         made = (λ i. entries_at (seen i) (own i)) ∙ (λ i. entries_at (begins.1 i) v.own) ∙ entries-more v.seen begins.0 v.own within;
+        stands = stands-at w₃.seen log w₃.own w₁.own opened.base w₁.base seen kept (sym based ∙ (λ i. (told.after i).base)) told.stands;
+        runs = subst R (sym seen) (subst S (sym same) told.runs);
+      }
+
+  -- the same, where the count was found at the limit
+  pub stops_step : (v w₁ w₂ w₃ : View M E O F) (m : M) (found : ℕ)
+      → ((k : ℕ) → length v.seen ≤ k → times k v.own ≡ 0) → w₁ ≡ taken v m → Looked steps opened.machine.value w₁ found w₂ → w₂.base ≡ opened.base → w₃ ≡ given w₂ → 2 ^ 62 ≤ found
+      → Stops steps (known_of table opened v) (known_of table opened w₃)
+  stops_step v w₁ w₂ w₃ m found within took told based gave most =
+      let sees = sees_step v w₁ w₂ w₃ m found within took told based gave in
+      let count = told.count in
+      let room = told.stands.room in
+      let base : w₂.base ≡ w₁.base = λ i. (told.after i).base in
+      let long : length w₃.seen ≡ length told.log = λ i. length (((λ j. (gave j).seen) ∙ (λ j. (told.after j).seen)) i) in
+      record {
+        seen = sees.seen;
+        own = sees.own;
+        made = sees.made;
         full = omega arith;
-        allowed = (told.machine, subst R (sym seen) told.runs);
+        allowed = (m, sees.runs);
       }

@@ -39,6 +39,14 @@ module _ {M E O F : Type 0} (steps : M → E → ℕ → Result O F → M → Ty
     pub full : length after.seen + base_of after.hub ≡ 2 ^ 62
     pub allowed : IsAllowed after
 
+  -- the whole history was seen, which has left the machine so, and the pass made no entry
+  pub record Sees (before after : Known (Opening M) (Entry E O F)) (machine : M) : Type 0 where
+    pub seen : Begins before.seen after.seen
+    pub own : after.own ≡ before.own
+    pub made : made after ≡ made before
+    pub stands : StandsAt after
+    pub runs : Runs steps (opening_of after.hub) after.seen machine
+
   abbrev pub Fails : Known (Opening M) (Entry E O F) → Known (Opening M) (Entry E O F) → E → ℕ → HubFault F → Type 0
   Fails before after event now Worn = Stops before after
   Fails before after event now (Machine fault) = Makes before after event now (Err fault)

@@ -1,14 +1,15 @@
 ghost use Rattle.std.specs.Prelude.{◌≡◌, ℕ, ◌+◌, ◌≤◌, ◌^◌, ◌++◌, [], Ok, IfOk, IfErr, length};
+ghost use Rattle.std.specs.Fn.{FnOnceReturnsAt};
 ghost use Rattle.turn_hub.specs.History.{Begins};
 ghost use Rattle.turn_hub.specs.Views.{longer};
 ghost use Rattle.turn_hub.specs.Known.{opening_of, base_of, made};
-ghost use Rattle.turn_hub.specs.Steps.{Makes, Fails, IsWorn, IsAllowed, StandsAt, Closes};
+ghost use Rattle.turn_hub.specs.Steps.{Makes, Fails, Sees, IsWorn, IsAllowed, StandsAt, Closes};
 
 use crate::fault::HubFault;
 use crate::meet::{join_as, meet_as};
 use crate::pass::{Pass, PassOf};
 use crate::rule::Turns;
-use crate::step::{last_as, step_as};
+use crate::step::{last_as, look_as, step_as};
 use crate::turn::split_seat;
 use crate::view::{Knows, Opening, Slot, Stowed};
 use crate::waiting::{Rest, Waiting};
@@ -116,6 +117,19 @@ impl<M: Machine> Hub<M> {
             event,
             clock,
         )
+    }
+
+    /// Lets the machine be looked at as the whole history has left it, which the pass sees then, and gives what `view` makes of
+    /// it. The hub makes no step, the pass no entry, and the machine stays as it is.
+    ///
+    /// It has the turn while it looks, for which it may wait and others wait: `view` should copy out what it needs, and no more.
+    pub fn look<R: Wait, T, F: FnOnce(&M) -> T>(&self, rt: &R, pass: &mut Pass<M>, view: F) -> T
+        requires pass { pass.old.hub ≡ self.now }
+        requires view { F.IsAlwaysCallable view }
+        ensures pass { pass.new.hub ≡ pass.old.hub }
+        ensures looked { (machine : M) × Sees M.steps pass.old pass.new machine × FnOnceReturnsAt F.FnOnce view machine result }
+    {
+        look_as(rt, &self.table.shared, &self.waiting, &mut pass.seat, view)
     }
 
     /// A new pass that has seen what this one had, and has no entries. It rests in the same lot.

@@ -1,9 +1,10 @@
 // A step of the machine, and the end of a hub, as a seat makes them.
 ghost use Rattle.std.specs.Prelude.{◌≡◌, ◌+◌, ◌≤◌, ◌^◌, Ok, IfOk, IfErr, length};
+ghost use Rattle.std.specs.Fn.{FnOnceReturnsAt};
 ghost use Rattle.turn_hub.specs.History.{Begins, Runs};
 ghost use Rattle.turn_hub.specs.Seats.{IsSeatOf};
 ghost use Rattle.turn_hub.specs.Passes.{AtRest, known_of};
-ghost use Rattle.turn_hub.specs.Steps.{Makes, Fails, IsWorn};
+ghost use Rattle.turn_hub.specs.Steps.{Makes, Fails, Sees, IsWorn};
 
 use crate::fault::HubFault;
 use crate::turn::{Board, Place, give_back, look, raise, take_turn};
@@ -58,6 +59,28 @@ pub(crate) fn step_as<R: Wait, M: Machine, C: Clock>(
         Ok(outcome) => Ok(outcome),
         Err(fault) => Err(HubFault::Machine(fault)),
     }
+}
+
+// Lets the machine be looked at with the turn, as the whole history has left it.
+pub(crate) fn look_as<R: Wait, M: Machine, T, F: FnOnce(&M) -> T>(
+    rt: &R,
+    board: &Board<M>,
+    waiting: &Waiting,
+    seat: &mut Place<M>,
+    view: F,
+) -> T
+    requires sits { IsSeatOf board.now seat.old }
+    requires rests { AtRest board.now.key seat.old.me }
+    requires view { F.IsAlwaysCallable view }
+    ensures place { seat.new.table_id ≡ seat.old.table_id }
+    ensures rests { AtRest board.now.key seat.new.me }
+    ensures looked { (machine : M) × Sees M.steps (known_of board.now.table_id board.now.key seat.old.me.0) (known_of board.now.table_id board.now.key seat.new.me.0) machine × FnOnceReturnsAt F.FnOnce view machine result }
+{
+    let machine = take_turn(rt, board, waiting, seat);
+    look(board, seat);
+    let told = view(&machine);
+    give_back(board, waiting, seat, machine);
+    told
 }
 
 // Takes the turn for good, and the machine out, and answers the count too. Looking before the turn was taken would miss

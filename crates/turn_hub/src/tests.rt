@@ -73,6 +73,23 @@ fn closing_gives_what_other_passes_made(rt: HostRuntime) -> Result<(), Fail> {
 }
 
 #[test]
+fn a_look_makes_no_step(rt: HostRuntime) -> Result<(), Fail> {
+    let mut clock = MemClock::new(0);
+    let (hub, mut one) = Hub::new_at(rt.alloc(), fresh(), (1 << 62) - 2)?;
+    let mut two = hub.split(&mut one);
+    assert!(rt; hub.look(&rt, &mut one, |machine| machine.made) == 0);
+    assert!(rt; hub.step(&rt, &mut two, false, &mut clock) == Ok(0));
+    assert!(rt; hub.look(&rt, &mut one, |machine| machine.made) == 1);
+    assert!(rt; hub.look(&rt, &mut two, |machine| machine.made) == 1);
+    assert!(rt; hub.step(&rt, &mut one, false, &mut clock) == Ok(1));
+    assert!(rt; hub.step(&rt, &mut two, false, &mut clock) == Err(HubFault::Worn));
+    assert!(rt; hub.look(&rt, &mut two, |machine| machine.made) == 2);
+    hub.join(&mut one, two);
+    assert!(rt; clock.readings == 2 && hub.close_at(&rt, one).1 == 1 << 62);
+    Ok(())
+}
+
+#[test]
 fn a_worn_hub_makes_no_step(rt: HostRuntime) -> Result<(), Fail> {
     let mut clock = MemClock::new(0);
     let (hub, mut pass) = Hub::new_at(rt.alloc(), fresh(), 1 << 62)?;

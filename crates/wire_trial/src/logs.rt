@@ -2,7 +2,8 @@
 
 use crate::pieces::Pieces;
 use etcd_types::Bytes;
-use http_wire::{Framing, Head, LINE_LIMIT, Wire, WireFault};
+use http_wire::{AnswerHead, Framing, Head, LINE_LIMIT, Wire, WireFault};
+use outside::ReadMark;
 use std::alloc::Global;
 use table_rows::{Wrong, text};
 
@@ -26,7 +27,7 @@ pub enum Way {
 }
 
 /// The text of the requests or answers that come, up to a fault or the end. An answer's lines, or its whole body, stand in
-/// brackets. A fault is asked for twice.
+/// brackets. A fault is asked for twice. A request is told whose head or body the source didn't hear of.
 pub fn log(alloc: Global, way: Way, source: &mut Pieces) -> Result<String, Wrong> {
     let mut log = String::new(alloc);
     let mut wire = Wire::new(alloc)?;
@@ -72,6 +73,7 @@ fn tell_request(log: &mut String, wire: &mut Wire, source: &mut Pieces) -> Resul
         }
         Ok(Some(head)) => {
             tell_head(log, &head)?;
+            tell_mark(log, source, ReadMark::Head)?;
             tell_body(log, wire, source, &head)
         }
         Err(fault) => tell_fault(log, fault, next_head(wire, source).err()),
@@ -102,10 +104,19 @@ fn tell_body(
     match body_of(wire, source, head) {
         Ok(body) => {
             write!(log, "{}; ", text(body.as_slice()))?;
+            tell_mark(log, source, ReadMark::Body)?;
             Ok(true)
         }
         Err(fault) => tell_fault(log, fault, next_head(wire, source).err()),
     }
+}
+
+/// Tells where the source didn't hear of what was read.
+fn tell_mark(log: &mut String, source: &Pieces, mark: ReadMark) -> Result<(), Wrong> {
+    if !source.has_heard(mark) {
+        write!(log, "{mark:?} unheard; ")?;
+    }
+    Ok(())
 }
 
 fn body_of(wire: &mut Wire, source: &mut Pieces, head: &Head) -> Result<Bytes, WireFault> {
@@ -126,8 +137,9 @@ fn tell_answer(
     source: &mut Pieces,
 ) -> Result<bool, Wrong> {
     match next_answer(wire, source) {
-        Ok((status, framing)) => {
-            write!(log, "{status} ")?;
+        Ok(head) => {
+            tell_answer_head(log, head)?;
+            let framing = head.framing;
             match way {
                 Way::Whole(most) => tell_whole(log, wire, source, framing, most),
                 Way::Lines(most) => tell_lines(log, wire, source, framing, most),
@@ -138,7 +150,13 @@ fn tell_answer(
     }
 }
 
-fn next_answer(wire: &mut Wire, source: &mut Pieces) -> Result<(u16, Framing), WireFault> {
+fn tell_answer_head(log: &mut String, head: AnswerHead) -> Result<(), Wrong> {
+    write!(log, "{} ", head.status)?;
+    log.push_str(if head.closes { "closes " } else { "" })?;
+    Ok(())
+}
+
+fn next_answer(wire: &mut Wire, source: &mut Pieces) -> Result<AnswerHead, WireFault> {
     wire.read_answer(source)
 }
 
@@ -200,6 +218,15 @@ fn next_line(
     wire.next_line(source, framing, most)
 }
 
+/// The first answer with its whole body of at most so many bytes, and whether the wire holds more behind it.
+pub fn first_answer(alloc: Global, most: usize, source: &mut Pieces) -> Result<String, Wrong> {
+    let mut log = String::new(alloc);
+    let mut wire = Wire::new(alloc)?;
+    tell_answer(&mut log, Way::Whole(most), &mut wire, source)?;
+    log.push_str(if wire.is_clear() { "clear" } else { "held" })?;
+    Ok(log)
+}
+
 /// The length of the first request's body, or the fault.
 pub fn body_length(alloc: Global, source: &mut Pieces) -> Result<String, Wrong> {
     let mut wire = Wire::new(alloc)?;
@@ -212,9 +239,10 @@ pub fn body_length(alloc: Global, source: &mut Pieces) -> Result<String, Wrong> 
 /// The length of the first answer's first line, or the fault.
 pub fn line_length(alloc: Global, source: &mut Pieces) -> Result<String, Wrong> {
     let mut wire = Wire::new(alloc)?;
-    let Ok((_, mut framing)) = next_answer(&mut wire, source) else {
+    let Ok(head) = next_answer(&mut wire, source) else {
         return Err(Wrong::Word);
     };
+    let mut framing = head.framing;
     match next_line(&mut wire, source, &mut framing, LINE_LIMIT) {
         Ok(Some(line)) => length_told(alloc, Ok(line)),
         Ok(None) => Err(Wrong::Word),

@@ -7,6 +7,7 @@
 //!   byte.
 //! - `awaited BYTES LOG`, `lines MOST BYTES LOG`, `whole MOST BYTES LOG`: the same, where each request is waited for twice
 //!   before it is read; where a line has at most so many bytes; where each answer's body is read whole, of at most so many.
+//! - `alone MOST BYTES LOG`: the first answer with its whole body, in one piece, and whether bytes are held behind it.
 //! - `request_failing BYTES LOG`: byte by byte, and with each read failing in turn.
 //! - `request_at_once BYTES LOG`, `answer_at_once BYTES LOG`: in one piece, where the second read fails.
 //! - `request_filled FRONT FILLING TIMES BACK LOG`: the filling so many times between the front and the back.
@@ -14,10 +15,12 @@
 //!   the first request's body, or of the first answer's first line, or the fault.
 //! - `reply STATUS BODY BYTES`, `bodiless STATUS BODY BYTES`, `continue BYTES`, `begin BYTES`, `chunk PIECE BYTES`, `end BYTES`: what is written, at once,
 //!   a few bytes at a time, and with each write failing in turn.
-//! - `call HOST PATH BODY BYTES`: the bytes of a call to a member.
+//! - `call HOST PATH BODY BYTES`, `kept_call HOST PATH BODY BYTES`: the bytes of a call to a member, on a connection of its own and
+//!   on one that stays.
 #![tactic(auto)]
 
 mod logs;
+mod marked;
 mod outcome;
 mod part;
 mod pieces;

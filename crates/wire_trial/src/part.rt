@@ -1,10 +1,11 @@
+use crate::marked::Marked;
 use crate::outcome::Outcome;
 use etcd_types::Bytes;
 use http_wire::{
     WireFault, begin_chunks, end_chunks, write_bodiless_reply, write_call, write_chunk,
-    write_continue, write_reply,
+    write_continue, write_kept_call, write_reply,
 };
-use outside::MemSink;
+use outside::WriteMark;
 use std::alloc::Global;
 use table_rows::{Wrong, text};
 use text_words::{Words, is_word, read_bytes, read_number_within};
@@ -50,7 +51,7 @@ impl Part {
         }
     }
 
-    fn write(&self, alloc: Global, sink: &mut MemSink) -> Result<(), WireFault> {
+    fn write(&self, alloc: Global, sink: &mut Marked) -> Result<(), WireFault> {
         match self {
             Part::Reply { status, body } => write_reply(alloc, sink, *status, body.as_slice()),
             Part::Bodiless { status, body } => {
@@ -63,12 +64,28 @@ impl Part {
         }
     }
 
+    /// What a sink is told of it.
+    fn mark(&self) -> Option<WriteMark> {
+        match self {
+            Part::Reply { status, .. } | Part::Bodiless { status, .. } => {
+                Some(WriteMark::Reply(*status))
+            }
+            Part::Continue => Some(WriteMark::Continue),
+            Part::Begin => Some(WriteMark::Reply(200)),
+            Part::Chunk(_) => Some(WriteMark::Message),
+            Part::End => None,
+        }
+    }
+
     /// What a sink has that takes so many bytes at a time, and whose write with the number `failing` fails.
     fn written(&self, alloc: Global, piece: usize, failing: u64) -> Result<String, Wrong> {
-        let mut sink = MemSink::new(alloc, piece, vec![in alloc; failing]?);
+        let mut sink = Marked::new(alloc, piece, vec![in alloc; failing]?);
         let done = self.write(alloc, &mut sink);
         let mut told = String::new(alloc);
         told.push_str(text(sink.as_slice()))?;
+        if sink.mark != self.mark() {
+            write!(told, "; heard {:?}", sink.mark)?;
+        }
         match done {
             Ok(()) => {}
             Err(WireFault::WriteFault) => told.push_str(WRITE_FAULT)?,
@@ -93,15 +110,20 @@ impl Part {
     }
 }
 
-/// Tries a call to a member.
+/// Tries a call to a member, on a connection of its own or on one that stays.
 pub fn try_call(
     alloc: Global,
+    stays: bool,
     host: &Bytes,
     path: &Bytes,
     body: &Bytes,
     outcome: &mut Outcome,
 ) -> Result<(), Wrong> {
-    let call = write_call(alloc, host.as_slice(), path.as_slice(), body.as_slice())?;
+    let call = if stays {
+        write_kept_call(alloc, host.as_slice(), path.as_slice(), body.as_slice())?
+    } else {
+        write_call(alloc, host.as_slice(), path.as_slice(), body.as_slice())?
+    };
     let mut came = String::new(alloc);
     came.push_str(text(call.as_slice()))?;
     outcome.compare(came);

@@ -1,4 +1,4 @@
-use outside::{Failed, Source};
+use outside::{Failed, ReadMark, Source};
 
 /// A source whose first piece has another length than the others. The read with the number `failing` fails.
 #[derive(Drop)]
@@ -10,6 +10,8 @@ pub struct Pieces<'a> {
     reads: u64,
     failing: u64,
     faults: u64,
+    /// What was last heard to be read.
+    mark: Option<ReadMark>,
 }
 
 impl<'a> Pieces<'a> {
@@ -22,12 +24,18 @@ impl<'a> Pieces<'a> {
             reads: 0,
             failing: 0,
             faults: 0,
+            mark: None,
         }
     }
 
     /// The same bytes, where the read with this number fails. Reads are numbered from 1.
     pub fn failing(self, failing: u64) -> Pieces<'a> {
         Pieces { failing, ..self }
+    }
+
+    /// Whether this is what was last heard to be read.
+    pub fn has_heard(&self, mark: ReadMark) -> bool {
+        self.mark == Some(mark)
     }
 }
 
@@ -59,5 +67,9 @@ impl<'a> Source for Pieces<'a> {
 
     fn check(&mut self) -> Result<(), Failed> {
         Ok(())
+    }
+
+    fn mark(&mut self, mark: ReadMark) {
+        self.mark = Some(mark);
     }
 }

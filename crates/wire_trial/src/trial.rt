@@ -1,4 +1,4 @@
-use crate::logs::{Way, body_length, line_length, log};
+use crate::logs::{Way, body_length, first_answer, line_length, log};
 use crate::outcome::Outcome;
 use crate::part::{Part, try_call};
 use crate::pieces::Pieces;
@@ -36,8 +36,10 @@ pub fn try_line(alloc: Global, line: &str) -> Result<Outcome, Wrong> {
         try_filled(alloc, &mut words)
     } else if is_word(name, "body") || is_word(name, "line") {
         try_length(alloc, is_word(name, "line"), &mut words)
-    } else if is_word(name, "call") {
-        try_a_call(alloc, &mut words)
+    } else if is_word(name, "alone") {
+        try_alone(alloc, &mut words)
+    } else if is_word(name, "call") || is_word(name, "kept_call") {
+        try_a_call(alloc, is_word(name, "kept_call"), &mut words)
     } else {
         try_part(alloc, name, &mut words)
     }
@@ -91,6 +93,17 @@ fn try_at_once(alloc: Global, way: Way, words: &mut Words) -> Result<Outcome, Wr
     let bytes = bytes.as_slice();
     let mut source = Pieces::new(bytes, bytes.len(), 1).failing(2);
     outcome.compare(log(alloc, way, &mut source)?);
+    Ok(outcome)
+}
+
+/// In one piece, and no second answer is read.
+fn try_alone(alloc: Global, words: &mut Words) -> Result<Outcome, Wrong> {
+    let most = read_limit(words)?;
+    let bytes = read_bytes(alloc, words)?;
+    let mut outcome = read_outcome(alloc, words)?;
+    let bytes = bytes.as_slice();
+    let mut source = Pieces::new(bytes, bytes.len(), 1);
+    outcome.compare(first_answer(alloc, most, &mut source)?);
     Ok(outcome)
 }
 
@@ -168,12 +181,12 @@ fn long(alloc: Global, front: &Bytes, times: usize, back: &Bytes) -> Result<Vec<
 }
 
 /// A host, a path and a body.
-fn try_a_call(alloc: Global, words: &mut Words) -> Result<Outcome, Wrong> {
+fn try_a_call(alloc: Global, stays: bool, words: &mut Words) -> Result<Outcome, Wrong> {
     let host = read_bytes(alloc, words)?;
     let path = read_bytes(alloc, words)?;
     let body = read_bytes(alloc, words)?;
     let mut outcome = read_outcome(alloc, words)?;
-    try_call(alloc, &host, &path, &body, &mut outcome)?;
+    try_call(alloc, stays, &host, &path, &body, &mut outcome)?;
     Ok(outcome)
 }
 

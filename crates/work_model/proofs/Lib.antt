@@ -1,2 +1,4 @@
 pub mod Hears
+pub mod Late
+pub mod Links
 pub mod Works

@@ -1,10 +1,9 @@
 -- A worker: it draws what is due, one job after the other, and makes it. A call is made once, and its answer or its loss is fed;
--- a stream is handed over to be followed, or is cut; a closing needs nothing. What is due is the core's own rule.
-use Rattle.std.specs.Prelude.{◌≡◌, ℕ, ◌+◌, ◌-◌, ◌<◌, ◌≤◌, Bool, true, false, List, [], ◌∷◌, ◌++◌, Option, None, Some, Result, Ok, Err, ◌⊎◌, ⊤, slice_get, unwrap_or}
-use Rattle.outside.specs.Calls.{Adds as Tells, LinkCall, Called, Begun, Handed}
+-- a stream is handed over to be followed, or is cut; a closing needs no step and no call. What is due is the core's own rule. Each part of
+-- it ends early for want of memory, or where the machine is worn: `worn` says that it is, at the end, where it still is.
+use Rattle.std.specs.Prelude.{◌≡◌, ℕ, ◌+◌, ◌-◌, ◌<◌, ◌≤◌, Bool, true, false, List, [], ◌∷◌, ◌++◌, Option, None, Some, Result, Ok, Err, IsTrue, slice_get, unwrap_or}
+use Rattle.outside.specs.Calls.{Adds as Tells, LinkCall, Handed}
 use Rattle.outside.specs.Faults.{Rose}
-use Rattle.outside.specs.declared.link.LinkFault.{LinkFault}
-use Rattle.outside.specs.declared.link.LinkFault.TheVariants as link
 use Rattle.outside.specs.declared.parts.Part.{Part}
 use Rattle.outside.specs.declared.parts.Part.TheVariants.{Follower}
 use Rattle.etcd_types.specs.declared.request.Request.{Request}
@@ -18,14 +17,15 @@ use Rattle.core_model.specs.declared.event.Outcome.{Outcome}
 use Rattle.core_model.specs.declared.event.Outcome.TheVariants.{Job as Due}
 use Rattle.core_model.specs.declared.event.StepFault.{StepFault}
 use Rattle.core_model.specs.declared.event.StepFault.TheVariants as step
-use Rattle.serve_model.specs.Steps.{Step, Every, Adds, IsOfRest}
+use Rattle.serve_model.specs.Steps.{Step, Every, Adds, IsOfRest, is_late}
 use Rattle.serve_model.specs.declared.fault.TurnFault.{TurnFault}
 use Rattle.serve_model.specs.declared.fault.TurnFault.TheVariants as turn
 use Rattle.work_model.specs.declared.ends.WorkEnd.{WorkEnd}
 use Rattle.work_model.specs.declared.ends.WorkEnd.TheVariants as how
 use Rattle.work_model.specs.declared.fault.CallFault.{CallFault}
 use Rattle.work_model.specs.declared.fault.CallFault.TheVariants as fault
-use Rattle.work_model.specs.Calls.{call_of, Says, Unclear}
+use Rattle.work_model.specs.Calls.{call_of, Calls, OnLink}
+use Rattle.work_model.specs.Kinds.{kind_of}
 
 -- the host of a member, from 1 on
 abbrev pub host_of : List (List ℕ) → ℕ → List ℕ
@@ -38,64 +38,63 @@ is_full _ = false
 
 -- ---- steps
 
--- a step on this event, whatever it gives; or the hub makes no more steps, which then is the end
-pub data Fed (event : CoreEvent) (end : Option WorkEnd) : List Step → Option WorkEnd → Type 0 where
-  stepped : (now : ℕ) (given : Result Outcome StepFault) → Fed event end (entry_of event now given ∷ []) end
-  worn : Fed event end [] (Some how.Worn)
+-- a step on this event, whatever it gives; or the machine is worn, which then is the end
+pub data Fed (worn : Type 0) (event : CoreEvent) (end : Option WorkEnd) : List Step → Option WorkEnd → Type 0 where
+  stepped : (now : ℕ) (given : Result Outcome StepFault) → Fed worn event end (entry_of event now given ∷ []) end
+  late : worn → Fed worn event end [] (Some how.Worn)
 
 -- the answer to a call is fed; where the core has no room for it the call counts as lost
-pub data Reports (call : ℕ) (answer : Answer) : List Step → Option WorkEnd → Type 0 where
-  taken : (now : ℕ) (given : Result Outcome StepFault) → (given ≡ Err step.NoMemory → ⊥) → Reports call answer (entry_of (Answered call answer) now given ∷ []) None
-  full : (now : ℕ) (steps : List Step) (end : Option WorkEnd) → Fed (Lost call) (Some how.NoMemory) steps end
-      → Reports call answer (entry_of (Answered call answer) now (Err step.NoMemory) ∷ steps) end
-  worn : Reports call answer [] (Some how.Worn)
+pub data Reports (worn : Type 0) (call : ℕ) (answer : Answer) : List Step → Option WorkEnd → Type 0 where
+  taken : (now : ℕ) (given : Result Outcome StepFault) → (given ≡ Err step.NoMemory → ⊥)
+      → Reports worn call answer (entry_of (Answered call answer) now given ∷ []) None
+  full : (now : ℕ) (steps : List Step) (end : Option WorkEnd) → Fed worn (Lost call) (Some how.NoMemory) steps end
+      → Reports worn call answer (entry_of (Answered call answer) now (Err step.NoMemory) ∷ steps) end
+  late : worn → Reports worn call answer [] (Some how.Worn)
 
 -- ---- one job
-
--- why a call that was made counts as lost: the link failed, or what came says nothing clear
-abbrev pub Loses : Request → Result (List ℕ) LinkFault → Type 0
-Loses request (Ok all) = Unclear request all
-Loses request (Err link.Failed) = ⊤
-Loses request (Err link.NoMemory) = ⊥
 
 -- the end by a call that has no answer, if it is one
 abbrev pub lost_end : CallFault → Option WorkEnd
 lost_end fault.Lost = None
 lost_end fault.NoMemory = Some how.NoMemory
 
--- this call was made, or none
-abbrev pub AtMost : ℕ → List ℕ → List LinkCall → Type 0
-AtMost member bytes calls = (calls ≡ []) ⊎ ((came : Result (List ℕ) LinkFault) × (calls ≡ Called member bytes came ∷ []))
-
--- a stream that is to be followed, with a place of its own
+-- a stream that is to be followed, with a place of its own; its connection carries no other call
 abbrev pub follower : {P C : Type 0} → P → ℕ → ℕ → List ℕ → Part P C
 follower place stream member bytes = Follower place (record { stream = stream; member = member; call = bytes })
 
--- A call is made: the steps, the calls on the link, and an end, where it is one
-pub data CallDoes (host : List ℕ) (call member : ℕ) (request : Request) : List Step → List LinkCall → Option WorkEnd → Type 0 where
-  answered : (answer : Answer) (all : List ℕ) (steps : List Step) (end : Option WorkEnd) → Says request all (Ok answer) → Reports call answer steps end
-      → CallDoes host call member request steps (Called member (call_of host request) (Ok all) ∷ []) end
-  lost : (came : Result (List ℕ) LinkFault) (steps : List Step) (end : Option WorkEnd) → Loses request came → Fed (Lost call) None steps end
-      → CallDoes host call member request steps (Called member (call_of host request) came ∷ []) end
-  wanting : (calls : List LinkCall) (steps : List Step) (end : Option WorkEnd) → AtMost member (call_of host request) calls → Fed (Lost call) (Some how.NoMemory) steps end
-      → CallDoes host call member request steps calls end
+-- a request's stream, handed over to be followed, and whether that was started
+abbrev pub handed_as : {P C : Type 0} → List ℕ → P → ℕ → ℕ → Request → Bool → Handed (Part P C)
+handed_as host place stream member request started =
+    record { part = follower place stream member (call_of host request); started = started }
+
+-- A call is made once, and its answer or its loss is fed: the steps, the calls on the link, and an end, where it is one
+pub data CallDoes (worn : Type 0) (host : List ℕ) (call member : ℕ) (request : Request) : List Step → List LinkCall → Option WorkEnd → Type 0 where
+  answered : (answer : Answer) (steps : List Step) (calls : List LinkCall) (end : Option WorkEnd)
+      → Calls host member (kind_of request) request calls (Ok answer) → Reports worn call answer steps end
+      → CallDoes worn host call member request steps calls end
+  unanswered : (why : CallFault) (steps : List Step) (calls : List LinkCall) (end : Option WorkEnd)
+      → Calls host member (kind_of request) request calls (Err why) → Fed worn (Lost call) (lost_end why) steps end
+      → CallDoes worn host call member request steps calls end
 
 -- A stream is handed over to be followed: the steps, what was handed over, and an end, where it is one. `homed` says which places
 -- are of this hub
-pub data BeginDoes {P C : Type 0} (host : List ℕ) (homed : P → Type 0) (stream member : ℕ) (request : Request) : List Step → List (Handed (Part P C)) → Option WorkEnd → Type 0 where
+pub data BeginDoes {P C : Type 0} (worn : Type 0) (host : List ℕ) (homed : P → Type 0) (stream member : ℕ) (request : Request) : List Step → List (Handed (Part P C)) → Option WorkEnd → Type 0 where
   begun : (place : P) → homed place
-      → BeginDoes host homed stream member request [] (record { part = follower place stream member (call_of host request); started = true } ∷ []) None
-  refused : (place : P) (steps : List Step) (end : Option WorkEnd) → homed place → Fed (Cut stream) None steps end
-      → BeginDoes host homed stream member request steps (record { part = follower place stream member (call_of host request); started = false } ∷ []) end
-  unsent : (steps : List Step) (end : Option WorkEnd) → Fed (Cut stream) (Some how.NoMemory) steps end → BeginDoes host homed stream member request steps [] end
+      → BeginDoes worn host homed stream member request [] (handed_as host place stream member request true ∷ []) None
+  refused : (place : P) (steps : List Step) (end : Option WorkEnd) → homed place → Fed worn (Cut stream) None steps end
+      → BeginDoes worn host homed stream member request steps (handed_as host place stream member request false ∷ []) end
+  unsent : (steps : List Step) (end : Option WorkEnd) → Fed worn (Cut stream) (Some how.NoMemory) steps end
+      → BeginDoes worn host homed stream member request steps [] end
 
 -- What is done for a job. `hosts` are those of the members. A closing is done by the stream's own end
-pub data Does {P C : Type 0} (hosts : List (List ℕ)) (homed : P → Type 0) : Job → List Step → List LinkCall → List (Handed (Part P C)) → Option WorkEnd → Type 0 where
+pub data Does {P C : Type 0} (hosts : List (List ℕ)) (homed : P → Type 0) (worn : Type 0) : Job → List Step → List LinkCall → List (Handed (Part P C)) → Option WorkEnd → Type 0 where
   called : (call member ticket : ℕ) (request : Request) (steps : List Step) (calls : List LinkCall) (end : Option WorkEnd)
-      → CallDoes (host_of hosts member) call member request steps calls end → Does hosts homed (Call call member ticket request) steps calls [] end
+      → CallDoes worn (host_of hosts member) call member request steps calls end
+      → Does hosts homed worn (Call call member ticket request) steps calls [] end
   begun : (stream member : ℕ) (request : Request) (steps : List Step) (handed : List (Handed (Part P C))) (end : Option WorkEnd)
-      → BeginDoes (host_of hosts member) homed stream member request steps handed end → Does hosts homed (Begin stream member request) steps [] handed end
-  closed : (stream : ℕ) → Does hosts homed (Close stream) [] [] [] None
+      → BeginDoes worn (host_of hosts member) homed stream member request steps handed end
+      → Does hosts homed worn (Begin stream member request) steps [] handed end
+  closed : (stream : ℕ) → Does hosts homed worn (Close stream) [] [] [] None
 
 -- ---- what is due
 
@@ -111,51 +110,48 @@ pub data Idles (rests : CoreEvent → Type 0) : List Step → Type 0 where
       → Idles rests (steps ++ (entry_of Work now (Ok (Due None)) ∷ rested))
 
 -- what is due is drawn, once something is; or nothing is drawn any more
-pub data Draws (rests : CoreEvent → Type 0) : List Step → Result Job WorkEnd → Type 0 where
-  drew : (idle : List Step) (now : ℕ) (job : Job) → Idles rests idle → Draws rests (idle ++ (entry_of Work now (Ok (Due (Some job))) ∷ [])) (Ok job)
-  restless : (idle : List Step) (now : ℕ) (rested : List Step) (fault : TurnFault) → Idles rests idle → Every (λ e. rests e.event) rested → IsOfRest fault
-      → Draws rests (idle ++ (entry_of Work now (Ok (Due None)) ∷ rested)) (Err (ended_by fault))
-  worn : (idle : List Step) (now : ℕ) → Idles rests idle → Draws rests (idle ++ (entry_of Work now (Err step.Worn) ∷ [])) (Err how.Worn)
-  full : (idle : List Step) (now : ℕ) → Idles rests idle → Draws rests (idle ++ (entry_of Work now (Err step.NoMemory) ∷ [])) (Err how.NoMemory)
-  late : (idle : List Step) → Idles rests idle → Draws rests idle (Err how.Worn)
+pub data Draws (rests : CoreEvent → Type 0) (worn : Type 0) : List Step → Result Job WorkEnd → Type 0 where
+  drew : (idle : List Step) (now : ℕ) (job : Job) → Idles rests idle
+      → Draws rests worn (idle ++ (entry_of Work now (Ok (Due (Some job))) ∷ [])) (Ok job)
+  restless : (idle : List Step) (now : ℕ) (rested : List Step) (why : TurnFault) → Idles rests idle → Every (λ e. rests e.event) rested
+      → IsOfRest why → (IsTrue (is_late why) → worn)
+      → Draws rests worn (idle ++ (entry_of Work now (Ok (Due None)) ∷ rested)) (Err (ended_by why))
+  spent : (idle : List Step) (now : ℕ) → Idles rests idle
+      → Draws rests worn (idle ++ (entry_of Work now (Err step.Worn) ∷ [])) (Err how.Worn)
+  full : (idle : List Step) (now : ℕ) → Idles rests idle
+      → Draws rests worn (idle ++ (entry_of Work now (Err step.NoMemory) ∷ [])) (Err how.NoMemory)
+  late : (idle : List Step) → Idles rests idle → worn → Draws rests worn idle (Err how.Worn)
 
 -- ---- all of them
 
 -- so many jobs were drawn and done, and it goes on
-pub data Working {P C : Type 0} (hosts : List (List ℕ)) (homed : P → Type 0) (rests : CoreEvent → Type 0) : ℕ → List Step → List LinkCall → List (Handed (Part P C)) → Type 0 where
-  begin : Working hosts homed rests 0 [] [] []
-  more : (jobs : ℕ) (steps : List Step) (calls : List LinkCall) (handed : List (Handed (Part P C))) (job : Job) (drawn steps' : List Step) (calls' : List LinkCall)
-      (handed' : List (Handed (Part P C))) → Working hosts homed rests jobs steps calls handed → Draws rests drawn (Ok job) → Does hosts homed job steps' calls' handed' None
-      → Working hosts homed rests (jobs + 1) (steps ++ (drawn ++ steps')) (calls ++ calls') (handed ++ handed')
+pub data Working {P C : Type 0} (hosts : List (List ℕ)) (homed : P → Type 0) (rests : CoreEvent → Type 0) (worn : Type 0) : ℕ → List Step → List LinkCall → List (Handed (Part P C)) → Type 0 where
+  begin : Working hosts homed rests worn 0 [] [] []
+  more : (jobs : ℕ) (steps : List Step) (calls : List LinkCall) (handed : List (Handed (Part P C))) (job : Job) (drawn steps' : List Step)
+      (calls' : List LinkCall) (handed' : List (Handed (Part P C))) → Working hosts homed rests worn jobs steps calls handed
+      → Draws rests worn drawn (Ok job) → Does hosts homed worn job steps' calls' handed' None
+      → Working hosts homed rests worn (jobs + 1) (steps ++ (drawn ++ steps')) (calls ++ calls') (handed ++ handed')
 
 -- a worker's turns, so many at the most
-pub data Works {P C : Type 0} (hosts : List (List ℕ)) (homed : P → Type 0) (rests : CoreEvent → Type 0) (turns : ℕ) : List Step → List LinkCall → List (Handed (Part P C)) → WorkEnd → Type 0 where
-  turned : (steps : List Step) (calls : List LinkCall) (handed : List (Handed (Part P C))) → Working hosts homed rests turns steps calls handed
-      → Works hosts homed rests turns steps calls handed how.Turns
-  undrawn : (jobs : ℕ) (steps : List Step) (calls : List LinkCall) (handed : List (Handed (Part P C))) (drawn : List Step) (end : WorkEnd) → jobs < turns
-      → Working hosts homed rests jobs steps calls handed → Draws rests drawn (Err end) → Works hosts homed rests turns (steps ++ drawn) calls handed end
-  stopped : (jobs : ℕ) (steps : List Step) (calls : List LinkCall) (handed : List (Handed (Part P C))) (job : Job) (drawn steps' : List Step) (calls' : List LinkCall)
-      (handed' : List (Handed (Part P C))) (end : WorkEnd) → jobs < turns → Working hosts homed rests jobs steps calls handed → Draws rests drawn (Ok job)
-      → Does hosts homed job steps' calls' handed' (Some end) → Works hosts homed rests turns (steps ++ (drawn ++ steps')) (calls ++ calls') (handed ++ handed') end
+pub data Works {P C : Type 0} (hosts : List (List ℕ)) (homed : P → Type 0) (rests : CoreEvent → Type 0) (worn : Type 0) (turns : ℕ) : List Step → List LinkCall → List (Handed (Part P C)) → WorkEnd → Type 0 where
+  turned : (steps : List Step) (calls : List LinkCall) (handed : List (Handed (Part P C))) → Working hosts homed rests worn turns steps calls handed
+      → Works hosts homed rests worn turns steps calls handed how.Turns
+  undrawn : (jobs : ℕ) (steps : List Step) (calls : List LinkCall) (handed : List (Handed (Part P C))) (drawn : List Step) (end : WorkEnd)
+      → jobs < turns → Working hosts homed rests worn jobs steps calls handed → Draws rests worn drawn (Err end)
+      → Works hosts homed rests worn turns (steps ++ drawn) calls handed end
+  stopped : (jobs : ℕ) (steps : List Step) (calls : List LinkCall) (handed : List (Handed (Part P C))) (job : Job) (drawn steps' : List Step)
+      (calls' : List LinkCall) (handed' : List (Handed (Part P C))) (end : WorkEnd) → jobs < turns
+      → Working hosts homed rests worn jobs steps calls handed → Draws rests worn drawn (Ok job)
+      → Does hosts homed worn job steps' calls' handed' (Some end)
+      → Works hosts homed rests worn turns (steps ++ (drawn ++ steps')) (calls ++ calls') (handed ++ handed') end
 
 -- ---- causes
-
--- the link's count rose, where the link failed
-abbrev pub IsCaused : ℕ → ℕ → LinkCall → Type 0
-IsCaused earlier later (Called member bytes (Err link.Failed)) = Rose earlier later
-IsCaused earlier later _ = ⊤
 
 -- the spawner's count rose, where a part wasn't started
 abbrev pub IsRefused : {Q : Type 0} → ℕ → ℕ → Handed Q → Type 0
 IsRefused earlier later h = h.started ≡ false → Rose earlier later
 
 -- ---- what is told of it
-
--- these calls came on a link between two moments, each failure with its cause
-pub record OnLink (old new : Option (List LinkCall)) (faults faults' : ℕ) (calls : List LinkCall) : Type 0 where
-  pub told : Tells old new calls
-  pub kept : faults ≤ faults'
-  pub caused : Every (IsCaused faults faults') calls
 
 -- these parts were handed to a spawner between two moments, each refusal with its cause
 pub record OnSpawner {Q : Type 0} (old new : Option (List (Handed Q))) (faults faults' : ℕ) (handed : List (Handed Q)) : Type 0 where
@@ -185,26 +181,66 @@ pub record Between {Q : Type 0} (before after : Ledger Q) (steps : List Step) (c
 abbrev pub IsAt : {P H : Type 0} → (P → H) → H → P → Type 0
 IsAt home_of home place = home_of place ≡ home
 
+-- a step was fed between two moments
+pub record IsFed (worn : Type 0) (event : CoreEvent) (end : Option WorkEnd) (made made' : Option (List Step)) (result : Option WorkEnd) : Type 0 where
+  pub steps : List Step
+  pub fed : Fed worn event end steps result
+  pub adds : Adds made made' steps
+
+-- the answer to a call was fed
+pub record IsReported (worn : Type 0) (call : ℕ) (answer : Answer) (made made' : Option (List Step)) (result : Option WorkEnd) : Type 0 where
+  pub steps : List Step
+  pub reports : Reports worn call answer steps result
+  pub adds : Adds made made' steps
+
+-- a call was made, and its answer or its loss fed
+pub record IsCallMade (worn : Type 0) (host : List ℕ) (call member : ℕ) (request : Request) (made made' : Option (List Step)) (told told' : Option (List LinkCall)) (faults faults' : ℕ) (result : Option WorkEnd) : Type 0 where
+  pub steps : List Step
+  pub calls : List LinkCall
+  pub does : CallDoes worn host call member request steps calls result
+  pub adds : Adds made made' steps
+  pub link : OnLink told told' faults faults' calls
+
+-- a stream was handed over, or is cut
+pub record IsHandedOver {P C : Type 0} (worn : Type 0) (host : List ℕ) (homed : P → Type 0) (stream member : ℕ) (request : Request) (made made' : Option (List Step)) (told told' : Option (List (Handed (Part P C)))) (faults faults' : ℕ) (result : Option WorkEnd) : Type 0 where
+  pub steps : List Step
+  pub handed : List (Handed (Part P C))
+  pub does : BeginDoes worn host homed stream member request steps handed result
+  pub adds : Adds made made' steps
+  pub spawner : OnSpawner told told' faults faults' handed
+
+-- what is due was drawn, or nothing is any more
+pub record IsDrawn (rests : CoreEvent → Type 0) (worn : Type 0) (made made' : Option (List Step)) (result : Result Job WorkEnd) : Type 0 where
+  pub steps : List Step
+  pub draws : Draws rests worn steps result
+  pub adds : Adds made made' steps
+
+-- nothing was due so far
+pub record IsIdle (rests : CoreEvent → Type 0) (made made' : Option (List Step)) : Type 0 where
+  pub steps : List Step
+  pub idles : Idles rests steps
+  pub adds : Adds made made' steps
+
 -- a job was done
-pub record IsDone {P C : Type 0} (hosts : List (List ℕ)) (homed : P → Type 0) (job : Job) (before after : Ledger (Part P C)) (end : Option WorkEnd) : Type 0 where
+pub record IsDone {P C : Type 0} (hosts : List (List ℕ)) (homed : P → Type 0) (worn : Type 0) (job : Job) (before after : Ledger (Part P C)) (end : Option WorkEnd) : Type 0 where
   pub steps : List Step
   pub calls : List LinkCall
   pub handed : List (Handed (Part P C))
-  pub does : Does hosts homed job steps calls handed end
+  pub does : Does hosts homed worn job steps calls handed end
   pub between : Between before after steps calls handed
 
 -- a worker's turns were made
-pub record IsWorked {P C : Type 0} (hosts : List (List ℕ)) (homed : P → Type 0) (rests : CoreEvent → Type 0) (turns : ℕ) (before after : Ledger (Part P C)) (end : WorkEnd) : Type 0 where
+pub record IsWorked {P C : Type 0} (hosts : List (List ℕ)) (homed : P → Type 0) (rests : CoreEvent → Type 0) (worn : Type 0) (turns : ℕ) (before after : Ledger (Part P C)) (end : WorkEnd) : Type 0 where
   pub steps : List Step
   pub calls : List LinkCall
   pub handed : List (Handed (Part P C))
-  pub works : Works hosts homed rests turns steps calls handed end
+  pub works : Works hosts homed rests worn turns steps calls handed end
   pub between : Between before after steps calls handed
 
 -- so many of them were made so far
-pub record IsWorking {P C : Type 0} (hosts : List (List ℕ)) (homed : P → Type 0) (rests : CoreEvent → Type 0) (jobs : ℕ) (before after : Ledger (Part P C)) : Type 0 where
+pub record IsWorking {P C : Type 0} (hosts : List (List ℕ)) (homed : P → Type 0) (rests : CoreEvent → Type 0) (worn : Type 0) (jobs : ℕ) (before after : Ledger (Part P C)) : Type 0 where
   pub steps : List Step
   pub calls : List LinkCall
   pub handed : List (Handed (Part P C))
-  pub working : Working hosts homed rests jobs steps calls handed
+  pub working : Working hosts homed rests worn jobs steps calls handed
   pub between : Between before after steps calls handed

@@ -87,13 +87,13 @@ IsPushed s number t i = (push_of s number ≡ Ok (t, i)) ⊎ (progressed s numbe
 
 pub data Effect (w : World) : World → List Item → Type 0 where
   starts : (p clock life : ℕ) (i : Item) → Begins w p clock life i → Effect w (with_place w p (new_place w clock life)) (i ∷ [])
-  sets : (p millis : ℕ) (x : Place) → place_at w p ≡ Some x → Effect w (with_place w p (record x { clock = millis })) (item.Clock p millis ∷ [])
+  sets : (p millis : ℕ) (x : Place) → place_at w p ≡ Some x → nat_lt millis x.clock ≡ false → Effect w (with_place w p (record x { clock = millis })) (item.Clock p millis ∷ [])
   refuses_post : (p ticket : ℕ) (path body : List ℕ) (a : Answer) (x : Place) → place_at w p ≡ Some x
       → Effect w (with_place w p (with_posted ticket x)) (item.Posted p ticket path body ∷ reply_items p (with_posted ticket x).posted (ticket, a))
-  executes : (number : ℕ) (call : SentCall) → nth w.calls number ≡ Some call
+  executes : (number : ℕ) (call : SentCall) → nth w.calls number ≡ Some call → call.executed ≡ None
       → Effect w (record w { calls = with_nth w.calls number (record call { executed = Some (exec w.store call.member call.request).1 }); store = (exec w.store call.member call.request).0; floors = floors_after call (exec w.store call.member call.request).1 w.floors })
       (item.Executed number (exec w.store call.member call.request).1 ∷ [])
-  expires : (lease : ℕ) (t : State) → expired w.store lease ≡ Ok t → Effect w (record w { store = t }) (item.Expired lease ∷ [])
+  expires : (lease : ℕ) (t : State) → expired w.store lease ≡ Ok t → not_due w lease ≡ None → Effect w (record w { store = t }) (item.Expired lease ∷ [])
   applies : (member revision : ℕ) (t : State) → applied w.store member revision ≡ Ok t → Effect w (record w { store = t }) (item.Applied member revision ∷ [])
   pushes : (number : ℕ) (s : OpenedStream) (t : State) (i : WatchItem) → nth w.streams number ≡ Some s → s.ended ≡ false → s.cancelled ≡ false → IsPushed w.store number t i
       → Effect w (record w { streams = with_nth w.streams number (with_message i s); store = t }) (item.Pushed number i ∷ [])
@@ -135,7 +135,7 @@ started_does w p (Some x) e = starts p x.clock (x.life + 1) (item.Restarted p) (
 
 clock_does : (w : World) (p millis : ℕ) → Does w (clock_set w p millis)
 clock_does w p millis =
-    at_does w p (place_at w p) (clock_set_at w p millis) refl (λ x e. choice w (nat_lt millis x.clock) _ _ (λ b. tt) (λ b. sets p millis x e))
+    at_does w p (place_at w p) (clock_set_at w p millis) refl (λ x e. choice w (nat_lt millis x.clock) _ _ (λ b. tt) (λ b. sets p millis x e b))
 
 ticked_does : (w : World) (p : ℕ) → Does w (ticked w p)
 ticked_does w p =
@@ -203,13 +203,13 @@ sent_does w p =
 
 -- ---- calls
 
-executed_by : (w : World) (number : ℕ) (call : SentCall) (o : Option Answer) → nth w.calls number ≡ Some call → Does w (executed_if w number call o)
-executed_by w number call (Some a) e = tt
-executed_by w number call None e = executes number call e
+executed_by : (w : World) (number : ℕ) (call : SentCall) (o : Option Answer) → nth w.calls number ≡ Some call → call.executed ≡ o → Does w (executed_if w number call o)
+executed_by w number call (Some a) e is = tt
+executed_by w number call None e is = executes number call e is
 
 executed_does : (w : World) (number : ℕ) (o : Option SentCall) → nth w.calls number ≡ o → Does w (executed_of w number o)
 executed_does w number None e = tt
-executed_does w number (Some call) e = executed_by w number call call.executed e
+executed_does w number (Some call) e = executed_by w number call call.executed e refl
 
 -- a place that a call or a stream has is its proxy's
 
@@ -332,13 +332,13 @@ left_does w p ticket = at_does w p (place_at w p) (left_at w p ticket) refl (λ 
 
 -- ---- lines of the store
 
-due_does : (w : World) (lease : ℕ) (o : Option WorldFault) (after : State) → expired w.store lease ≡ Ok after → Does w (expired_if w lease o after)
-due_does w lease (Some why) after e = tt
-due_does w lease None after e = expires lease after e
+due_does : (w : World) (lease : ℕ) (o : Option WorldFault) (after : State) → expired w.store lease ≡ Ok after → not_due w lease ≡ o → Does w (expired_if w lease o after)
+due_does w lease (Some why) after e due = tt
+due_does w lease None after e due = expires lease after e due
 
 expired_does : (w : World) (lease : ℕ) (r : Result State StoreFault) → expired w.store lease ≡ r → Does w (expired_by w lease r)
 expired_does w lease (Err why) e = tt
-expired_does w lease (Ok after) e = due_does w lease (not_due w lease) after e
+expired_does w lease (Ok after) e = due_does w lease (not_due w lease) after e refl
 
 applied_does : (w : World) (member revision : ℕ) (r : Result State StoreFault) → applied w.store member revision ≡ r → Does w (store_stepped w (item.Applied member revision) r)
 applied_does w member revision (Err why) e = tt

@@ -1,7 +1,7 @@
 use Rattle.std.proofs.Common.{sym, subst, ◌∙◌}
 use Rattle.std.proofs.lemmas.Bool.{false≢true}
 use Rattle.http_wire.specs.declared.scan.Place.{Place}
-use Rattle.http_wire.specs.declared.scan.Place.TheVariants.{Line, Inside, Start}
+use Rattle.http_wire.specs.declared.scan.Place.TheVariants.{Line, Inside}
 use Rattle.http_wire.specs.Places.{IsBehind}
 use Rattle.http_wire.proofs.Scanning.{some_there, behind_line, behind_start, behind_inside}
 use Rattle.http_wire.proofs.scan.behind.Goals as goal

@@ -1,4 +1,4 @@
--- Further steps were made behind each tick.
+-- Each tick so far was noted.
 use Rattle.std.proofs.Common.{◌≡◌}
 use Rattle.part_model.specs.Ticking.{SoFar}
 use Rattle.proxy_parts.proofs.ticker.keep_ticking.Given as goal
@@ -6,5 +6,6 @@ use Rattle.proxy_parts.proofs.ticker.keep_ticking.Given as goal
 abbrev pub invariant-ticks : goal.invariant-ticks
 invariant-ticks g l = record {
   home : g.T.Turn.home l.turn ≡ g.T.Turn.home l.fn.turn;
+  allowed : g.T.Turn.allowed l.fn.turn → g.T.Turn.allowed l.turn;
   ticks : SoFar (g.T.Turn.made l.fn.turn) (g.T.Turn.made l.turn) (g.D.Draw.given l.fn.draw) (g.D.Draw.given l.draw);
 }

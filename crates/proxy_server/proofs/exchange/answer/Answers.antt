@@ -3,7 +3,7 @@ use Rattle.std.proofs.Common.{refl, ◌∙◌, sym, arith, Ok, Err, None, Some}
 use Rattle.serve_model.specs.declared.ends.SessionEnd.TheVariants.{NoMemory}
 use Rattle.serve_model.specs.declared.progress.Attempt.TheVariants as attempt
 use Rattle.serve_model.specs.Dialog.{asked_of}
-use Rattle.serve_model.proofs.Exchanges.{none_tried, tried_as, one_more_try, was_told, not_told, was_refused, not_refused, not_decoded, responds_as, keeps_then}
+use Rattle.serve_model.proofs.Exchanges.{none_tried, tried_as, one_more_try, was_told, not_told, was_refused, not_refused, not_decoded, responds_as, responded_as, keeps_then}
 use Rattle.serve_model.proofs.Asks.{asked_as}
 use Rattle.serve_model.proofs.Numbers.{numbered_none, numbered_more, numbered_end, all_numbered}
 use Rattle.serve_model.proofs.Said.{keeps_itself}
@@ -12,6 +12,7 @@ use Rattle.proxy_server.proofs.exchange.answer.Goals as goal
 pub tries-init : goal.tries-init
 tries-init g c = record {
   home = refl;
+  allowed = λ a. a;
   limit = refl;
   reads = omega arith;
   writes = omega arith;
@@ -26,6 +27,7 @@ tries-preserved g c =
     let is = sym c.in-Ok-Ok.field-0-is ∙ c.in-Ok-Ok.ensures in
     record {
       home = c.in-Ok-InUse.ensures.home ∙ c.tries.invariant.home;
+      allowed = λ a. c.in-Ok-InUse.ensures.allowed (c.tries.invariant.allowed a);
       limit = c.in-Ok-InUse.ensures.limit ∙ c.tries.invariant.limit;
       reads = omega arith;
       writes = omega arith;
@@ -40,7 +42,7 @@ pub returns-in-Ok-Whole-clause-responds : goal.returns-in-Ok-Whole-clause-respon
 returns-in-Ok-Whole-clause-responds g c =
     let wanted = asked_of c.args.received.now.head c.args.received.now.body in
     let is = sym c.in-Ok-Ok.field-0-is ∙ c.in-Ok-Ok.ensures in
-    responds_as g.T.Turn.rests c.args.received.now.head.method (Ok c.in-Ok-Ok.request) wanted _ _ _ _ None is
+    responded_as g.T.Turn.rests c.args.received.now.head.method (Ok c.in-Ok-Ok.request) wanted _ _ _ _ is
     (was_told g.T.Turn.rests c.args.received.now.head.method c.in-Ok-Ok.request _ _ _ _ _ _ (tried_as g.T.Turn.rests wanted (Ok c.in-Ok-Ok.request) _ _ _ _ (sym is) c.tries.invariant.tried)
     (asked_as g.T.Turn.rests c.in-Ok-Ok.request _ _ _ _ _ attempt.Whole c.in-Ok-Whole.field-0-is c.in-Ok-Whole.ensures.asks))
 
@@ -55,8 +57,8 @@ pub returns-in-Err-respond-clause-responds : goal.returns-in-Err-respond-clause-
 returns-in-Err-respond-clause-responds g c =
     let wanted = asked_of c.args.received.now.head c.args.received.now.body in
     let is = sym c.in-Ok-Ok.field-0-is ∙ c.in-Ok-Ok.ensures in
-    responds_as g.T.Turn.rests c.args.received.now.head.method (Ok c.in-Ok-Ok.request) wanted _ _ _ _ (Some c.in-Err-respond.end) is
-    (not_told g.T.Turn.rests c.args.received.now.head.method c.in-Ok-Ok.request _ _ _ _ _ _ c.in-Err-respond.end
+    responds_as g.T.Turn.rests _ c.args.received.now.head.method (Ok c.in-Ok-Ok.request) wanted _ _ _ _ c.in-Err-respond.end is
+    (not_told g.T.Turn.rests _ c.args.received.now.head.method c.in-Ok-Ok.request _ _ _ _ _ _ c.in-Err-respond.end
     (tried_as g.T.Turn.rests wanted (Ok c.in-Ok-Ok.request) _ _ _ _ (sym is) c.tries.invariant.tried) c.in-Err-respond.ensures.asks)
 
 pub returns-in-Err-respond-clause-numbered : goal.returns-in-Err-respond-clause-numbered
@@ -70,7 +72,7 @@ pub returns-in-Ok-clause-responds : goal.returns-in-Ok-clause-responds
 returns-in-Ok-clause-responds g c =
     let wanted = asked_of c.args.received.now.head c.args.received.now.body in
     let is = sym c.in-Ok-Err.field-0-is ∙ c.in-Ok-Err.ensures in
-    responds_as g.T.Turn.rests c.args.received.now.head.method (Err c.in-Ok-Err.refused) wanted _ _ _ _ None is
+    responded_as g.T.Turn.rests c.args.received.now.head.method (Err c.in-Ok-Err.refused) wanted _ _ _ _ is
     (was_refused g.T.Turn.rests c.args.received.now.head.method c.in-Ok-Err.refused _ _ _ _ _
     (tried_as g.T.Turn.rests wanted (Err c.in-Ok-Err.refused) _ _ _ _ (sym is) c.tries.invariant.tried) c.in-Ok.ensures.written)
 
@@ -78,8 +80,8 @@ pub returns-in-Err-refuse_request-clause-responds : goal.returns-in-Err-refuse_r
 returns-in-Err-refuse_request-clause-responds g c =
     let wanted = asked_of c.args.received.now.head c.args.received.now.body in
     let is = sym c.in-Ok-Err.field-0-is ∙ c.in-Ok-Err.ensures in
-    responds_as g.T.Turn.rests c.args.received.now.head.method (Err c.in-Ok-Err.refused) wanted _ _ _ _ (Some c.end_by.result) is
-    (not_refused g.T.Turn.rests c.args.received.now.head.method c.in-Ok-Err.refused _ _ _ _ _ c.in-Err-refuse_request.fault c.end_by.result
+    responds_as g.T.Turn.rests _ c.args.received.now.head.method (Err c.in-Ok-Err.refused) wanted _ _ _ _ c.end_by.result is
+    (not_refused g.T.Turn.rests ⊥ c.args.received.now.head.method c.in-Ok-Err.refused _ _ _ _ _ c.in-Err-refuse_request.fault c.end_by.result
     (c.end_by.ensures.untold c.in-Err-refuse_request.ensures.fault) (tried_as g.T.Turn.rests wanted (Err c.in-Ok-Err.refused) _ _ _ _ (sym is) c.tries.invariant.tried) c.in-Err-refuse_request.ensures.written)
 
 pub returns-in-Err-refuse_request-clause-numbered : goal.returns-in-Err-refuse_request-clause-numbered
@@ -87,7 +89,7 @@ returns-in-Err-refuse_request-clause-numbered g c = all_numbered c.end_by.result
 
 pub returns-in-Err-clause-responds : goal.returns-in-Err-clause-responds
 returns-in-Err-clause-responds g c =
-    not_decoded g.T.Turn.rests c.args.received.now.head.method (asked_of c.args.received.now.head c.args.received.now.body) _ _ _ _ c.tries.invariant.tried
+    not_decoded g.T.Turn.rests _ c.args.received.now.head.method (asked_of c.args.received.now.head c.args.received.now.body) _ _ _ _ c.tries.invariant.tried
 
 pub returns-in-Err-clause-numbered : goal.returns-in-Err-clause-numbered
 returns-in-Err-clause-numbered g c = all_numbered NoMemory _ _ _ _ _ _ _ tt c.tries.invariant.numbered

@@ -9,6 +9,7 @@ use Rattle.proxy_server.proofs.exchange.answer.Given as goal
 abbrev pub invariant-tries : goal.invariant-tries
 invariant-tries g l = record {
   home : g.T.Turn.home l.turn ≡ g.T.Turn.home l.fn.turn;
+  allowed : g.T.Turn.allowed l.fn.turn → g.T.Turn.allowed l.turn;
   limit : l.tickets.end ≡ l.fn.tickets.end;
   reads : g.S.Source.faults l.fn.source ≤ g.S.Source.faults l.source;
   writes : g.K.Sink.faults l.fn.sink ≤ g.K.Sink.faults l.sink;

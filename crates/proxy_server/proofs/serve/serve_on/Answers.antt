@@ -1,20 +1,23 @@
 -- The exchanges, one after the other.
-use Rattle.std.proofs.Common.{refl, ◌∙◌, arith}
+use Rattle.std.proofs.Common.{refl, ◌∙◌, arith, inr}
 use Rattle.serve_model.specs.declared.ends.SessionEnd.TheVariants.{NoMemory}
 use Rattle.serve_model.proofs.Numbers.{none_last, has_tickets, numbered_none, numbered_more, numbered_end}
 use Rattle.serve_model.proofs.Serves.{at_start, goes_on, ends, no_wire}
+use Rattle.serve_model.proofs.Complete.{completes}
+use Rattle.proxy_server.proofs.Causes.{rose_before}
 use Rattle.proxy_server.proofs.serve.serve_on.Goals as goal
 
 pub returns-in_default-clause-numbered : goal.returns-in_default-clause-numbered
 returns-in_default-clause-numbered g c = none_last NoMemory _ _ _ _ (has_tickets NoMemory _ _ tt)
 
 pub returns-in_default-clause-dialog : goal.returns-in_default-clause-dialog
-returns-in_default-clause-dialog g c = no_wire g.T.Turn.rests _ _ _
+returns-in_default-clause-dialog g c = no_wire g.T.Turn.rests _ _ _ _
 
 pub requests-init : goal.requests-init
 requests-init g c = record {
   sound = c.in-Ok.ensures.fault;
   home = refl;
+  allowed = λ a. a;
   limit = refl;
   reads = omega arith;
   writes = omega arith;
@@ -26,6 +29,7 @@ pub requests-preserved : goal.requests-preserved
 requests-preserved g c = record {
   sound = c.in-None-exchange.ensures.sound;
   home = c.in-None-exchange.ensures.home ∙ c.requests.invariant.home;
+  allowed = λ a. c.in-None-exchange.ensures.allowed (c.requests.invariant.allowed a);
   limit = c.in-None-exchange.ensures.limit ∙ c.requests.invariant.limit;
   reads = omega arith;
   writes = omega arith;
@@ -39,4 +43,15 @@ returns-in-Some-exchange-clause-numbered g c =
 
 pub returns-in-Some-exchange-clause-dialog : goal.returns-in-Some-exchange-clause-dialog
 returns-in-Some-exchange-clause-dialog g c =
-    ends g.T.Turn.rests _ _ _ _ _ _ _ _ c.in-Some-exchange.end c.requests.invariant.has c.in-Some-exchange.ensures.turned
+    ends g.T.Turn.rests _ _ _ _ _ _ _ _ _ c.in-Some-exchange.end c.requests.invariant.has c.in-Some-exchange.ensures.turned
+
+pub returns-in_default-clause-complete : goal.returns-in_default-clause-complete
+returns-in_default-clause-complete g c h = inr refl
+
+pub returns-in-Some-exchange-clause-complete : goal.returns-in-Some-exchange-clause-complete
+returns-in-Some-exchange-clause-complete g c =
+    completes g.T.Turn.rests _ _ _ _ _ _ _ _ c.in-Some-exchange.end _ _ _ _ _ _
+    (ends g.T.Turn.rests _ _ _ _ _ _ _ _ _ c.in-Some-exchange.end c.requests.invariant.has c.in-Some-exchange.ensures.turned)
+    (numbered_end c.in-Some-exchange.end _ _ _ _ _ _ _ _ _ _ c.requests.invariant.limit c.requests.invariant.numbered c.in-Some-exchange.ensures.numbered)
+    (λ e. rose_before _ _ _ c.requests.invariant.reads (c.in-Some-exchange.ensures.read_cause e))
+    (λ e. rose_before _ _ _ c.requests.invariant.writes (c.in-Some-exchange.ensures.write_cause e))

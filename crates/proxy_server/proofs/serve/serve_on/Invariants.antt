@@ -11,6 +11,7 @@ invariant-requests g l = record {
   reads : g.S.Source.faults l.fn.source ≤ g.S.Source.faults l.source;
   writes : g.K.Sink.faults l.fn.sink ≤ g.K.Sink.faults l.sink;
   home : g.T.Turn.home l.turn ≡ g.T.Turn.home l.fn.turn;
+  allowed : g.T.Turn.allowed l.fn.turn → g.T.Turn.allowed l.turn;
   limit : l.tickets.end ≡ l.fn.tickets.end;
   numbered : Numbered l.fn.tickets.end l.fn.tickets.next l.tickets.next (g.D.Draw.given l.fn.draw) (g.D.Draw.given l.draw) (g.T.Turn.made l.fn.turn) (g.T.Turn.made l.turn);
   has : Has g.T.Turn.rests (g.S.Source.left l.fn.source) (bytes_ahead (g.S.Source.left l.source) l.wire) (g.T.Turn.made l.fn.turn) (g.T.Turn.made l.turn) (g.K.Sink.written l.fn.sink) (g.K.Sink.written l.sink);

@@ -21,15 +21,15 @@ returns-in-Ok-clause-quiet g c = turn_asks_none _ _ _ _ (Ok c.in-Ok-Replied.fiel
 
 pub returns-in-Ok-Replied-clause-takes : goal.returns-in-Ok-Replied-clause-takes
 returns-in-Ok-Replied-clause-takes g c =
-    unsaid_last g.T.Turn.rests c.args.ticket _ c.args.begun _ _ _ _ (Replied c.in-Ok-Replied.answer) c.end_by.result (made_as _ _ _ _ _ (Replied c.in-Ok-Replied.answer) c.in-Ok-Replied.field-0-is c.in-Ok-Replied.ensures.made) refl (c.end_by.ensures.untold c.in-Err-tell.ensures.fault) c.in-Err-tell.ensures.written
+    unsaid_last g.T.Turn.rests ⊥ c.args.ticket _ c.args.begun _ _ _ _ (Replied c.in-Ok-Replied.answer) c.end_by.result (made_as _ _ _ _ _ (Replied c.in-Ok-Replied.answer) c.in-Ok-Replied.field-0-is c.in-Ok-Replied.ensures.made) refl (c.end_by.ensures.untold c.in-Err-tell.ensures.fault) c.in-Err-tell.ensures.written
 
 pub returns-in-Ok-Item-clause-takes : goal.returns-in-Ok-Item-clause-takes
 returns-in-Ok-Item-clause-takes g c =
-    passed_on g.T.Turn.rests c.args.ticket _ c.args.begun _ _ _ _ c.in-Ok-Item.item c.pass_on.result (made_as _ _ _ _ _ (Item c.in-Ok-Item.item) c.in-Ok-Item.field-0-is c.in-Ok-Item.ensures.made) c.pass_on.ensures.passes
+    passed_on g.T.Turn.rests _ c.args.ticket _ c.args.begun _ _ _ _ c.in-Ok-Item.item c.pass_on.result (made_as _ _ _ _ _ (Item c.in-Ok-Item.item) c.in-Ok-Item.field-0-is c.in-Ok-Item.ensures.made) c.pass_on.ensures.passes
 
 pub returns-in-Ok-Item-clause-quiet : goal.returns-in-Ok-Item-clause-quiet
 returns-in-Ok-Item-clause-quiet g c = turn_asks_none _ _ _ _ (Ok c.in-Ok-Item.field-0) refl c.in-Ok-Item.ensures.made
 
 pub returns-clause-takes : goal.returns-clause-takes
 returns-clause-takes g c =
-    take_failed g.T.Turn.rests c.args.ticket _ c.args.begun _ _ _ c.in-Err.fault c.end_of.result c.end_of.ensures.is c.in-Err.ensures.made c.in-Err.ensures.fits
+    take_failed g.T.Turn.rests _ c.args.ticket _ c.args.begun _ _ _ c.in-Err.fault c.end_of.result c.end_of.ensures.is c.in-Err.ensures.worn c.in-Err.ensures.made c.in-Err.ensures.fits

@@ -1,13 +1,14 @@
 -- The call's answer, or its loss, was fed.
-use Rattle.core_model.specs.declared.event.CoreEvent.TheVariants.{Lost}
-use Rattle.work_model.proofs.Works.{call_answered, call_unanswered, fed_as}
+use Rattle.work_model.proofs.Works.{call_answered, call_unanswered}
+use Rattle.work_model.proofs.Hears.{called_as}
 use Rattle.proxy_workers.proofs.job.do_call.Goals as goal
 
-pub returns-in-Ok-clause-does : goal.returns-in-Ok-clause-does
-returns-in-Ok-clause-does g c =
-    call_answered c.args.host.now c.args.call c.args.member c.args.request.now c.in-Ok.answer c.report.result _ _ _ _ _ _ c.in-Ok.ensures.calls c.in-Ok.ensures.kept c.report.ensures.reports
+pub returns-in-Ok-clause-made : goal.returns-in-Ok-clause-made
+returns-in-Ok-clause-made g c =
+    call_answered _ c.args.host.now c.args.call c.args.member c.args.request.now c.in-Ok.answer _ _ _ _ _ _ c.report.result
+    (called_as c.args.host.now c.args.member c.kind_of-kind.result _ c.args.request.now _ _ _ _ _ c.kind_of-kind.ensures c.in-Ok.ensures) c.report.ensures.reports
 
-pub returns-in-Err-clause-does : goal.returns-in-Err-clause-does
-returns-in-Err-clause-does g c =
-    call_unanswered c.args.host.now c.args.call c.args.member c.args.request.now c.in-Err.fault c.feed.result _ _ _ _ _ _ c.in-Err.ensures.calls c.in-Err.ensures.kept
-    (fed_as (Lost c.args.call) _ _ c.feed.result _ _ c.lost_end.ensures c.feed.ensures.fed)
+pub returns-in-Err-clause-made : goal.returns-in-Err-clause-made
+returns-in-Err-clause-made g c =
+    call_unanswered _ c.args.host.now c.args.call c.args.member c.args.request.now c.in-Err.fault c.lost_end.result c.feed.result _ _ _ _ _ _ c.lost_end.ensures
+    (called_as c.args.host.now c.args.member c.kind_of-kind.result _ c.args.request.now _ _ _ _ _ c.kind_of-kind.ensures c.in-Err.ensures) c.feed.ensures.fed

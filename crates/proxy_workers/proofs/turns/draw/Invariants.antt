@@ -1,10 +1,12 @@
 -- Nothing was due so far.
-use Rattle.std.proofs.Common.{◌≡◌}
-use Rattle.work_model.proofs.Works.{IdleTold}
+use Rattle.std.proofs.Common.{◌≡◌, IsTrue}
+use Rattle.work_model.specs.Working.{IsIdle}
 use Rattle.proxy_workers.proofs.turns.draw.Given as goal
 
 abbrev pub invariant-looks : goal.invariant-looks
 invariant-looks g l = record {
   home : g.T.Turn.home l.turn ≡ g.T.Turn.home l.fn.turn;
-  idle : IdleTold g.T.Turn.rests (g.T.Turn.made l.fn.turn) (g.T.Turn.made l.turn);
+  late : IsTrue (g.T.Turn.worn l.fn.turn) → IsTrue (g.T.Turn.worn l.turn);
+  allowed : g.T.Turn.allowed l.fn.turn → g.T.Turn.allowed l.turn;
+  idle : IsIdle g.T.Turn.rests (g.T.Turn.made l.fn.turn) (g.T.Turn.made l.turn);
 }

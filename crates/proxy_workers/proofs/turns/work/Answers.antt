@@ -4,23 +4,27 @@ use Rattle.work_model.proofs.Works.{none_worked, one_more, undrawn, stopped, tur
 use Rattle.proxy_workers.proofs.turns.work.Goals as goal
 
 pub jobs-init : goal.jobs-init
-jobs-init g c = record { home = refl; working = none_worked c.args.hosts.now _ g.T.Turn.rests _ }
+jobs-init g c = record { home = refl; late = λ w. w; allowed = λ a. a; working = none_worked c.args.hosts.now _ g.T.Turn.rests _ _ }
 
 pub jobs-preserved : goal.jobs-preserved
 jobs-preserved g c = record {
   home = c.in-None.ensures.home ∙ c.in-Ok.ensures.home ∙ c.jobs.invariant.home;
-  working = one_more c.args.hosts.now _ g.T.Turn.rests _ _ _ _ _ c.in-Ok.job c.jobs.invariant.working c.in-Ok.ensures.draws
-      (done_at g.T.Seats.place_home c.args.hosts.now _ _ c.in-Ok.job _ _ _ (c.in-Ok.ensures.home ∙ c.jobs.invariant.home) c.in-None.ensures.done);
+  late = λ w. c.in-None.ensures.late (c.in-Ok.ensures.late (c.jobs.invariant.late w));
+  allowed = λ a. c.in-None.ensures.allowed (c.in-Ok.ensures.allowed (c.jobs.invariant.allowed a));
+  working = one_more c.args.hosts.now _ g.T.Turn.rests _ _ _ _ _ _ _ _ c.in-Ok.job (λ w. c.in-None.ensures.late (c.in-Ok.ensures.late w)) (λ w. c.in-None.ensures.late w)
+      c.jobs.invariant.working c.in-Ok.ensures.drawn
+      (done_at g.T.Seats.place_home c.args.hosts.now _ _ _ c.in-Ok.job _ _ _ (c.in-Ok.ensures.home ∙ c.jobs.invariant.home) c.in-None.ensures.done);
 }
 
 pub returns-in-Err-clause-worked : goal.returns-in-Err-clause-worked
 returns-in-Err-clause-worked g c =
-    undrawn c.args.hosts.now _ g.T.Turn.rests c.jobs.counter c.args.turns _ _ _ c.in-Err.end (omega arith) c.jobs.invariant.working c.in-Err.ensures.draws
+    undrawn c.args.hosts.now _ g.T.Turn.rests _ _ c.jobs.counter c.args.turns _ _ _ c.in-Err.end (λ w. c.in-Err.ensures.late w) (omega arith) c.jobs.invariant.working c.in-Err.ensures.drawn
 
 pub returns-in-Some-clause-worked : goal.returns-in-Some-clause-worked
 returns-in-Some-clause-worked g c =
-    stopped c.args.hosts.now _ g.T.Turn.rests c.jobs.counter c.args.turns _ _ _ _ c.in-Ok.job c.in-Some.end (omega arith) c.jobs.invariant.working c.in-Ok.ensures.draws
-    (done_at g.T.Seats.place_home c.args.hosts.now _ _ c.in-Ok.job _ _ _ (c.in-Ok.ensures.home ∙ c.jobs.invariant.home) c.in-Some.ensures.done)
+    stopped c.args.hosts.now _ g.T.Turn.rests _ _ _ c.jobs.counter c.args.turns _ _ _ _ c.in-Ok.job c.in-Some.end (λ w. c.in-Some.ensures.late (c.in-Ok.ensures.late w)) (λ w. c.in-Some.ensures.late w)
+    (omega arith) c.jobs.invariant.working c.in-Ok.ensures.drawn
+    (done_at g.T.Seats.place_home c.args.hosts.now _ _ _ c.in-Ok.job _ _ _ (c.in-Ok.ensures.home ∙ c.jobs.invariant.home) c.in-Some.ensures.done)
 
 pub returns-clause-worked : goal.returns-clause-worked
-returns-clause-worked g c = turned c.args.hosts.now _ g.T.Turn.rests c.jobs.counter c.args.turns _ _ (omega arith) c.jobs.invariant.working
+returns-clause-worked g c = turned c.args.hosts.now _ g.T.Turn.rests _ c.jobs.counter c.args.turns _ _ (omega arith) c.jobs.invariant.working

@@ -1,0 +1,12 @@
+pub mod Going
+pub mod Owning
+pub mod Answering
+pub mod Passing
+pub mod Claims
+pub mod Grounds
+pub mod Dues
+pub mod Sending
+pub mod Ending
+pub mod Hearing
+pub mod Steps
+pub mod Runs

@@ -1,0 +1,4 @@
+pub mod Acquires
+pub mod Entries
+pub mod Names
+pub mod Laws
