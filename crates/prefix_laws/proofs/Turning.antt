@@ -116,10 +116,10 @@ step_goes namespace items own w v p x z e told t sends =
 effect_goes : (namespace : List ℕ) (items : List Item) (w after : World) (gained : List Item) → WorldOk namespace items w → Effect w after gained → is_other gained ≡ true → (q : ℕ) (y : Place) → place_at after q ≡ Some y → PlaceGoes w gained q y
 effect_goes namespace items w _ _ h (starts p clock life' i b) o =
     placed_goes w w (i ∷ []) p (new_place w clock life') refl (λ q n. (start_silent p clock life' w i q n b).0.lives) (begins (settings w) refl)
-effect_goes namespace items w _ _ h (sets p millis x e) o = placed_goes w w (item.Clock p millis ∷ []) p (record x { clock = millis }) refl (λ q n xs. refl) (stays x e refl (λ xs. refl))
+effect_goes namespace items w _ _ h (sets p millis x e forward) o = placed_goes w w (item.Clock p millis ∷ []) p (record x { clock = millis }) refl (λ q n xs. refl) (stays x e refl (λ xs. refl))
 effect_goes namespace items w _ _ h (effects.refuses_post p ticket path body a x e) o = λ q y at. absurd (cc)
-effect_goes namespace items w _ _ h (executes number call e) o = same_goes w _ _ refl (λ q xs. refl)
-effect_goes namespace items w _ _ h (expires lease t e) o = same_goes w _ _ refl (λ q xs. refl)
+effect_goes namespace items w _ _ h (executes number call e fresh) o = same_goes w _ _ refl (λ q xs. refl)
+effect_goes namespace items w _ _ h (expires lease t e due) o = same_goes w _ _ refl (λ q xs. refl)
 effect_goes namespace items w _ _ h (applies member revision t e) o = same_goes w _ _ refl (λ q xs. refl)
 effect_goes namespace items w _ _ h (pushes number st t i e a b k) o = same_goes w _ _ refl (λ q xs. refl)
 effect_goes namespace items w _ _ h (turns p x e out v z own told at is t) o =
