@@ -6,6 +6,7 @@ use Rattle.std.specs.BTreeSet.{BTreeSet}
 use Rattle.std.proofs.lemmas.List.Folds.{list_all-append}
 use Rattle.etcd_types.specs.declared.answer.Answer.{Answer}
 use Rattle.etcd_types.proofs.Bools.{and_both}
+use Rattle.json_model.specs.WrittenReplies.{answer_status, answer_text}
 use Rattle.script_text.specs.declared.item.Item.{Item}
 use Rattle.script_text.specs.declared.item.Item.TheVariants as item
 use Rattle.script_text.specs.declared.line.Line.{Line}
@@ -121,7 +122,7 @@ replies_told T before p posted b told (r ∷ rs) h t =
     by : (c : Bool) → AllItems T ((before ++ told) ++ item.Reply p r.0 r.1 ∷ []) (body_if c p r.0 r.1)
     by false = tt
     by true = (
-      subst (λ (xs : List Item). T xs (item.Body p r.0 _ _)) (sym (append_assoc before told (item.Reply p r.0 r.1 ∷ [])))
-          (b (told ++ item.Reply p r.0 r.1 ∷ []) r.0 _ _ (list_all-append is_told told (item.Reply p r.0 r.1 ∷ []) ∙ and_both (list_all is_told told) true h refl)),
+      subst (λ (xs : List Item). T xs (item.Body p r.0 (answer_status r.1) (answer_text r.1))) (sym (append_assoc before told (item.Reply p r.0 r.1 ∷ [])))
+          (b (told ++ item.Reply p r.0 r.1 ∷ []) r.0 (answer_status r.1) (answer_text r.1) (list_all-append is_told told (item.Reply p r.0 r.1 ∷ []) ∙ and_both (list_all is_told told) true h refl)),
       tt,
     )

@@ -4,6 +4,7 @@ use Rattle.std.specs.Prelude.{flat_map}
 use Rattle.std.specs.List.{list_any}
 use Rattle.etcd_types.specs.declared.request.Request.{Request}
 use Rattle.etcd_types.specs.declared.request.Request.TheVariants as request
+use Rattle.store_model.specs.Step.{exec}
 use Rattle.core_model.specs.declared.event.CoreEvent.{CoreEvent}
 use Rattle.core_model.specs.declared.event.CoreEvent.TheVariants as event
 use Rattle.core_model.specs.declared.event.Job.TheVariants as job
@@ -22,7 +23,7 @@ use Rattle.world_model.specs.declared.fault.LineRefusal.{LineRefusal}
 use Rattle.world_model.specs.Gains.{Replies, all_fetched, reply_items}
 use Rattle.world_model.specs.Lives.{life, is_named}
 use Rattle.world_model.specs.Places.{kept_at, place_at, with_place, with_posted, with_call}
-use Rattle.world_model.specs.Sends.{next_call}
+use Rattle.world_model.specs.Sends.{next_call, next_stream}
 use Rattle.world_model.specs.Starts.{settings, new_place}
 use Rattle.world_model.specs.State.{Numbered, Place, World}
 use Rattle.world_model.specs.Transcript.{done}
@@ -74,8 +75,8 @@ turn_sends w p x _ _ _ _ _ _ r is (ticks o) f = absurd (cc)
 turn_sends w p x _ _ _ _ _ _ r is (asks_it ticket q o n) f = absurd (cc)
 turn_sends w p x _ _ _ _ _ _ r is (posts_it ticket path body q o n) f = absurd (cc)
 turn_sends w p x _ _ _ _ _ _ r is (calls own member ticket q) f = sent_named p (next_call w) own member ticket q r is
-turn_sends w p x _ _ _ _ _ _ r is (opens own member ask) f = no_call p _ _ r is (begin_no_call own member (request.Watch ask))
-turn_sends w p x _ _ _ _ _ _ r is (closes own number e) f = no_call p _ _ r is (close_no_call own)
+turn_sends w p x _ _ _ _ _ _ r is (opens own member ask) f = no_call p (item.Opened p (next_stream w) member (request.Watch ask) ∷ []) _ r is (begin_no_call own member (request.Watch ask))
+turn_sends w p x _ _ _ _ _ _ r is (closes own number e) f = no_call p (item.Closed p number ∷ []) _ r is (close_no_call own)
 turn_sends w p x _ _ _ _ _ _ r is (answers number call a o e k) f = absurd (cc)
 turn_sends w p x _ _ _ _ _ _ r is (loses number call o e) f = absurd (cc)
 turn_sends w p x _ _ _ _ _ _ r is (delivers number s i more o a b c d e) f = absurd (cc)
@@ -99,8 +100,8 @@ placed_goes w v gained p z same quiet g q y at = by (q == p) refl
     by false n = stays y (sym (placed_other w v p q z same n) ∙ at) refl (quiet q n)
 
 -- the places stay
-same_goes : (w after : World) (gained : List Item) → after.places ≡ w.places → ((q : ℕ) → Lives q gained) → (q : ℕ) (y : Place) → place_at after q ≡ Some y → PlaceGoes w gained q y
-same_goes w after gained same quiet q y at = stays y (ap (λ (ps : Numbered Place). kept_at ps q) (sym same) ∙ at) refl (quiet q)
+kept_goes : (w : World) (gained : List Item) → ((q : ℕ) → Lives q gained) → (q : ℕ) (y : Place) → place_at w q ≡ Some y → PlaceGoes w gained q y
+kept_goes w gained quiet q y at = stays y at refl (quiet q)
 
 -- a proxy made a step
 step_goes : (namespace : List ℕ) (items own : List Item) (w v : World) (p : ℕ) (x z : Place) (e : CoreEvent) (told : Replies) → Turned namespace items own w v p x z e told
@@ -118,10 +119,10 @@ effect_goes namespace items w _ _ h (starts p clock life' i b) o =
     placed_goes w w (i ∷ []) p (new_place w clock life') refl (λ q n. (start_silent p clock life' w i q n b).0.lives) (begins (settings w) refl)
 effect_goes namespace items w _ _ h (sets p millis x e forward) o = placed_goes w w (item.Clock p millis ∷ []) p (record x { clock = millis }) refl (λ q n xs. refl) (stays x e refl (λ xs. refl))
 effect_goes namespace items w _ _ h (effects.refuses_post p ticket path body a x e) o = λ q y at. absurd (cc)
-effect_goes namespace items w _ _ h (executes number call e fresh) o = same_goes w _ _ refl (λ q xs. refl)
-effect_goes namespace items w _ _ h (expires lease t e due) o = same_goes w _ _ refl (λ q xs. refl)
-effect_goes namespace items w _ _ h (applies member revision t e) o = same_goes w _ _ refl (λ q xs. refl)
-effect_goes namespace items w _ _ h (pushes number st t i e a b k) o = same_goes w _ _ refl (λ q xs. refl)
+effect_goes namespace items w _ _ h (executes number call e fresh) o = kept_goes w (item.Executed number (exec w.store call.member call.request).1 ∷ []) (λ q xs. refl)
+effect_goes namespace items w _ _ h (expires lease t e due) o = kept_goes w (item.Expired lease ∷ []) (λ q xs. refl)
+effect_goes namespace items w _ _ h (applies member revision t e) o = kept_goes w (item.Applied member revision ∷ []) (λ q xs. refl)
+effect_goes namespace items w _ _ h (pushes number st t i e a b k) o = kept_goes w (item.Pushed number i ∷ []) (λ q xs. refl)
 effect_goes namespace items w _ _ h (turns p x e out v z own told at is t) o =
     let f = all_fetched z told in
     step_goes namespace items own w v p x z e told (turned namespace items (flat_map (reply_items p f.place.posted) f.replies) w p x e out v z own told h at is t o)
