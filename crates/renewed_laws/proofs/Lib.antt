@@ -1,12 +1,12 @@
-mod Calls
-mod Stories
-mod Rows
-mod Lives
-mod Replies
-mod Fetching
+pub mod Calls
+pub mod Stories
+pub mod Rows
+pub mod Lives
+pub mod Replies
+pub mod Fetching
 pub mod Hearing
-mod Telling
-mod Gains
-mod Worlds
-mod Turns
+pub mod Telling
+pub mod Gains
+pub mod Worlds
+pub mod Turns
 pub mod Lines
