@@ -1,0 +1,4 @@
+pub mod Behind
+pub mod Has
+pub mod Ends
+pub mod Events
