@@ -139,10 +139,10 @@ served_writes_may_be_sent p (request.Txn t) created named w e guards unleased =
     record {
       is_write = tt;
       out =
-        leaves_is_txn (puts_out p) (deletes_out p) t
-        ∙ and_both (list_all (all_leaves (puts_out p) (deletes_out p)) t.success) (list_all (all_leaves (puts_out p) (deletes_out p)) t.failure)
-        (out_all p t.success first (or_first (list_any (op_touches (leasing_range p)) t.success) (list_any (op_touches (leasing_range p)) t.failure) touched))
-        (out_all p t.failure second (or_second (list_any (op_touches (leasing_range p)) t.success) (list_any (op_touches (leasing_range p)) t.failure) touched));
+          leaves_is_txn (puts_out p) (deletes_out p) t
+          ∙ and_both (list_all (all_leaves (puts_out p) (deletes_out p)) t.success) (list_all (all_leaves (puts_out p) (deletes_out p)) t.failure)
+          (out_all p t.success first (or_first (list_any (op_touches (leasing_range p)) t.success) (list_any (op_touches (leasing_range p)) t.failure) touched))
+          (out_all p t.failure second (or_second (list_any (op_touches (leasing_range p)) t.success) (list_any (op_touches (leasing_range p)) t.failure) touched));
       flat = and_both (list_all is_flat t.success) (list_all is_flat t.failure) (flat_all t.success first) (flat_all t.failure second);
       guards = guards;
       unleased = unleased;

@@ -120,9 +120,9 @@ module _ (holder : ℕ → ℕ) (v : View) (p now : ℕ) (own : ℕ → ℕ) (o 
         names = formed.1 ∙ j.same ∙ sym (ap (λ (y : Term). y.number) tm);
         timed = λ z. other_number ttl 0 some (sym told ∙ z);
         within =
-          subst (λ (d : ℕ). d ≤ max (v.terms p).deadline ((v.calls (own o.call)).at + 1000 * (v.outcomes (own o.call)).ttl)) (sym (ap (λ (b : Bool). cond b t.deadline (max t.deadline (expiry o.sent_at ttl))) some))
-          (subst (λ (d : ℕ). max t.deadline (expiry o.sent_at ttl) ≤ max d ((v.calls (own o.call)).at + 1000 * (v.outcomes (own o.call)).ttl)) (sym (ap (λ (y : Term). y.deadline) tm))
-          (max_most t.deadline (expiry o.sent_at ttl) _ (expiry_within o.sent_at ttl (v.calls (own o.call)).at (v.outcomes (own o.call)).ttl sent told)));
+            subst (λ (d : ℕ). d ≤ max (v.terms p).deadline ((v.calls (own o.call)).at + 1000 * (v.outcomes (own o.call)).ttl)) (sym (ap (λ (b : Bool). cond b t.deadline (max t.deadline (expiry o.sent_at ttl))) some))
+            (subst (λ (d : ℕ). max t.deadline (expiry o.sent_at ttl) ≤ max d ((v.calls (own o.call)).at + 1000 * (v.outcomes (own o.call)).ttl)) (sym (ap (λ (y : Term). y.deadline) tm))
+            (max_most t.deadline (expiry o.sent_at ttl) _ (expiry_within o.sent_at ttl (v.calls (own o.call)).at (v.outcomes (own o.call)).ttl sent told)));
       } in
       termed_moves holder v p now own c (record c { seat = seat_renewed o.sent_at ttl c.seat }) (record (v.terms p) { deadline = deadline }) s (renews_keep holder v p (own o.call) deadline renews h)
       (ap (λ (y : Term). record y { deadline = deadline }) tm ∙ sym (ap (λ (y : Option Standing). term_of (seat_renewed o.sent_at ttl (Some (record x { session = record x.session { standing = y } })))) j.is) ∙ ap (λ (y : Option Seat). term_of (seat_renewed o.sent_at ttl y)) (sym e)) (λ k. refl)
