@@ -1,5 +1,5 @@
 -- An acquire is sent: it is under the session that stands, and where it was spoiled while it was due, that is a turn behind it.
-use Rattle.std.proofs.Common.{◌≡◌, ◌≢◌, ℕ, ◌+◌, Bool, true, false, not, cond, ◌&&◌, List, Option, None, Some, unwrap_or, refl, sym, ◌∙◌, ap, subst}
+use Rattle.std.proofs.Common.{◌≡◌, ◌≢◌, ℕ, ◌+◌, true, false, not, cond, ◌&&◌, List, Option, None, Some, unwrap_or, refl, sym, ◌∙◌, ap}
 use Rattle.std.specs.Option.{option_map}
 use Rattle.etcd_types.specs.declared.request.Request.TheVariants as request
 use Rattle.etcd_types.specs.Keys.{is_empty}
@@ -26,10 +26,10 @@ use Rattle.lease_moves.specs.View.{Term, View, no_call}
 use Rattle.lease_moves.specs.Invariant.{Inv}
 use Rattle.row_laws.proofs.JobRows.{acquire_sends, spoiled_turns}
 use Rattle.store_moves.specs.StoreView.{is_client}
-use Rattle.call_laws.specs.Forms.{Form, Acquires}
+use Rattle.call_laws.specs.Forms.{Acquires}
 use Rattle.core_fits.specs.Fits.{SeatIsNumbered}
 use Rattle.owner_fits.specs.Acquires.{number_by, standing_number, IsDueAt}
-use Rattle.core_moves.specs.Sees.{term_by, term_of, ground_in, Sees, Moves}
+use Rattle.core_moves.specs.Sees.{term_by, term_of, ground_in, Sees}
 use Rattle.core_moves.proofs.Clocks.{rows_move, moves_on}
 use Rattle.step_moves.specs.Work.{MaySend, with_call, Worked}
 use Rattle.step_moves.proofs.Calls.{MayAcquire, mine, behind, sent_moves, goes}

@@ -13,11 +13,9 @@ use Rattle.store_model.specs.Refusals.{key_not_provided, too_many_operations}
 use Rattle.proxy_model.specs.declared.session.TheConstants.{FIRST_SESSION}
 use Rattle.proxy_model.specs.PassingOn.{chosen_lease, numbered}
 use Rattle.proxy_model.specs.Prefixes.{leasing_range}
-use Rattle.proxy_model.specs.RequestRefusals.{first_of, given, is_session, unserved, unsupported, request_lacks_key, names_session, reserved_lease}
+use Rattle.proxy_model.specs.RequestRefusals.{first_of, given, unserved, unsupported, request_lacks_key, names_session, reserved_lease}
 use Rattle.proxy_model.specs.SeveralKeys.{written_ranges}
 use Rattle.read_model.specs.declared.asked.Asked.{Asked}
-use Rattle.read_model.specs.declared.asked.Stage.{Stage}
-use Rattle.core_model.specs.declared.out_call.CallKind.{CallKind}
 use Rattle.core_model.specs.declared.out_call.OutJob.TheVariants as job
 use Rattle.core_model.specs.DueJobs.{DueJob, ForSession, ForWrites, ForAcquire, ForAsk, ForGroup, ToOpen, ForStream, first_job}
 use Rattle.core_model.specs.Groups.{group_sent}
@@ -25,7 +23,6 @@ use Rattle.core_model.specs.Kinds.{has_some, writes_keys, kind_of}
 use Rattle.core_model.specs.Refusals.{touches, reserved_range, writes_too_much, refusal_of}
 use Rattle.core_model.specs.Sending.{next_call, called_as, ask_sent, keeps_sent, goes_out}
 use Rattle.core_model.specs.State.{Core}
-use Rattle.lease_moves.specs.View as view
 use Rattle.lease_moves.specs.View.{View, no_call}
 use Rattle.lease_moves.specs.Invariant.{Inv}
 use Rattle.lease_moves.proofs.Numbers.{other_number}
@@ -36,7 +33,7 @@ use Rattle.core_fits.specs.Fits.{EachOf, CoreFits}
 use Rattle.core_moves.specs.Sees.{Sees}
 use Rattle.step_moves.specs.Work.{is_calling, is_called, ClientsFit, Worked}
 use Rattle.step_moves.proofs.Calls.{mine, goes_unseen}
-use Rattle.step_moves.proofs.Dues.{OfAsks, DueAsk, first_is}
+use Rattle.step_moves.proofs.Dues.{DueAsk, first_is}
 
 -- Which request it is: it isn't refused, and writes nothing.
 

@@ -1,5 +1,5 @@
 -- A call goes out: the view gains it, and the proxy's keys are what the sending makes of them.
-use Rattle.std.proofs.Common.{◌≡◌, ◌≢◌, ℕ, ◌+◌, true, false, ◌++◌, List, [], ◌∷◌, refl, sym, ◌∙◌, ap, subst}
+use Rattle.std.proofs.Common.{◌≡◌, ◌≢◌, ℕ, false, ◌++◌, List, [], ◌∷◌, refl, sym, ◌∙◌, ap, subst}
 use Rattle.etcd_types.specs.declared.request.Request.{Request}
 use Rattle.proxy_model.specs.Wrapped.{request_under}
 use Rattle.core_model.specs.declared.out_call.OutJob.{OutJob}
@@ -39,8 +39,8 @@ module _ (holder : ℕ → ℕ) (v : View) (p now : ℕ) (own : ℕ → ℕ) (c 
       record {
         after = sent_by v (mine x) row;
         inv =
-          sends_keep holder v (mine x) row
-          (record { compares = λ k. (at k).compares; entry = λ k. (at k).entry; under = may.under; standing = may.standing; uncovered = may.uncovered; becomes = λ k. (at k).becomes }) h;
+            sends_keep holder v (mine x) row
+            (record { compares = λ k. (at k).compares; entry = λ k. (at k).entry; under = may.under; standing = may.standing; uncovered = may.uncovered; becomes = λ k. (at k).becomes }) h;
         sees = record { clock = s.clock; term = s.term ∙ sym seat; row = λ k. ap (λ (r : List ℕ → Slot). r k) (put_here v.slots p row) };
         alike = record { rev = refl; made = refl; owners = refl; kvs = refl; told = refl; leases = refl; floors = refl; drawn = refl; sent = refl; calls = refl; outcomes = refl; clocks = refl; terms = λ q n. refl; slots = λ q n. put_there v.slots p row q n };
       }

@@ -1,5 +1,5 @@
 -- What holds of the first due call of the writes: a revoke call names what was found, and a write's own call is that of its write.
-use Rattle.std.proofs.Common.{◌≡◌, ℕ, ◌==◌, Bool, true, false, cond, not, ◌&&◌, List, [], ◌∷◌, ◌++◌, map, Option, None, Some, unwrap_or, refl, sym, ◌∙◌, ap, subst}
+use Rattle.std.proofs.Common.{◌≡◌, ℕ, ◌==◌, Bool, true, false, cond, not, List, [], ◌∷◌, ◌++◌, Option, None, Some, unwrap_or, refl, sym, ◌∙◌, ap, subst}
 use Rattle.std.specs.List.{list_all, flat_map}
 use Rattle.std.specs.Ordering.{nat_cmp, is_eq, is_lt}
 use Rattle.std.specs.Cmp.Lexicographic.{slice_cmp}
@@ -29,7 +29,6 @@ use Rattle.wait_model.specs.Writes.{first_by, has_ticket}
 use Rattle.core_model.specs.Fits.{has_number, once, write_tickets}
 use Rattle.core_laws.proofs.Lists.{number_itself, number_turned}
 use Rattle.core_fits.specs.Fits.{EachOf}
-use Rattle.core_fits.proofs.Eachs.{each_kept}
 use Rattle.owner_fits.specs.Names.{is_named, found_named, stage_named}
 
 -- A rescind: the entry stands at its key.
@@ -68,9 +67,10 @@ IsFirst ws x = first_by (has_ticket x.ticket) ws ≡ Some x
 
 firsts : (ws : List Write) → once (write_tickets ws) ≡ true → EachOf (IsFirst ws) ws
 firsts [] h = tt
-firsts (w ∷ ws) h =
-    (ap (λ b. cond b (Some w) (first_by (has_ticket w.ticket) ws)) (number_itself w.ticket),
-    behind ws (not_true (has_number (write_tickets ws) w.ticket) (and_first (not (has_number (write_tickets ws) w.ticket)) (once (write_tickets ws)) h)) (firsts ws (and_second (not (has_number (write_tickets ws) w.ticket)) (once (write_tickets ws)) h)))
+firsts (w ∷ ws) h = (
+  ap (λ b. cond b (Some w) (first_by (has_ticket w.ticket) ws)) (number_itself w.ticket),
+  behind ws (not_true (has_number (write_tickets ws) w.ticket) (and_first (not (has_number (write_tickets ws) w.ticket)) (once (write_tickets ws)) h)) (firsts ws (and_second (not (has_number (write_tickets ws) w.ticket)) (once (write_tickets ws)) h)),
+)
   where
     behind : (xs : List Write) → has_number (write_tickets xs) w.ticket ≡ false → EachOf (IsFirst ws) xs → EachOf (IsFirst (w ∷ ws)) xs
     behind [] n f = tt

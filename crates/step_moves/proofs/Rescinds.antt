@@ -1,26 +1,25 @@
 -- A rescind or a revoke call is sent.
-use Rattle.std.proofs.Common.{◌≡◌, ◌≢◌, ℕ, ◌+◌, nat_lt, Bool, true, false, not, ◌&&◌, List, Option, Some, is_some, refl, sym, ◌∙◌, ap}
+use Rattle.std.proofs.Common.{◌≡◌, ◌≢◌, ℕ, nat_lt, true, false, not, List, Some, is_some, refl, sym, ◌∙◌, ap}
 use Rattle.std.specs.List.{list_any}
 use Rattle.etcd_types.specs.Keys.{is_empty, same}
 use Rattle.etcd_types.proofs.Bools.{and_first, and_second, not_true}
 use Rattle.proxy_model.specs.declared.lease.Entry.{Entry}
 use Rattle.proxy_model.specs.Keyed.{at}
 use Rattle.wait_model.specs.declared.due.DueCall.{DueCall}
-use Rattle.wait_model.specs.declared.due.JobKind.TheVariants as kind
 use Rattle.wait_model.specs.declared.write.Write.{Write}
 use Rattle.wait_model.specs.Fits.{stage_over}
-use Rattle.wait_model.specs.Sent.{JobSent, stage_revoking, rescind_job, revoke_job}
+use Rattle.wait_model.specs.Sent.{stage_revoking, rescind_job, revoke_job}
 use Rattle.wait_model.specs.Writes.{first_by, with_first, has_ticket, sends}
 use Rattle.core_model.specs.declared.out_call.OutJob.TheVariants as job
 use Rattle.core_model.specs.Fits.{passes, is_write_job}
-use Rattle.core_model.specs.Sending.{next_call, goes_out, writes_sent}
+use Rattle.core_model.specs.Sending.{next_call, writes_sent}
 use Rattle.core_model.specs.State.{Core}
 use Rattle.core_laws.proofs.Calls.{is_new_wait}
 use Rattle.core_laws.proofs.WaitEnds.{nobody_sends}
 use Rattle.lease_moves.specs.View as view
 use Rattle.lease_moves.specs.View.{Slot, View, no_call}
 use Rattle.lease_moves.specs.Invariant.{Inv}
-use Rattle.row_laws.specs.Rows.{slot_of, row_of}
+use Rattle.row_laws.specs.Rows.{row_of}
 use Rattle.row_laws.proofs.JobRows.{rescind_sends}
 use Rattle.call_laws.specs.Forms.{Rescinds, Revokes}
 use Rattle.owner_fits.specs.Names.{is_named}

@@ -1,12 +1,12 @@
 -- The session's call is sent: its grant or its keepalive.
-use Rattle.std.proofs.Common.{◌≡◌, ◌≢◌, ℕ, ◌+◌, true, Option, None, Some, refl, sym, ◌∙◌, ap, subst}
+use Rattle.std.proofs.Common.{◌≡◌, ◌≢◌, ℕ, true, Option, None, Some, refl, sym, ◌∙◌, ap, subst}
 use Rattle.proxy_model.specs.declared.session.Standing.{Standing}
 use Rattle.proxy_model.specs.RequestRefusals.{is_session}
 use Rattle.proxy_model.specs.Session.{Session}
 use Rattle.core_model.specs.DueJobs.{ForSession}
 use Rattle.core_model.specs.Sending.{next_call, session_out, seat_sent, session_sent, goes_out}
 use Rattle.core_model.specs.Sessions.{session_request}
-use Rattle.core_model.specs.State.{Seat, Core}
+use Rattle.core_model.specs.State.{Core}
 use Rattle.core_laws.proofs.Due.{DueOk}
 use Rattle.lease_moves.specs.View as view
 use Rattle.lease_moves.specs.View.{View, no_call}

@@ -1,19 +1,17 @@
 -- The first due job is sent.
-use Rattle.std.proofs.Common.{◌≡◌, ℕ, ◌+◌, Bool, true, false, cond, List, Option, None, Some, refl, subst, ap}
+use Rattle.std.proofs.Common.{◌≡◌, ℕ, ◌+◌, cond, List, Option, None, Some, refl, subst}
 use Rattle.proxy_model.specs.declared.lease.Entry.{Entry}
-use Rattle.proxy_model.specs.Keyed.{Keyed}
-use Rattle.read_model.specs.declared.acquire.Acquire.{Acquire}
 use Rattle.wait_model.specs.declared.due.DueCall.{DueCall}
 use Rattle.wait_model.specs.declared.due.JobKind.{JobKind}
 use Rattle.wait_model.specs.declared.due.JobKind.TheVariants as kind
 use Rattle.wait_model.specs.declared.write.Write.{Write}
 use Rattle.wait_model.specs.DueOrder.{first_call, first_rescind}
-use Rattle.wait_model.specs.Sent.{is_revoke, call_job, revoke_job, write_job, call_of, call_sent, job_sent_after, job_sent}
+use Rattle.wait_model.specs.Sent.{is_revoke, revoke_job, write_job, call_of, call_sent, job_sent_after, job_sent}
 use Rattle.wait_model.specs.Writes.{first_by, has_ticket}
 use Rattle.watch_model.specs.declared.stream.StreamJob.{StreamJob}
 use Rattle.watch_model.specs.declared.stream.StreamJob.TheVariants as stream
 use Rattle.watch_model.specs.Due.{next_job}
-use Rattle.watch_model.specs.State.{Stream, Broadcasts}
+use Rattle.watch_model.specs.State.{Broadcasts}
 use Rattle.core_model.specs.DueJobs.{DueJob, ForSession, ForWrites, ForAcquire, ForAsk, ForGroup, ToOpen, ForStream, first_job}
 use Rattle.core_model.specs.Sending.{next_call, writes_sent, sent_by, on_work}
 use Rattle.core_model.specs.State.{Core}

@@ -1,12 +1,12 @@
 -- A write's own call is sent: it compares the create revisions of the entries that it writes, and 0 of every other key.
-use Rattle.std.proofs.Common.{◌≡◌, ◌≢◌, ℕ, ◌+◌, ◌==◌, Bool, true, false, not, ◌&&◌, ◌||◌, cond, ◌⊎◌, inl, inr, List, [], ◌∷◌, Option, None, Some, refl, sym, ◌∙◌, ap, subst}
+use Rattle.std.proofs.Common.{◌≡◌, ◌≢◌, ℕ, ◌+◌, ◌==◌, Bool, true, false, not, ◌&&◌, ◌||◌, cond, inl, inr, List, [], ◌∷◌, None, Some, refl, sym, ◌∙◌, ap}
 use Rattle.std.specs.List.{list_any, list_all}
 use Rattle.etcd_types.specs.declared.key_range.KeyRange.{KeyRange}
 use Rattle.etcd_types.specs.declared.operation.Op.{Op}
 use Rattle.etcd_types.specs.declared.operation.Op.TheVariants as op
 use Rattle.etcd_types.specs.declared.request.Request.{Request}
 use Rattle.etcd_types.specs.declared.request.Request.TheVariants as request
-use Rattle.etcd_types.specs.Keys.{is_empty, same}
+use Rattle.etcd_types.specs.Keys.{same}
 use Rattle.etcd_types.specs.Ranges.{is_one, contains}
 use Rattle.etcd_types.proofs.Bools.{and_first, and_second, and_both, or_first, or_second, or_right, or_false, not_true}
 use Rattle.proxy_model.specs.Guarded.{IsWrite}
@@ -14,7 +14,6 @@ use Rattle.proxy_model.specs.Keyed.{at}
 use Rattle.proxy_model.specs.LeaseTable.{is_held, is_writing}
 use Rattle.proxy_model.specs.SeveralKeys.{written_ranges}
 use Rattle.wait_model.specs.declared.due.DueCall.{DueCall}
-use Rattle.wait_model.specs.declared.sending.Sending.{Sending}
 use Rattle.wait_model.specs.declared.sending.Sending.TheVariants as sending
 use Rattle.wait_model.specs.declared.write.Write.{Write}
 use Rattle.wait_model.specs.declared.write.WriteStage.{WriteStage}
