@@ -8,3 +8,8 @@ pub mod Staging
 pub mod Rescinds
 pub mod Writing
 pub mod Working
+pub mod Orders
+pub mod Stages
+pub mod Reading
+pub mod Walk
+pub mod Lasting
