@@ -1,0 +1,15 @@
+pub mod Calls
+pub mod Sessions
+pub mod Dues
+pub mod Asks
+pub mod Acquires
+pub mod DueCalls
+pub mod Staging
+pub mod Rescinds
+pub mod Writing
+pub mod Working
+pub mod Orders
+pub mod Stages
+pub mod Reading
+pub mod Walk
+pub mod Lasting
