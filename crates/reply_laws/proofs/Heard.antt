@@ -306,14 +306,14 @@ settled_both c e now o a h j (settled.Reply ticket (Done reply)) w y t s =
     let x = in_stage (stage.Replied (verdict.Said (Done reply))) y in
     by_test (Both c e now) (y.ticket == ticket) x y
     (λ f.
-        let b = w ticket reply refl in
-        record {
-          sourced = λ r q.
-              let same = same_reply reply r q in
-              sources.wrote o b.answer b.write j (stood_on c y x stage.Writes refl refl (since_stood c y stage.Writes (writes_is y.stage (t f)) refl s)) (subst (Hears c e o) b.is h) b.first (b.named ∙ sym (same_number y.ticket ticket f))
-              (b.done ∙ ap (λ (z : Reply). Some (Wrote z)) same);
-          waiting = λ q. absurd (cc);
-        })
+    let b = w ticket reply refl in
+    record {
+      sourced = λ r q.
+          let same = same_reply reply r q in
+          sources.wrote o b.answer b.write j (stood_on c y x stage.Writes refl refl (since_stood c y stage.Writes (writes_is y.stage (t f)) refl s)) (subst (Hears c e o) b.is h) b.first (b.named ∙ sym (same_number y.ticket ticket f))
+          (b.done ∙ ap (λ (z : Reply). Some (Wrote z)) same);
+      waiting = λ q. absurd (cc);
+    })
     (λ f. record { sourced = since_sourced c e now y s; waiting = λ q. s })
 
 all_settled : (P Q : Asked → Type 0) (s : Settled) → ((y : Asked) → Settles s y → P y → Q (settled_ask s y)) → (xs : List Asked) → All (Settles s) xs → All P xs → All Q (map (settled_ask s) xs)

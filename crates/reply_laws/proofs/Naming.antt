@@ -79,17 +79,17 @@ names_last : (named : ℕ → Bool) → Lasts (IsNamed named) (AcquiresNamed nam
 names_last named = record {
   uncalled = λ y u number e. absurd (let f : true ≡ false = sym u ∙ ap is_uncalled e in cc);
   gone = λ xs k h. record {
-      order = in_order-with_at xs k None h.order;
-      tickets = λ j number x e o. gone_at (same k j) j number x h (sym (at-with_at xs k j None) ∙ e) o;
-    };
+    order = in_order-with_at xs k None h.order;
+    tickets = λ j number x e o. gone_at (same k j) j number x h (sym (at-with_at xs k j None) ∙ e) o;
+  };
   due = λ xs k y d h. record {
-      order = in_order-with_at xs k (Some y) h.order;
-      tickets = λ j number x e o. due_at' (same k j) y j number x d h (sym (at-with_at xs k j (Some y)) ∙ e) o;
-    };
+    order = in_order-with_at xs k (Some y) h.order;
+    tickets = λ j number x e o. due_at' (same k j) y j number x d h (sym (at-with_at xs k j (Some y)) ∙ e) o;
+  };
   less = λ xs p h. record {
-      order = from_T _ (is_sorted-where_key (slice_cmp nat_cmp) (λ x. not (p x)) xs (to_T _ h.order));
-      tickets = λ j number x e o. gone_at (p j) j number x h (sym (at-without p xs j) ∙ e) o;
-    };
+    order = from_T _ (is_sorted-where_key (slice_cmp nat_cmp) (λ x. not (p x)) xs (to_T _ h.order));
+    tickets = λ j number x e o. gone_at (p j) j number x h (sym (at-without p xs j) ∙ e) o;
+  };
 }
   where
     gone_at : {xs : Keyed Acquire} (b : Bool) (j : List ℕ) (number : ℕ) (x : Acquire) → AcquiresNamed named xs → cond b None (at xs j) ≡ Some x → x.sending ≡ sending.Out number → named x.ticket ≡ true
