@@ -1,12 +1,12 @@
 -- The replies that are told behind a step: each ok one was given by the step itself, or stood ready behind it.
-use Rattle.std.proofs.Common.{◌≡◌, ℕ, zero, suc, ◌+◌, ◌==◌, Bool, true, false, cond, List, [], ◌∷◌, length, Option, None, Some, Result, Ok, Err, refl, sym, ◌∙◌, ap, subst}
+use Rattle.std.proofs.Common.{◌≡◌, ℕ, zero, suc, List, [], ◌∷◌, length, Option, None, Some, Result, Ok, Err, refl, sym, ◌∙◌, ap, subst}
 use Rattle.std.specs.declared.cmp.Ordering.{Ordering}
 use Rattle.std.specs.declared.cmp.Ordering.TheVariants.{Less, Equal, Greater}
 use Rattle.std.specs.FinMap.{put, nat_cmp-IsAntisymmetric}
 use Rattle.std.specs.FinMap.Entries.{by_order}
 use Rattle.std.specs.Ordering.{nat_cmp}
 use Rattle.etcd_types.specs.declared.answer.Answer.{Answer}
-use Rattle.etcd_types.specs.declared.answer.Answer.TheVariants.{Done, Refused}
+use Rattle.etcd_types.specs.declared.answer.Answer.TheVariants.{Done}
 use Rattle.etcd_types.specs.declared.answer.Reply.{Reply}
 use Rattle.etcd_types.specs.declared.request.Request.{Request}
 use Rattle.read_model.specs.declared.asked.Asked.{Asked}
@@ -25,8 +25,7 @@ use Rattle.core_laws.proofs.Lists.{same_number}
 use Rattle.core_laws.proofs.Stepping.{steps_keep}
 use Rattle.keep_laws.proofs.Rows.{All}
 use Rattle.keep_laws.proofs.Runs.{found}
-use Rattle.world_model.specs.Asks.{told_at_once}
-use Rattle.world_model.specs.Gains.{Replies, Fetched, with_reply, fetched_as, fetched_if, fetched, all_fetched}
+use Rattle.world_model.specs.Gains.{Replies, with_reply, fetched_as, fetched_if, fetched, all_fetched}
 use Rattle.world_model.specs.Places.{place_at, with_core}
 use Rattle.world_model.specs.State.{Place, World, word}
 use Rattle.script_text.specs.declared.item.Item.{Item}
@@ -39,7 +38,6 @@ use Rattle.prefix_laws.specs.Comes.{IsReady, Comes, AllCome, ToldRepliesCome, As
 use Rattle.prefix_laws.specs.Comes as comes
 use Rattle.reply_laws.specs.Sources as sources
 use Rattle.reply_laws.specs.Sources.{Stood, Hears, Decides, wins, settles, Source, Given}
-use Rattle.reply_laws.proofs.Before.{since_start}
 use Rattle.reply_laws.proofs.Given.{given_have_sources}
 use Rattle.reply_laws.proofs.Sources.{replies_have_sources}
 

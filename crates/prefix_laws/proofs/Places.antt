@@ -1,18 +1,15 @@
 -- What holds of each proxy behind each prefix of a script.
-use Rattle.std.proofs.Common.{◌≡◌, ℕ, zero, suc, ◌+◌, ◌≤◌, ◌==◌, Bool, true, false, cond, ◌||◌, List, [], ◌∷◌, ◌++◌, append_assoc, length, Option, None, Some, Result, Ok, Err, refl, sym, ◌∙◌, ap, subst, arith}
-use Rattle.std.specs.List.{list_any}
-use Rattle.etcd_types.proofs.Bools.{or_left}
+use Rattle.std.proofs.Common.{◌≡◌, ℕ, zero, suc, ◌+◌, ◌≤◌, Bool, true, false, ◌||◌, List, [], ◌∷◌, ◌++◌, append_assoc, length, Option, None, Some, Result, Ok, Err, refl, sym, ◌∙◌, ap, subst, arith}
 use Rattle.core_model.specs.declared.event.CoreEvent.{CoreEvent}
 use Rattle.core_model.specs.declared.event.CoreEvent.TheVariants as event
 use Rattle.core_model.specs.declared.event.Outcome.{Outcome}
 use Rattle.core_model.specs.declared.event.Outcome.TheVariants as outcome
 use Rattle.core_model.specs.declared.event.StepFault.{StepFault}
-use Rattle.core_model.specs.declared.event.StepFault.TheVariants as fault
 use Rattle.core_model.specs.declared.settings.Settings.{Settings}
 use Rattle.core_model.specs.Fits.{CoreOk}
 use Rattle.core_model.specs.State.{Core, first_core}
 use Rattle.core_model.specs.Step.{is_worn, stepped}
-use Rattle.core_model.specs.Stepped.{Stepped, faults}
+use Rattle.core_model.specs.Stepped.{Stepped}
 use Rattle.core_model.specs.Takes.{ready}
 use Rattle.core_laws.specs.Kept.{IsHeard}
 use Rattle.core_laws.proofs.Outcomes.{worn_does_nothing}
@@ -22,19 +19,17 @@ use Rattle.core_fits.specs.Ready.{TakesReply}
 use Rattle.core_fits.proofs.Fit.{fits_start, fits_step}
 use Rattle.core_fits.proofs.Ready.{nothing_ready, ready_is_taken}
 use Rattle.script_text.specs.declared.item.Item.{Item}
-use Rattle.script_text.specs.declared.line.Line.{Line}
-use Rattle.world_model.specs.Gains.{Replies, Fetched, with_reply, fetched_as, fetched_if, fetched, all_fetched}
+use Rattle.world_model.specs.Gains.{Replies, with_reply, fetched_as, fetched_if, fetched}
 use Rattle.world_model.specs.Lives.{names, life, is_named}
 use Rattle.world_model.specs.Places.{place_at, with_core}
 use Rattle.world_model.specs.State.{Place, World}
-use Rattle.world_model.specs.Transcript.{done}
 use Rattle.held_laws.proofs.Worlds.{no_place}
-use Rattle.renewed_laws.proofs.Lives.{Lives, life_on, lives-append}
+use Rattle.renewed_laws.proofs.Lives.{Lives, life_on}
 use Rattle.renewed_laws.proofs.Worlds.{WorldOk}
 use Rattle.prefix_laws.specs.Prefixes.{EachProxyAgrees, EachProxyFits, WhatIsOutIsNamed, NoReplyIsLeft}
 use Rattle.reply_laws.specs.Named.{AreNamed, NamesCall}
 use Rattle.reply_laws.proofs.Naming.{starts_named, steps_name}
-use Rattle.prefix_laws.proofs.Prefixes.{IsKept, Known, every_told}
+use Rattle.prefix_laws.proofs.Prefixes.{IsKept, every_told}
 use Rattle.prefix_laws.proofs.Turning.{named_by, PlaceGoes, stays, begins, steps, line_goes}
 
 -- ---- replies are fetched

@@ -1,12 +1,12 @@
 -- What holds at a script's first line, and is kept by each line that is taken, holds behind each prefix with its items.
-use Rattle.std.proofs.Common.{◌≡◌, ℕ, ◌+◌, List, [], ◌∷◌, ◌++◌, append_assoc, append-nil, Option, None, Some, Result, Ok, Err, refl, sym, ◌∙◌, ap, subst}
+use Rattle.std.proofs.Common.{◌≡◌, ℕ, ◌+◌, List, [], ◌∷◌, ◌++◌, append_assoc, append-nil, Option, None, Some, Result, Ok, Err, refl, sym, subst}
 use Rattle.script_text.specs.declared.item.Item.{Item}
 use Rattle.script_text.specs.declared.item.Item.TheVariants as item
 use Rattle.script_text.specs.declared.line.Line.{Line}
 use Rattle.script_text.specs.declared.line.Line.TheVariants as line
 use Rattle.world_model.specs.declared.fault.LineRefusal.{LineRefusal}
 use Rattle.world_model.specs.State.{World, starting_world}
-use Rattle.world_model.specs.Transcript.{Taken, done, counted_as, begun, taken, and_then, items_and_then, world_from, world_behind, transcript_from, transcript}
+use Rattle.world_model.specs.Transcript.{Taken, done, counted_as, taken, and_then, items_and_then, world_from, world_behind, transcript_from, transcript}
 use Rattle.renewed_laws.specs.Renewals.{AnswersShowBytes}
 use Rattle.renewed_laws.proofs.Hearing.{show-split}
 use Rattle.renewed_laws.proofs.Lines.{TakenSo, taken_so, begun_ok}

@@ -1,10 +1,9 @@
 -- What each item tells by the items before it, line by line.
-use Rattle.std.proofs.Common.{◌≡◌, ℕ, Bool, true, false, ◌&&◌, List, [], ◌∷◌, ◌++◌, append_assoc, append-nil, Option, None, Some, Result, Ok, Err, refl, sym, ◌∙◌, ap, subst}
+use Rattle.std.proofs.Common.{◌≡◌, ℕ, Bool, true, false, List, [], ◌∷◌, ◌++◌, append_assoc, append-nil, Some, Result, Ok, Err, refl, sym, ◌∙◌, subst}
 use Rattle.std.specs.Prelude.{flat_map}
 use Rattle.std.specs.List.{list_all}
 use Rattle.std.specs.BTreeSet.{BTreeSet}
 use Rattle.std.proofs.lemmas.List.Folds.{list_all-append}
-use Rattle.etcd_types.specs.declared.answer.Answer.{Answer}
 use Rattle.etcd_types.proofs.Bools.{and_both}
 use Rattle.json_model.specs.WrittenReplies.{answer_status, answer_text}
 use Rattle.script_text.specs.declared.item.Item.{Item}

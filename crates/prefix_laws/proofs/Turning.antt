@@ -1,7 +1,6 @@
 -- What each line that is taken makes of a proxy's place, by the items that it gains.
-use Rattle.std.proofs.Common.{◌≡◌, ℕ, ◌==◌, Bool, true, false, cond, ◌&&◌, ◌||◌, List, [], ◌∷◌, ◌++◌, Option, None, Some, Result, Ok, Err, refl, sym, ◌∙◌, ap, subst}
+use Rattle.std.proofs.Common.{◌≡◌, ℕ, ◌==◌, Bool, true, false, ◌&&◌, ◌||◌, List, [], ◌∷◌, ◌++◌, Some, Result, Ok, refl, sym, ◌∙◌, ap, subst}
 use Rattle.std.specs.Prelude.{flat_map}
-use Rattle.std.specs.List.{list_any}
 use Rattle.etcd_types.specs.declared.request.Request.{Request}
 use Rattle.etcd_types.specs.declared.request.Request.TheVariants as request
 use Rattle.store_model.specs.Step.{exec}
@@ -12,20 +11,19 @@ use Rattle.core_model.specs.declared.event.Outcome.{Outcome}
 use Rattle.core_model.specs.declared.event.Outcome.TheVariants as outcome
 use Rattle.core_model.specs.declared.event.StepFault.{StepFault}
 use Rattle.core_model.specs.declared.settings.Settings.{Settings}
-use Rattle.core_model.specs.State.{Core, first_core}
+use Rattle.core_model.specs.State.{first_core}
 use Rattle.core_model.specs.Step.{stepped}
 use Rattle.core_laws.specs.Kept.{IsHeard}
 use Rattle.core_laws.proofs.Lists.{number_itself}
 use Rattle.script_text.specs.declared.item.Item.{Item}
 use Rattle.script_text.specs.declared.item.Item.TheVariants as item
 use Rattle.script_text.specs.declared.line.Line.{Line}
-use Rattle.world_model.specs.declared.fault.LineRefusal.{LineRefusal}
 use Rattle.world_model.specs.Gains.{Replies, all_fetched, reply_items}
-use Rattle.world_model.specs.Lives.{life, is_named}
-use Rattle.world_model.specs.Places.{kept_at, place_at, with_place, with_posted, with_call}
+use Rattle.world_model.specs.Lives.{is_named}
+use Rattle.world_model.specs.Places.{place_at, with_place, with_posted, with_call}
 use Rattle.world_model.specs.Sends.{next_call, next_stream}
 use Rattle.world_model.specs.Starts.{settings, new_place}
-use Rattle.world_model.specs.State.{Numbered, Place, World}
+use Rattle.world_model.specs.State.{Place, World}
 use Rattle.world_model.specs.Transcript.{done}
 use Rattle.world_laws.proofs.Effects.{Turn, ticks, asks_it, posts_it, calls, opens, closes, answers, loses, delivers, cuts, takes, waits, leaves, Begins, first, again, Effect, starts, sets, executes, expires, applies, pushes, turns}
 use Rattle.world_laws.proofs.Effects as effects

@@ -1,6 +1,5 @@
 -- Where the ok replies come from that a line tells: the line's step of the proxy gave it, or it stood ready behind that step and was fetched.
 use Rattle.std.specs.Prelude.{◌≡◌, ℕ, [], ◌∷◌, Some, Ok}
-use Rattle.etcd_types.specs.declared.answer.Answer.{Answer}
 use Rattle.etcd_types.specs.declared.answer.Answer.TheVariants.{Done}
 use Rattle.etcd_types.specs.declared.answer.Reply.{Reply}
 use Rattle.etcd_types.specs.declared.request.Request.{Request}
