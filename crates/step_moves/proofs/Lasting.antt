@@ -1,18 +1,23 @@
--- What the sending of a job asks for beside: at the start, and by each step.
-use Rattle.std.proofs.Common.{◌≡◌, ℕ, Bool, true, false, List, [], ◌∷◌, refl, sym, ◌∙◌, ap, subst}
+-- What the sending of a job asks for beside: at the start, by each step, after each run.
+use Rattle.std.proofs.Common.{◌≡◌, Bool, true, false, List, [], ◌∷◌, refl, sym, ◌∙◌, ap}
 use Rattle.etcd_types.specs.Keys.{is_empty}
 use Rattle.read_model.specs.declared.asked.Asked.{Asked}
 use Rattle.core_model.specs.Asking.{is_leased_read}
-use Rattle.core_model.specs.State.{Core}
+use Rattle.core_model.specs.Fits.{CoreOk}
+use Rattle.core_model.specs.State.{Core, first_core}
 use Rattle.core_model.specs.Step.{stepped}
+use Rattle.core_laws.specs.Kept.{after, ran, Timed, AllHeard}
 use Rattle.core_laws.proofs.Middle.{clock_whole}
+use Rattle.core_laws.proofs.Start.{start_fits}
 use Rattle.core_laws.proofs.Staying.{steps_stay}
+use Rattle.core_laws.proofs.Stepping.{steps_keep}
 use Rattle.core_laws.proofs.Whole.{of_ok}
-use Rattle.core_fits.specs.Fits.{EachOf, is_reading}
+use Rattle.core_fits.specs.Fits.{EachOf, is_reading, CoreFits}
 use Rattle.core_fits.proofs.Eachs.{each_kept}
+use Rattle.core_fits.proofs.Fit.{fits_start, fits_step}
 use Rattle.core_fits.proofs.Prefix.{clock_prefix}
 use Rattle.step_moves.specs.Work.{is_calling, is_called}
-use Rattle.step_moves.specs.Lasting.{SendingStarts, SendingLasts}
+use Rattle.step_moves.specs.Lasting.{SendingFits, SendingStarts, SendingLasts, SendingRuns}
 use Rattle.step_moves.proofs.Stages.{Fits}
 use Rattle.step_moves.proofs.Walk.{stepped_fit}
 
@@ -39,3 +44,10 @@ sending_lasts c e now ok reads h =
     zipped : (b : Bool) → is_empty c.own.waits.prefix ≡ b → EachOf (Fits c.own.waits.prefix) c.asks
     zipped true e = alone c.asks e reads
     zipped false e = both c.asks (h.clients e) reads
+
+run_fits : (c : Core) (xs : List Timed) → CoreOk c → CoreFits c → SendingFits c → AllHeard c xs → SendingFits (ran c xs)
+run_fits c [] k h s b = s
+run_fits c (x ∷ xs) k h s b = run_fits (after c x) xs (steps_keep c x.event x.now b.0 k) (fits_step c x.event x.now k h) (sending_lasts c x.event x.now k h.read s) b.1
+
+pub sending_runs : SendingRuns
+sending_runs settings xs b = run_fits (first_core settings) xs (start_fits settings) (fits_start settings) (sending_starts settings) b

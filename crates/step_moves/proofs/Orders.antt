@@ -1,10 +1,9 @@
 -- Whatever is done to entries, they stand in the order of their keys.
-use Rattle.std.proofs.Common.{◌≡◌, ℕ, ◌+◌, Bool, true, false, not, cond, ◌&&◌, ◌||◌, List, [], ◌∷◌, map, Option, None, Some, is_some, refl, sym, ◌∙◌, ap}
+use Rattle.std.proofs.Common.{◌≡◌, ℕ, ◌+◌, Bool, true, false, not, cond, ◌&&◌, List, [], ◌∷◌, Option, None, Some, is_some, refl, ◌∙◌, ap}
 use Rattle.std.specs.List.{list_any}
-use Rattle.std.specs.Option.{option_map}
 use Rattle.std.specs.Ordering.{nat_cmp, is_lt}
 use Rattle.std.specs.Cmp.Lexicographic.{slice_cmp}
-use Rattle.std.specs.FinMap.Entries.{below_all, is_sorted, is_sorted-where_key}
+use Rattle.std.specs.FinMap.Entries.{below_all, is_sorted-where_key}
 use Rattle.etcd_types.specs.Keys.{same}
 use Rattle.etcd_types.specs.declared.answer.Answer.{Answer}
 use Rattle.etcd_types.specs.declared.answer.Answer.TheVariants as answer
@@ -31,13 +30,13 @@ use Rattle.wait_model.specs.Asked.{acquire_spoiled}
 use Rattle.wait_model.specs.Covers.{shares, is_by_keys, is_single}
 use Rattle.wait_model.specs.DueOrder.{first_call, first_rescind}
 use Rattle.wait_model.specs.Edits.{each, without}
-use Rattle.wait_model.specs.Endings.{answered, answered_job, lost, lost_job, given_back, forgotten, forgotten_by, revoke_answered, revoke_back, without_out}
+use Rattle.wait_model.specs.Endings.{answered, answered_job, lost, lost_job, forgotten, forgotten_by, revoke_answered, revoke_back, without_out}
 use Rattle.wait_model.specs.ForeignOwnership.{is_own, owned_left, by_key, finding}
 use Rattle.wait_model.specs.GuardedAnswers.{Ending, is_gone, owns_at, other_owners, kept_entries, unwrote_entries, left_entries, done_if, write_answered, write_lost, staged_by}
 use Rattle.wait_model.specs.Leaving.{rest, rescinded, if_read, rescind_answered}
-use Rattle.wait_model.specs.Notices.{owned_key, put_noticed, noticed, all_noticed, revoked_turn, deleted_turn}
+use Rattle.wait_model.specs.Notices.{owned_key, put_noticed, noticed, all_noticed, revoked_turn}
 use Rattle.wait_model.specs.Passes.{goes, turn, passed, proceeded}
-use Rattle.wait_model.specs.Phases.{is_of, is_leaving, own_entry, rescind_sent}
+use Rattle.wait_model.specs.Phases.{is_of, is_leaving, own_entry}
 use Rattle.wait_model.specs.Sent.{JobSent, is_revoke, revoke_job, write_job, call_of, call_sent, job_sent_after, job_sent}
 use Rattle.wait_model.specs.SeveralKeys.{by_ranges, given_up_over}
 use Rattle.wait_model.specs.SingleKeys.{Turn, any_key, keys_begun, by_keys, let_go_leased, begun_over}

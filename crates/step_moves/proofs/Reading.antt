@@ -7,11 +7,10 @@ use Rattle.etcd_types.specs.declared.code.TheConstants.{NOT_FOUND}
 use Rattle.etcd_types.specs.declared.record.Header.{Header}
 use Rattle.etcd_types.specs.declared.record.Kv.{Kv}
 use Rattle.std.specs.Option.{option_to_list}
-use Rattle.proxy_model.specs.declared.lease.Entry.{Entry}
 use Rattle.proxy_model.specs.declared.ownership.Claim.{Claim}
 use Rattle.proxy_model.specs.declared.ownership.Claim.TheVariants.{Acquired, OwnedBy}
 use Rattle.proxy_model.specs.Acquire.{claimed}
-use Rattle.proxy_model.specs.Keyed.{Keyed, at}
+use Rattle.proxy_model.specs.Keyed.{at}
 use Rattle.proxy_model.specs.Snapshot.{plain_body}
 use Rattle.wait_model.specs.Endings.{answered, lost, forgotten}
 use Rattle.wait_model.specs.GuardedAnswers.{Ending}
@@ -20,7 +19,7 @@ use Rattle.wait_model.specs.State.{Ownership}
 use Rattle.read_model.specs.declared.acquire.Acquire.{Acquire}
 use Rattle.read_model.specs.declared.asked.Asked.{Asked}
 use Rattle.read_model.specs.declared.asked.Verdict.TheVariants as verdict
-use Rattle.read_model.specs.Acquires.{AfterAcquire, told, told_lost, acquire_gone, with_entry, won, found_own, acquired, owned_by, acquire_done, done_by, acquire_refused, answered_acquire, is_to_be_held, acquire_lost, acquire_answered}
+use Rattle.read_model.specs.Acquires.{AfterAcquire, told, told_lost, acquire_gone, won, found_own, acquired, owned_by, acquire_done, done_by, acquire_refused, answered_acquire, is_to_be_held, acquire_lost, acquire_answered}
 use Rattle.read_model.specs.PlainRead.{ask_key, shown, decision, begun_under, decided_ground}
 use Rattle.read_model.specs.Release.{ask_stands, released_ground, released_from, released}
 use Rattle.read_model.specs.SessionEnd.{over, session_over, dropped}

@@ -1,5 +1,5 @@
 -- What each event makes of the entries and requests of a proxy, up to a whole step.
-use Rattle.std.proofs.Common.{Bool, Err, List, None, Ok, Option, Result, Some, [], ap, cond, false, map, not, refl, subst, sym, true, ℕ, ◌++◌, ◌==◌, ◌||◌, ◌∙◌, ◌∷◌, ◌≡◌}
+use Rattle.std.proofs.Common.{Bool, Err, List, None, Ok, Option, Result, Some, ap, cond, false, map, not, refl, subst, sym, true, ℕ, ◌==◌, ◌||◌, ◌∙◌, ◌≡◌}
 use Rattle.etcd_types.specs.declared.answer.Answer.{Answer}
 use Rattle.etcd_types.specs.declared.answer.Answer.TheVariants.{Done, Refused}
 use Rattle.etcd_types.specs.declared.answer.Body.{Body}
@@ -16,7 +16,7 @@ use Rattle.core_model.specs.ClockWork.{begun, clock_work, requests_timed_out, ti
 use Rattle.core_model.specs.Ends.{acquire_if, answer_of, answered_call, answered_job, ask_answered, ask_done, call_gone, heard_call, is_keepalive, is_stale_reply, loss_of, lost_ask, lost_call, lost_job, member_failed, on_answer, on_lost, or_lost, reads_if, said, stale_once, with_caller}
 use Rattle.core_model.specs.Groups.{group_ended, group_sent, group_since, groups_ended, is_out_for, joining}
 use Rattle.core_model.specs.Heard.{header_taken, heard}
-use Rattle.core_model.specs.Kinds.{is_body_of, is_read, writes_keys}
+use Rattle.core_model.specs.Kinds.{is_body_of, writes_keys}
 use Rattle.core_model.specs.Lookups.{ask_at, calls_as, has_ticket, is_known, leases, live_number, moment, out_at, reads_of, with_reads, without_ask}
 use Rattle.core_model.specs.Sessions.{deadline_passed, grant_failed, granted_by, keep_failed, kept, kept_by, seat_calls, seat_is_over, seat_ticked, without_session}
 use Rattle.core_model.specs.State.{Core, Opening}
@@ -31,7 +31,6 @@ use Rattle.core_model.specs.Refusals.{refusal_of}
 use Rattle.etcd_types.specs.declared.record.Header.{Header}
 use Rattle.etcd_types.specs.declared.watch.WatchItem.{WatchItem}
 use Rattle.proxy_model.specs.Unwrapped.{Unwrapped, item_without}
-use Rattle.wait_model.specs.ForeignOwnership.{stage_gone}
 use Rattle.wait_model.specs.LeasingStream.{resynced}
 use Rattle.wait_model.specs.Sent.{JobSent, job_sent}
 use Rattle.core_model.specs.declared.event.CoreEvent.{CoreEvent}
@@ -39,7 +38,7 @@ use Rattle.core_model.specs.declared.event.Outcome.{Outcome}
 use Rattle.core_model.specs.declared.event.StepFault.{StepFault}
 use Rattle.core_model.specs.DueJobs.{DueJob, ForAcquire, ForAsk, ForGroup, ForSession, ForStream, ForWrites, ToOpen, first_job}
 use Rattle.core_model.specs.LeasingStream.{is_readable, item_header, leasing_cancelled, leasing_created, leasing_cut, leasing_item, leasing_message, leasing_ticked, leasing_told, message_if_sent, own_created}
-use Rattle.core_model.specs.Sending.{called_as, next_call, on_work, sent_by, writes_sent}
+use Rattle.core_model.specs.Sending.{next_call, on_work, sent_by, writes_sent}
 use Rattle.core_model.specs.Step.{client_cut, client_item, cut_of, happened, is_worn, item_of, on_cut, on_item, on_tick, opening_at, stepped, ticked}
 use Rattle.core_model.specs.Takes.{has_left, item_taken, left, on_leave, on_take, taken, watcher_left}
 use Rattle.core_model.specs.Watching.{stream_item, stream_job, stream_message, taken_item, with_watches}
@@ -56,7 +55,7 @@ use Rattle.etcd_types.proofs.Bools.{not_false}
 use Rattle.step_moves.specs.Work.{is_called, is_calling}
 use Rattle.step_moves.proofs.Orders.{Ordered, Rises, SentOrdered, each_rises, job_sent_ordered, message_ordered, pass_ordered}
 use Rattle.step_moves.proofs.Stages.{Fit, Fits, at_rest, called_fits, caller_fits, each_fits, group_fits, group_sent_fits, is_watch, lost_ask_fits, read_fits, replied_fits, stale_fits, times_fit, written_or_called}
-use Rattle.step_moves.proofs.Reading.{AfterFits, ReadsFit, ReadsFitIf, acquire_answered_fit, acquire_lost_fit, decided_entries, session_over_fit, taken_off_fit, wait_answered_fit, wait_lost_fit}
+use Rattle.step_moves.proofs.Reading.{AfterFits, ReadsFitIf, acquire_answered_fit, acquire_lost_fit, decided_entries, session_over_fit, taken_off_fit, wait_answered_fit, wait_lost_fit}
 use Rattle.core_model.specs.LeasingStream as leasing
 use Rattle.core_model.specs.Takes as takes
 use Rattle.core_model.specs.Watching as watching

@@ -2,7 +2,7 @@
 #![tactic(auto)]
 
 ghost use Rattle.step_moves.specs.Work.{WorkMoves};
-ghost use Rattle.step_moves.specs.Lasting.{SendingStarts, SendingLasts};
+ghost use Rattle.step_moves.specs.Lasting.{SendingStarts, SendingLasts, SendingRuns};
 
 /// The first due job is sent: the view gains its call, in its form, or nothing goes out.
 pub fn work_moves()
@@ -13,4 +13,5 @@ pub fn work_moves()
 pub fn sendings_fit()
     ensures starts { SendingStarts }
     ensures steps { SendingLasts }
+    ensures runs { SendingRuns }
 {}
