@@ -58,7 +58,7 @@ module _ (old apart first last new : Known (Opening Core) Step) (j : Joins old a
       let s = j.grows.0 in (
         s.0,
         subst (λ (h : Home (Opening Core)). Runs CoreSteps (opening_of h) new.seen s.0) (sym hub_last)
-        (subst (λ (log : List Step). Runs CoreSteps (opening_of last.hub) log s.0) (sym seen_last) s.1),
+            (subst (λ (log : List Step). Runs CoreSteps (opening_of last.hub) log s.0) (sym seen_last) s.1),
       )
 
   limit_last : is_at_limit last ≡ is_at_limit new

@@ -149,7 +149,11 @@ fn run_connection<R: Wait, S: Source, K: Sink, C: Clock, D: Draw>(
         (S.faults source.old) (S.faults source.new) (K.faults sink.old)
         (K.faults sink.new) result.1 }
 {
-    let Place { hub, hosts, mut pass } = place;
+    let Place {
+        hub,
+        hosts,
+        mut pass,
+    } = place;
     let end = serve_connection(
         rt, alloc, &hub, &mut pass, tickets, clock, draw, source, sink,
     );

@@ -45,11 +45,7 @@ impl<'a, R: Wait> Seating<'a, R> {
         ensures grows { Grows pass result.seated.pass }
     {
         let seated = Seated::new(rt, hub, pass);
-        Seating {
-            seated,
-            hub,
-            hosts,
-        }
+        Seating { seated, hub, hosts }
     }
 
     /// Gives the pass back.

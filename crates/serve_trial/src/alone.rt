@@ -69,10 +69,7 @@ impl Alone {
 fn is_late(fault: TurnFault) -> bool
     ensures { result ≡ is_late fault }
 {
-    matches!(
-        fault,
-        TurnFault::Worn | TurnFault::Core(StepFault::Worn)
-    )
+    matches!(fault, TurnFault::Worn | TurnFault::Core(StepFault::Worn))
 }
 
 impl Turn for Alone {

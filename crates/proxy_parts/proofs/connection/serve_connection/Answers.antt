@@ -18,18 +18,18 @@ pub returns-clause-allowed : goal.returns-clause-allowed
 returns-clause-allowed g c =
     let last = c.serve_on-end.new.turn in
     let grows = seat_grows c.split-mine.result c.new-seated.result.begun.value last.begun.value c.new-seated.result.pass last.pass last.pass
-        c.new-seated.ensures.begun (begun_of _ _ c.serve_on-end.ensures.home) c.new-seated.ensures.grows c.serve_on-end.ensures.allowed (λ i. last.pass) in
+    c.new-seated.ensures.begun (begun_of _ _ c.serve_on-end.ensures.home) c.new-seated.ensures.grows c.serve_on-end.ensures.allowed (λ i. last.pass) in
     let hub = hub_of _ _ c.serve_on-end.ensures.home ∙ c.new-seated.ensures.hub ∙ ap (λ (k : Known (Opening Core) Step). k.hub) c.split-mine.ensures.new in
     let j = joins_as c.args.pass.now c.split-mine.new.pass c.split-mine.result c.new-seated.result.pass last.pass c.into_pass.result c.join.new.pass
-        c.split-mine.ensures.pass c.split-mine.ensures.new c.new-seated.ensures.made grows hub c.into_pass.ensures c.join.ensures.pass c.join.ensures.seen c.join.ensures.made in
+    c.split-mine.ensures.pass c.split-mine.ensures.new c.new-seated.ensures.made grows hub c.into_pass.ensures c.join.ensures.pass c.join.ensures.seen c.join.ensures.made in
     joined_sound c.args.pass.now c.split-mine.result c.new-seated.result.pass last.pass c.join.new.pass j
 
 pub returns-clause-dialog : goal.returns-clause-dialog
 returns-clause-dialog g c =
     let last = c.serve_on-end.new.turn in
     let grows = seat_grows c.split-mine.result c.new-seated.result.begun.value last.begun.value c.new-seated.result.pass last.pass last.pass
-        c.new-seated.ensures.begun (begun_of _ _ c.serve_on-end.ensures.home) c.new-seated.ensures.grows c.serve_on-end.ensures.allowed (λ i. last.pass) in
+    c.new-seated.ensures.begun (begun_of _ _ c.serve_on-end.ensures.home) c.new-seated.ensures.grows c.serve_on-end.ensures.allowed (λ i. last.pass) in
     let hub = hub_of _ _ c.serve_on-end.ensures.home ∙ c.new-seated.ensures.hub ∙ ap (λ (k : Known (Opening Core) Step). k.hub) c.split-mine.ensures.new in
     let j = joins_as c.args.pass.now c.split-mine.new.pass c.split-mine.result c.new-seated.result.pass last.pass c.into_pass.result c.join.new.pass
-        c.split-mine.ensures.pass c.split-mine.ensures.new c.new-seated.ensures.made grows hub c.into_pass.ensures c.join.ensures.pass c.join.ensures.seen c.join.ensures.made in
+    c.split-mine.ensures.pass c.split-mine.ensures.new c.new-seated.ensures.made grows hub c.into_pass.ensures c.join.ensures.pass c.join.ensures.seen c.join.ensures.made in
     joined_dialog c.args.pass.now c.split-mine.result c.new-seated.result.pass last.pass c.join.new.pass j _ _ _ c.serve_on-end.result c.serve_on-end.ensures.dialog
