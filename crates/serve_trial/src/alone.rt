@@ -1,5 +1,5 @@
-ghost use Rattle.std.specs.Prelude.{◌≡◌, ◌≢◌, [], Some, IfErr, IsTrue};
-ghost use Rattle.serve_model.specs.Steps.{MadeBy, Fits, is_late};
+ghost use Rattle.std.specs.Prelude.{◌≡◌, true, [], Some};
+ghost use Rattle.serve_model.specs.Steps.{MadeBy, Fits};
 ghost use Rattle.serve_trial.specs.Alone.{told, IsWork};
 
 use crate::small::Core;
@@ -24,7 +24,6 @@ pub struct Alone {
     core: Core,
     steps: Vec<Noted>,
     tells: bool,
-    worn: bool,
 }
 
 impl Alone {
@@ -36,7 +35,6 @@ impl Alone {
             core: Core::new(alloc, used),
             steps: Vec::new(alloc),
             tells: true,
-            worn: false,
         }
     }
 
@@ -44,8 +42,6 @@ impl Alone {
     fn step<C: Clock>(&mut self, event: CoreEvent, clock: &mut C) -> Result<Outcome, TurnFault>
         ensures made { MadeBy (told self.old) (told self.new) event (C.last clock.new) result }
         ensures fits { Fits event result }
-        ensures early { IfErr result (λ why. why ≢ TurnFault.Worn) }
-        ensures worn { self.new.worn ≡ self.old.worn }
     {
         let now = clock.now();
         let asked = Snapshot::of(&event);
@@ -65,13 +61,6 @@ impl Alone {
     }
 }
 
-/// Whether no more steps are made.
-fn is_late(fault: TurnFault) -> bool
-    ensures { result ≡ is_late fault }
-{
-    matches!(fault, TurnFault::Worn | TurnFault::Core(StepFault::Worn))
-}
-
 impl Turn for Alone {
     type Home = ();
 
@@ -81,7 +70,8 @@ impl Turn for Alone {
 
     ghost rests = { IsWork };
 
-    ghost worn = { λ a. a.worn };
+    // it doesn't tell whether more steps are made
+    ghost worn = { λ a. true };
 
     ghost allowed = { λ a. Unit {0} };
 
@@ -93,10 +83,7 @@ impl Turn for Alone {
     fn rest<C: Clock>(&mut self, clock: &mut C) -> Result<(), TurnFault> {
         match self.step(CoreEvent::Work, clock) {
             Ok(_) => Ok(()),
-            Err(fault) => {
-                self.worn = self.worn || is_late(fault);
-                Err(fault)
-            }
+            Err(fault) => Err(fault),
         }
     }
 }
