@@ -10,6 +10,7 @@ answers    each path of the API, watches and refusals too, by curl through the c
 truth      clients at random on a few keys through two proxies, while proxies are killed, restarted and stopped for longer
            than their session lives, and members are killed, stopped, compacted and defragmented: no read is older than a
            write that was acknowledged before it began
+links      the same, while the links between proxies and members are cut, in one direction, in both or wholly, held half open, and slow
 watches    a thousand equal watches through one proxy: the cluster counts one watcher more, each client gets each event
            once and in order, over a killed member
 rest       watches and owned keys at rest for two minutes, while the cluster is compacted each ten seconds: none is
@@ -17,20 +18,30 @@ rest       watches and owned keys at rest for two minutes, while the cluster is 
            and its watches are rightly cancelled behind a compaction)
 clients    a thousand connections with a hundred requests each; a client that stops at every byte of a request; bytes that are
            no request, and what they are answered
-leavers    clients that went away leave no thread and no watcher
+halves     clients that close their sending half behind a request have its reply
+leavers    clients that went away leave no thread, no descriptor and no watcher, also where the members say nothing
 canceled   watches that the members cancel, of an empty range and behind a compaction, pile up no threads
 room       memory and threads at rest are what they were
 limit      4,096 connections are served, a further one is closed, and one that ended makes room
+quiet      a proxy that makes no call while the member that its watches are on is killed or hangs: each of its watches, one or a hundred
+           distinct ones, with leasing and without, goes on at another member, within 5 s and 25 s
+quiet_owner
+           a proxy that answers cached reads alone gives a key up that another one wants to write, within the same
+restored   another store behind the members' addresses ends the proxy with status 7 within 10 s, and members that restart in turn don't
+auth       once the cluster wants to know of users, cached reads end with the session, and one line for each member says so
+pauses     neither streams for which there is no thread nor members that are all down keep a processor busy
+workers    that all workers are inside calls is told, and 64 of them are enough where 8 aren't
+vanished   watches whose clients vanish, without a word, end within two minutes
 down       with all members down cached reads go on to the session's end, and all else is refused; all is well once they are back
 
---short is what the gate runs: the first three and `clients` with smaller numbers, with no mark of time, in less than two minutes.
+--short is what the gate runs: the first four, `clients`, `quiet` and `quiet_owner`, with smaller numbers and with patience for a busy machine.
 """
-import base64, http.client, json, os, random, re, resource, selectors, shutil, signal, socket, subprocess, sys, tempfile, threading, time
+import base64, contextlib, http.client, http.server, itertools, json, os, random, re, resource, selectors, shutil, signal, socket, subprocess, sys, tempfile, threading, time
 
 LEASING = "L/"
 
-# What is waited for may take so many times as long, where it is asked for what is right and not for how soon.
-PATIENCE = 1
+# What is waited for may take so many times as long, where it is asked for what is right and not for how soon, or beside other work.
+PATIENCE = float(os.environ.get("PATIENCE", 1))
 
 
 def text64(text):
@@ -85,7 +96,11 @@ class Cluster:
         self.processes = [None] * count
         for number in range(count):
             self.start(number)
-        until(lambda: all(self.answers(n) for n in range(count)), 30, "the cluster answers")
+        try:
+            until(lambda: all(self.answers(n) for n in range(count)), 30, "the cluster answers")
+        except Failure:
+            self.stop()
+            raise
 
     def start(self, number):
         url = f"http://127.0.0.1:{self.ports[number]}"
@@ -97,6 +112,13 @@ class Cluster:
                  "--advertise-client-urls", url, "--listen-peer-urls", peer, "--initial-advertise-peer-urls", peer,
                  "--initial-cluster", others, "--initial-cluster-state", "new"],
                 stdout=log, stderr=log)
+
+    def restore(self, number, backup):
+        """Makes the data of a member anew from a backup, which keeps the cluster's number."""
+        others = ",".join(f"m{n}=http://127.0.0.1:{p}" for n, p in enumerate(self.peers))
+        subprocess.run(["etcdctl", "snapshot", "restore", backup, "--name", f"m{number}", "--data-dir", f"{self.folder}/m{number}",
+                        "--initial-cluster", others, "--initial-advertise-peer-urls", f"http://127.0.0.1:{self.peers[number]}"],
+                       capture_output=True, check=True, env={**os.environ, "ETCDCTL_API": "3"})
 
     def signal(self, number, what):
         self.processes[number].send_signal(what)
@@ -140,9 +162,13 @@ class Cluster:
                 process.wait()
 
 
+# how a line of the program begins, but those on what it serves and on why it ended
+LINE = re.compile(r"serving |listener fault$|\d{4}-\d\d-\d\dT\d\d:\d\d:\d\d\.\d{3}Z (INFO|WARN|ERROR) etcd_proxy: ")
+
+
 class Proxy:
-    def __init__(self, program, cluster, folder, name, *options):
-        self.program, self.cluster, self.options = program, cluster, options
+    def __init__(self, program, cluster, folder, name, *options, listen="127.0.0.1"):
+        self.program, self.cluster, self.options, self.listen = program, cluster, options, listen
         self.port = free_port()
         self.told = f"{folder}/{name}.told"
         self.start()
@@ -151,7 +177,7 @@ class Proxy:
         endpoints = ",".join(f"127.0.0.1:{port}" for port in self.cluster.ports)
         with open(self.told, "ab") as told:
             self.process = subprocess.Popen(
-                [self.program, "grpc-proxy", "start", f"--endpoints={endpoints}", f"--listen-addr=127.0.0.1:{self.port}",
+                [self.program, "grpc-proxy", "start", f"--endpoints={endpoints}", f"--listen-addr={self.listen}:{self.port}",
                  *self.options], stderr=told)
         until(self.answers, 15, "the proxy answers")
 
@@ -172,6 +198,28 @@ class Proxy:
         with open(f"/proc/{self.process.pid}/status") as status:
             text = status.read()
         return int(re.search(r"Threads:\s+(\d+)", text)[1]), int(re.search(r"VmRSS:\s+(\d+)", text)[1])
+
+    def files(self):
+        """Its descriptors."""
+        return len(os.listdir(f"/proc/{self.process.pid}/fd"))
+
+    def busy(self, seconds):
+        """How many processors it takes from now on for so long."""
+        def taken():
+            with open(f"/proc/{self.process.pid}/stat") as stat:
+                fields = stat.read().rsplit(")", 1)[1].split()
+            return (int(fields[11]) + int(fields[12])) / os.sysconf("SC_CLK_TCK")
+        before, start = taken(), time.monotonic()
+        time.sleep(seconds)
+        return (taken() - before) / (time.monotonic() - start)
+
+    def lines(self, what=""):
+        """What it wrote on its standard error with this text in it."""
+        with open(self.told) as told:
+            lines = told.read().splitlines()
+        for line in lines:
+            check(LINE.match(line), f"a line is: {line}")
+        return [line for line in lines if what in line]
 
     def stop(self):
         if self.process.poll() is None:
@@ -495,6 +543,125 @@ def truth(world):
           f"meanwhile {', '.join(happened)}")
 
 
+# ---- links that fail
+
+class Relay(threading.Thread):
+    """What lies between proxies and one member: it may hold what goes to the member, what comes from it, or both, lose the member's end of each
+    connection, refuse connections, and be slow."""
+
+    def __init__(self, target):
+        super().__init__(daemon=True)
+        self.target, self.listener, self.state, self.ended = target, None, "well", False
+        self.lock, self.pairs = threading.Lock(), []
+        self.port = free_port()
+        self.listen()
+        self.start()
+
+    def listen(self):
+        self.listener = socket.create_server(("127.0.0.1", self.port), backlog=256)
+        self.listener.settimeout(0.1)
+
+    def run(self):
+        while not self.ended:
+            try:
+                client, _ = self.listener.accept()
+                member = socket.create_connection(("127.0.0.1", self.target), 5)
+            except OSError:
+                time.sleep(0.01)
+                continue
+            with self.lock:
+                self.pairs.append((client, member))
+            for source, sink, way in ((client, member, "to"), (member, client, "from")):
+                source.settimeout(0.2)
+                threading.Thread(target=self.carry, args=(source, sink, way), daemon=True).start()
+
+    def carry(self, source, sink, way):
+        """Carries what comes one way, and its end."""
+        piece = b""
+        while not self.ended:
+            try:
+                piece = piece or source.recv(65536)
+                if self.state in (way, "both"):
+                    time.sleep(0.02)
+                    continue
+                if self.state == "slow":
+                    time.sleep(0.05)
+                if not piece:
+                    break
+                sink.sendall(piece)
+                piece = b""
+            except TimeoutError:
+                continue
+            except OSError:
+                break
+        for end in (source, sink) if self.state != "half" else ():
+            end.close()
+
+    def become(self, state):
+        """How it carries from now on: well, to, from, both, slow, half or cut."""
+        if self.state == "cut":
+            self.listen()
+        self.state = state
+        with self.lock:
+            pairs, self.pairs = self.pairs, [] if state in ("half", "cut") else self.pairs
+        if state == "cut":
+            self.listener.close()
+        for client, member in pairs if state in ("half", "cut") else ():
+            for end in (member, client) if state == "cut" else (member,):
+                try:
+                    end.shutdown(socket.SHUT_RDWR)
+                except OSError:
+                    pass
+
+    def stop(self):
+        self.become("cut")
+        self.ended = True
+
+
+class Relays:
+    """A relay before each member, as a cluster that proxies may be started before."""
+
+    def __init__(self, cluster):
+        self.all = [Relay(port) for port in cluster.ports]
+        self.ports = [relay.port for relay in self.all]
+
+    def stop(self):
+        for relay in self.all:
+            relay.stop()
+
+
+def links(world):
+    """No read is older than an acknowledged write, whatever the links do."""
+    chance, relays = random.Random(world.seed), Relays(world.cluster)
+    proxies = [world.proxy(f"links{n}", f"--leasing-prefix={LEASING}", before=relays) for n in range(2)]
+    book, ended, happened, states = Book(), threading.Event(), [], []
+    keys = [f"k/{n}" for n in range(20)]
+    clients = [Writer(book, [p.port for p in proxies], world.cluster.ports, keys, 100 + seed, ended) for seed in range(8)]
+    for client in clients:
+        client.start()
+    threading.Timer(18 if world.short else 90, ended.set).start()
+    while not ended.wait(1):
+        states = states or chance.sample(["to", "from", "both", "slow", "half", "cut"], 6)
+        # one link, or all: then nothing but cached reads is answered
+        some, state = chance.choice([relays.all, *([relay] for relay in relays.all)]), states.pop()
+        for relay in some:
+            relay.become(state)
+        ended.wait(chance.choice([1, 2, world.ttl + 3]) if not world.short else 2)
+        for relay in some:
+            relay.become("well")
+        happened.append(f"{state} {len(some)}")
+    for client in clients:
+        client.join(30)
+    check(not book.faults, "\n  ".join(["stale reads:"] + book.faults[:10]))
+    check(book.reads > 50 and book.writes > 10, f"only {book.reads} reads and {book.writes} writes came through")
+    for proxy in proxies:
+        until(proxy.answers, 15, "the proxy answers once the links are well")
+        proxy.stop()
+    relays.stop()
+    print(f"links: {book.reads} reads, {book.writes} acknowledged writes, {book.unknown} without an answer, none stale; "
+          f"meanwhile {', '.join(happened)}")
+
+
 # ---- equal watches
 
 class Watch:
@@ -702,6 +869,35 @@ def clients(world):
     print(f"clients: {count} connections had {times} replies each, {refused} of them refusals; stops at {len(whole)} bytes and {len(WRONG)} wrong requests were told")
 
 
+def halves(world):
+    """A client that closed its sending half has its reply."""
+    proxy, count = world.proxy("halves", "--workers=64"), 600
+    put(proxy, "h/0", "v")
+    told = []
+
+    def ask(path, body):
+        body = json.dumps(body).encode()
+        for _ in range(count // 12):
+            told.append(exchanged(proxy.port, head(b"Content-Length: %d" % len(body), path=path) + body)[:12])
+
+    asked = [(b"/v3/kv/put", {"key": text64(f"h/{n}"), "value": text64("w")}) for n in range(6)] + [
+        (b"/v3/kv/range", {"key": text64(f"h/{n}")}) for n in range(6)]
+    threads = [threading.Thread(target=ask, args=one) for one in asked]
+    for one in threads:
+        one.start()
+    for one in threads:
+        one.join()
+    check(told == [b"HTTP/1.1 200"] * count, f"{told.count(b'HTTP/1.1 200')} of {count} clients that closed their sending half had a reply")
+    time.sleep(2)
+    threads, watch = proxy.counts()[0], Watch(proxy.port, {"key": text64("h/")})
+    watched([watch], lambda: watch.created, 10, "a watch is created")
+    watch.socket.shutdown(socket.SHUT_WR)
+    watched([watch], lambda: watch.ended, 25, "a watch whose client closed its sending half ends")
+    until(lambda: proxy.counts()[0] <= threads, 10, "its threads end")
+    proxy.stop()
+    print(f"halves: {count} clients that closed their sending half behind a request had their replies")
+
+
 def leavers(world):
     """Clients that went away leave nothing."""
     proxy = world.proxy("leavers")
@@ -720,8 +916,16 @@ def leavers(world):
     until(lambda: proxy.counts()[0] <= threads + 1, 30, "threads of clients that went away are gone")
     put(proxy, "w/0", "w")
     until(lambda: proxy.counts()[0] <= threads and world.cluster.watchers() <= stood, 30, "nothing of clients that went away is left")
+    files = proxy.files()
+    some = [Watch(proxy.port, {"key": text64(f"idle/{n}")}) for n in range(300)]
+    watched(some, lambda: all(w.created for w in some), 30, "all watches are created")
+    check(world.cluster.watchers() >= stood + 300, "watches of distinct ranges have a watcher each")
+    for one in some:
+        one.socket.close()
+    until(lambda: proxy.counts()[0] <= threads and proxy.files() <= files and world.cluster.watchers() <= stood, 25,
+          "nothing is left of clients that watched what nobody wrote")
     proxy.stop()
-    print("leavers: 1,800 watches and 1,800 idle connections that went away left no thread and no watcher")
+    print("leavers: 1,800 watches, 1,800 idle connections and 300 watches of distinct idle ranges that went away left no thread, descriptor or watcher")
 
 
 def canceled(world):
@@ -793,6 +997,310 @@ def limit(world):
     print(f"limit: {most} connections were served at once, a further one was closed, and all threads ended")
 
 
+# ---- members that fail before a proxy that makes no call
+
+def side_by_side(*runs):
+    """Does these at the same time, and fails where one does."""
+    failures = []
+
+    def tried(run):
+        try:
+            run()
+        except Exception as error:
+            failures.append(error)
+
+    threads = [threading.Thread(target=tried, args=(run,)) for run in runs]
+    for thread in threads:
+        thread.start()
+    for thread in threads:
+        thread.join()
+    if failures:
+        raise failures[0]
+
+
+# how a member fails, and for how many seconds at most a proxy that makes no call may be without it
+FAILS = {"killed": (signal.SIGKILL, 5), "hung": (signal.SIGSTOP, 25)}
+
+# a session that lives so long isn't renewed meanwhile
+LONG = 3600
+
+
+def other_put(cluster, keys, value):
+    """Puts keys in one transaction, past the proxies and the first member, once that can be done. Its revision."""
+    body = {"success": [{"request_put": {"key": text64(key), "value": text64(value)}} for key in keys]}
+    end = time.monotonic() + 20 * PATIENCE
+    for port in itertools.cycle(cluster.ports[1:]):
+        told = post(port, "/v3/kv/txn", body, 5)
+        if told is not None and told[0] == 200:
+            return int(told[1]["header"]["revision"])
+        check(time.monotonic() < end, "no member takes a write beside one that fails")
+
+
+def failing_member(world, how, test):
+    """Does the test over a cluster of its own, whose first member it lets fail."""
+    with world.beside(how) as beside:
+        what, seconds = FAILS[how]
+        test(beside, how, lambda: beside.cluster.signal(0, what), seconds)
+
+
+def quiet(world):
+    """Watches leave a member that fails, where no call does."""
+    ways = [(count, options) for count in ((100,) if world.short else (1, 100)) for options in ((), (f"--leasing-prefix={LEASING}",))]
+
+    took = []
+
+    def test(beside, how, fail, seconds):
+        keys = [f"q/{n}" for n in range(100)]
+        proxies = [(beside.proxy(f"quiet{n}", *options, ttl=LONG), count) for n, (count, options) in enumerate(ways)]
+        watches = [Watch(proxy.port, {"key": text64(key)}) for proxy, count in proxies for key in keys[:count]]
+        watched(watches, lambda: all(w.created for w in watches), 30, "all watches are created")
+        # until a stream was silent for a while
+        time.sleep(7)
+        fail()
+        revision = other_put(beside.cluster, keys, "v")
+        begun = time.monotonic()
+        watched(watches, lambda: all(w.ended or w.events and w.events[-1][0] >= revision for w in watches), seconds, "all events come")
+        took.append(f"{how} {time.monotonic() - begun:.1f} s")
+        # a put whose answer was lost may have been done, and is done again
+        other = [(w.ended, w.events) for w in watches if w.ended or w.events != watches[0].events or w.events[-1] != (revision, "v")]
+        check(not other, f"beside the event of {revision}, {len(other)} watches (ended, events): {other[:3]}")
+
+    side_by_side(*(lambda how=how: failing_member(world, how, test) for how in FAILS))
+    print(f"quiet: the watches of {len(ways)} proxies that made no call left a member that failed ({', '.join(took)})")
+
+
+def quiet_owner(world):
+    """An owner hears of another proxy's write where the member that it hears of it from fails."""
+
+    took = []
+
+    def test(beside, how, fail, seconds):
+        owner, other = (beside.proxy(f"owner{n}", f"--leasing-prefix={LEASING}", ttl=LONG) for n in range(2))
+        read = lambda: owner.post("/v3/kv/range", {"key": text64("o/0")})
+        put(owner, "o/0", "v")
+        check(read()[0] == 200 and read()[0] == 200, "a read is answered")
+        check("kvs" in beside.cluster.ask("/v3/kv/range", {"key": text64(LEASING + "o/0")}), "the key has an owner")
+        time.sleep(7)
+        fail()
+        check(read()[0] == 200, "a cached read is answered")
+        # a write that was on its way to a leader that fails is lost, which takes the cluster seconds to tell
+        other_put(beside.cluster, ["o/1"], "v")
+        begun = time.monotonic()
+        told = lambda: other.post("/v3/kv/put", {"key": text64("o/0"), "value": text64("w")})
+        until(lambda: (told() or (0,))[0] == 200, seconds, "the other proxy's put is answered")
+        took.append(f"{how} {time.monotonic() - begun:.1f} s")
+        kvs = (read() or (0, {}))[1].get("kvs", [])
+        check(kvs == [] or base64.b64decode(kvs[0]["value"]) == b"w", f"a read behind that put showed {kvs}")
+
+    side_by_side(*(lambda how=how: failing_member(world, how, test) for how in FAILS))
+    print(f"quiet_owner: another proxy wrote a key of one that answered cached reads alone, behind a member that failed ({', '.join(took)})")
+
+
+def etcdctl(cluster, number, *words):
+    told = subprocess.run(["etcdctl", f"--endpoints=127.0.0.1:{cluster.ports[number]}", *words], capture_output=True,
+                          env={**os.environ, "ETCDCTL_API": "3"})
+    check(told.returncode == 0, f"etcdctl {words}: {told.stderr.decode()}")
+
+
+def restored(world):
+    """Another history behind the members' addresses ends a proxy."""
+    with world.beside("restored") as beside:
+        cluster, proxy = beside.cluster, beside.proxy("restored", f"--leasing-prefix={LEASING}", ttl=60)
+        put(proxy, "s/0", "v")
+        etcdctl(cluster, 0, "snapshot", "save", f"{beside.folder}/backup")
+        for number in range(50):
+            put(proxy, "s/0", str(number))
+        for number in range(3):
+            cluster.kill(number)
+            time.sleep(2)
+            cluster.start(number)
+            until(lambda: all(cluster.answers(n) for n in range(3)), 30, "the members answer")
+            time.sleep(6)
+            check(proxy.process.poll() is None, "a proxy ended while members restarted in turn")
+        for number in range(3):
+            cluster.kill(number)
+        for number in range(3):
+            shutil.rmtree(f"{beside.folder}/m{number}")
+            cluster.restore(number, f"{beside.folder}/backup")
+        for number in range(3):
+            cluster.start(number)
+        until(lambda: all(cluster.answers(n) for n in range(3)), 30, "the restored members answer")
+        until(lambda: proxy.process.poll() is not None, 10, "a proxy of another history ends")
+        check(proxy.process.poll() == 7, f"it ended with status {proxy.process.poll()}")
+        check(proxy.lines("another history"), f"the proxy told: {proxy.lines()}")
+    print("restored: a proxy outlived members that restarted in turn, and ended with status 7 behind a store that was restored")
+
+
+def auth(world):
+    """A cluster that wants to know of users serves this proxy no more."""
+    with world.beside("auth") as beside:
+        proxy = beside.proxy("auth", f"--leasing-prefix={LEASING}")
+        read = lambda: proxy.post("/v3/kv/range", {"key": text64("a/0")})
+        put(proxy, "a/0", "v")
+        check(read()[0] == 200 and read()[0] == 200, "a read is answered")
+        etcdctl(beside.cluster, 0, "user", "add", "root:root")
+        etcdctl(beside.cluster, 0, "auth", "enable")
+        # each member is asked within 5 s, and what is kept alive then lives on
+        until(lambda: (read() or (200,))[0] != 200, beside.ttl + 8, "a cached read is answered no more")
+        time.sleep(2)
+        check((read() or (200,))[0] != 200, "a read is refused")
+        proxy.stop()
+        check(len(proxy.lines("asks for a user")) == 3, f"the proxy told: {proxy.lines()}")
+    print("auth: cached reads ended with the session once the cluster wanted to know of users")
+
+
+def pauses(world):
+    """Nothing turns without a pause."""
+    proxy = world.proxy("pauses", f"--leasing-prefix={LEASING}", "--workers=64", ttl=60)
+    put(proxy, "p/0", "v")
+    until(lambda: proxy.post("/v3/kv/range", {"key": text64("p/0")})[0] == 200, 10, "a key is read")
+    # each has its thread before there are no more
+    some = [socket.create_connection(("127.0.0.1", proxy.port), 30) for _ in range(30)]
+    time.sleep(2)
+    # room for all but the stack of a further thread
+    with open(f"/proc/{proxy.process.pid}/status") as status:
+        room = int(re.search(r"VmSize:\s+(\d+)", status.read())[1]) * 1024 + (6 << 20)
+    limits = resource.prlimit(proxy.process.pid, resource.RLIMIT_AS)
+    resource.prlimit(proxy.process.pid, resource.RLIMIT_AS, (room, limits[1]))
+    for number, one in enumerate(some):
+        body = json.dumps({"create_request": {"key": text64(f"p/{number}")}}).encode()
+        one.sendall(head(b"Content-Length: %d" % len(body), path=b"/v3/watch") + body)
+    time.sleep(1)
+    unthreaded = proxy.busy(10)
+    told = proxy.lines("can't start a thread")
+    check(1 <= len(told) <= 12, f"for want of a thread there were {len(told)} lines")
+    check(unthreaded < 0.05 * PATIENCE, f"with no thread for 30 streams the proxy took {unthreaded:.3f} processors")
+    resource.prlimit(proxy.process.pid, resource.RLIMIT_AS, limits)
+    for one in some:
+        check(one.recv(12) == b"HTTP/1.1 200", "a watch is created once there are threads")
+        one.close()
+    for number in range(3):
+        world.cluster.kill(number)
+    lost = [threading.Thread(target=proxy.post, args=("/v3/kv/put", {"key": text64(f"p/{n}"), "value": ""})) for n in range(2)]
+    for one in lost:
+        one.start()
+    time.sleep(2)
+    down = proxy.busy(10)
+    check(down < 0.05 * PATIENCE, f"with all members down the proxy took {down:.3f} processors")
+    for number in range(3):
+        world.cluster.start(number)
+    until(lambda: all(world.cluster.answers(n) for n in range(3)), 30, "the members answer")
+    until(lambda: proxy.post("/v3/kv/put", {"key": text64("p/0"), "value": text64("w")})[0] == 200, 2, "a put is done once the members are back")
+    for one in lost:
+        one.join()
+    proxy.stop()
+    print(f"pauses: {unthreaded:.3f} processors with no thread for 30 streams, {down:.3f} with all members down")
+
+
+class Slow:
+    """A member that answers calls after so many seconds, by what another one answers."""
+
+    def __init__(self, member, seconds):
+        class Handler(http.server.BaseHTTPRequestHandler):
+            protocol_version = "HTTP/1.1"
+
+            def do_POST(self):
+                body = self.rfile.read(int(self.headers["Content-Length"]))
+                time.sleep(seconds)
+                told = post(member, self.path, body.decode())
+                text = json.dumps(told[1] if told else {}).encode()
+                self.send_response(told[0] if told else 503)
+                self.send_header("Content-Length", str(len(text)))
+                self.end_headers()
+                self.wfile.write(text)
+
+            def log_message(self, *_):
+                pass
+
+        class Server(http.server.ThreadingHTTPServer):
+            request_queue_size = 512
+
+        self.server = Server(("127.0.0.1", 0), Handler)
+        self.ports = [self.server.server_address[1]]
+        threading.Thread(target=self.server.serve_forever, daemon=True).start()
+
+    def stop(self):
+        self.server.shutdown()
+        self.server.server_close()
+
+
+def workers(world):
+    """That all workers are inside calls is told."""
+    slow, count = Slow(world.cluster.ports[0], 0.2), 60
+    for number, is_busy in ((8, True), (64, False)):
+        proxy = Proxy(world.program, slow, world.folder, f"workers{number}", f"--workers={number}")
+        world.proxies.append(proxy)
+        told, ended = [], threading.Event()
+
+        def asks():
+            while not ended.is_set():
+                answer = proxy.post("/v3/kv/range", {"key": text64("?")})
+                told.append(answer and answer[0])
+
+        asking = [threading.Thread(target=asks) for _ in range(count)]
+        for one in asking:
+            one.start()
+        time.sleep(5)
+        ended.set()
+        for one in asking:
+            one.join()
+        lines = proxy.lines(f"all {number} workers")
+        check(len(lines) == is_busy, f"with {number} workers it was told {len(lines)} times that all were inside calls")
+        check(is_busy or told.count(200) == len(told), f"with {number} workers {told.count(200)} of {len(told)} reads had an answer")
+        proxy.stop()
+    slow.stop()
+    print(f"workers: {count} clients at a member that takes 0.2 s: told once with 8 workers, never with 64")
+
+
+@contextlib.contextmanager
+def far_away():
+    """A network of its own, by its name, which is reached over a link, by the name of its end here, at an address here; or nothing where there
+    can be none."""
+    name, ours, theirs, here, there = f"far{os.getpid()}", f"fo{os.getpid()}", f"ft{os.getpid()}", "10.213.47.1", "10.213.47.2"
+    ip = lambda *words: subprocess.run(["ip", *words], capture_output=True, check=True)
+    try:
+        ip("netns", "add", name)
+    except (OSError, subprocess.CalledProcessError):
+        yield None
+        return
+    try:
+        ip("link", "add", ours, "type", "veth", "peer", "name", theirs, "netns", name)
+        ip("addr", "add", f"{here}/30", "dev", ours)
+        ip("link", "set", ours, "up")
+        ip("-n", name, "addr", "add", f"{there}/30", "dev", theirs)
+        ip("-n", name, "link", "set", theirs, "up")
+        yield name, ours, here
+    finally:
+        ip("netns", "del", name)
+
+
+def vanished(world):
+    """Clients that vanish are noticed."""
+    with far_away() as far:
+        if far is None:
+            print("vanished: not tried, since no network can be made here")
+            return
+        name, link, here = far
+        proxy, count = Proxy(world.program, world.cluster, world.folder, "vanished", listen="0.0.0.0"), 20
+        world.proxies.append(proxy)
+        put(proxy, "v/0", "v")
+        time.sleep(2)
+        threads = proxy.counts()[0]
+        bodies = [json.dumps({"create_request": {"key": text64(f"v/{n}")}}) for n in range(count)]
+        gone = [subprocess.Popen(["ip", "netns", "exec", name, "curl", "-s", "-N", "-d", body, f"http://{here}:{proxy.port}/v3/watch"],
+                                 stdout=subprocess.DEVNULL) for body in bodies]
+        until(lambda: proxy.counts()[0] >= threads + 2 * count, 20, "watches from far away are followed")
+        subprocess.run(["ip", "link", "set", link, "down"], check=True)
+        begun = time.monotonic()
+        until(lambda: proxy.counts()[0] <= threads, 120, "the threads of clients that vanished end")
+        took = time.monotonic() - begun
+        for one in gone:
+            one.kill()
+            one.wait()
+        proxy.stop()
+    print(f"vanished: nothing was left of {count} watches {took:.0f} s after the link to their clients was cut")
+
+
 def down(world):
     """With all members down a cached read is answered up to the session's end, and nothing else is."""
     proxy, cluster = world.proxy("down", f"--leasing-prefix={LEASING}"), world.cluster
@@ -813,9 +1321,7 @@ def down(world):
     put(proxy, "d/0", "w")
     until(lambda: read("d/0")[0] == 200, 10, "a read is answered again")
     proxy.stop()
-    with open(proxy.told) as lines:
-        told = lines.read()
-    check("doesn't answer" in told, f"the proxy told: {told}")
+    check(proxy.lines("doesn't answer"), f"the proxy told: {proxy.lines()}")
     print("down: cached reads went on to the session's end, all else was refused with code 14 or 4, and all is answered again")
 
 
@@ -832,15 +1338,25 @@ def in_memory():
 class World:
     """What the parts stand on."""
 
-    def __init__(self, program, short):
+    def __init__(self, program, short, folder=None):
         self.program, self.short, self.ttl = program, short, 5
         self.seed = int(os.environ.get("SEED", time.time()))
-        self.folder = tempfile.mkdtemp(prefix="etcd-proxy-", dir=in_memory())
+        self.folder = folder or tempfile.mkdtemp(prefix="etcd-proxy-", dir=in_memory())
         self.proxies = []
         self.cluster = Cluster(self.folder)
 
-    def proxy(self, name, *options, ttl=None):
-        self.proxies.append(Proxy(self.program, self.cluster, self.folder, name, f"--session-ttl={ttl or self.ttl}", *options))
+    @contextlib.contextmanager
+    def beside(self, name):
+        """A world with a cluster of its own."""
+        folder = tempfile.mkdtemp(prefix=f"{name}-", dir=self.folder)
+        world = World(self.program, self.short, folder)
+        try:
+            yield world
+        finally:
+            world.stop()
+
+    def proxy(self, name, *options, ttl=None, before=None):
+        self.proxies.append(Proxy(self.program, before or self.cluster, self.folder, name, f"--session-ttl={ttl or self.ttl}", *options))
         return self.proxies[-1]
 
     def stop(self):
@@ -850,15 +1366,16 @@ class World:
         shutil.rmtree(self.folder, ignore_errors=True)
 
 
-PARTS = [answers, truth, watches, rest, clients, leavers, canceled, room, limit, down]
+PARTS = [answers, truth, links, watches, rest, clients, halves, leavers, canceled, room, limit, quiet, quiet_owner, restored, auth, pauses, workers,
+         vanished, down]
 
 
 def main(words):
     global PATIENCE
     short = "--short" in words
-    PATIENCE = 4 if short else 1
+    PATIENCE *= 4 if short else 1
     program, *names = [word for word in words if word != "--short"]
-    parts = [part for part in PARTS if part.__name__ in names] if names else [answers, truth, watches, clients] if short else PARTS
+    parts = [part for part in PARTS if part.__name__ in names] if names else [answers, truth, links, watches, clients, quiet, quiet_owner] if short else PARTS
     world = World(os.path.abspath(program), short)
     try:
         for part in parts:

@@ -59,7 +59,7 @@ got=0
 # Where the address space is too small for the threads' stacks, a worker can't be started, and the system's cause is told.
 got=0
 (ulimit -v 200000 && exec "$program" grpc-proxy start --endpoints=127.0.0.1:2379 --listen-addr=127.0.0.2:23790 --workers=64) > "$work/output" 2> "$work/errors" || got=$?
-[ "$got" -eq 8 ] && grep -q "^etcd_proxy: can't start a thread: " "$work/errors" && [ "$(tail -n 1 "$work/errors")" = 'spawner fault' ] || {
+[ "$got" -eq 8 ] && grep -q "^[-0-9T:.]*Z ERROR etcd_proxy: can't start a thread: " "$work/errors" && [ "$(tail -n 1 "$work/errors")" = 'spawner fault' ] || {
     echo "statuses: a worker that can't be started: status $got, $(cat "$work/errors")" >&2
     failures=$((failures + 1))
 }

@@ -1,5 +1,5 @@
 -- What isn't refused of a write.
-use Rattle.std.proofs.Common.{◌≡◌, ◌≢◌, ℕ, Bool, true, false, not, ◌&&◌, ◌||◌, cond, List, [], ◌∷◌, ◌++◌, map, Option, None, Some, refl, sym, ◌∙◌, ap}
+use Rattle.std.proofs.Common.{◌≡◌, ℕ, Bool, true, false, not, ◌&&◌, ◌||◌, cond, List, [], ◌∷◌, ◌++◌, map, Option, None, Some, refl, sym, ◌∙◌, ap}
 use Rattle.std.specs.List.{list_all, list_any}
 use Rattle.std.specs.Ordering.{is_lt, is_eq}
 use Rattle.std.specs.Option.{option_map}
@@ -17,17 +17,16 @@ use Rattle.store_model.specs.LeftRecords.{is_flat}
 use Rattle.store_model.specs.Leaves.{all_leaves}
 use Rattle.store_model.specs.Refusals.{key_not_provided, too_many_operations}
 use Rattle.proxy_model.specs.Fits.{branch_of}
-use Rattle.proxy_model.specs.Guarded.{IsWrite, delete_part}
+use Rattle.proxy_model.specs.Guarded.{delete_part}
 use Rattle.proxy_model.specs.Prefixes.{only, prefix_end, leasing_range}
 use Rattle.proxy_model.specs.RequestRefusals.{first_of, unserved, unserved_op, unserved_ops, unsupported, op_lacks_key, request_lacks_key, names_session, reserved_lease, given}
-use Rattle.proxy_model.specs.SeveralKeys.{range_cmp, with_range, with_written, with_all_written, written_ranges, part_before, part_behind}
+use Rattle.proxy_model.specs.SeveralKeys.{range_cmp, with_range, with_written, with_all_written, part_before, part_behind}
 use Rattle.proxy_model.specs.declared.unserved.Unserved.{Unserved}
-use Rattle.wait_model.specs.Operations.{branch, operations}
+use Rattle.wait_model.specs.Operations.{branch}
 use Rattle.core_model.specs.Refusals.{op_touches, touches, reserved_range, writes_too_much, refusal_of}
-use Rattle.guard_laws.specs.Covers.{puts_out, deletes_out, stays_out}
-use Rattle.guard_laws.specs.GuardLaw.{is_flat_write}
+use Rattle.guard_laws.specs.Covers.{puts_out, deletes_out}
 use Rattle.guard_laws.proofs.OwnershipProofs.{leaves_is_txn}
-use Rattle.store_moves.specs.ToldAnswers.{told_branch, told_ops, begins_empty}
+use Rattle.store_moves.specs.ToldAnswers.{told_branch, begins_empty}
 use Rattle.call_laws.specs.Served.{ServedWritesMayBeSent, ToldOpsAreTheWrites}
 
 -- the first of some is none where each is none

@@ -84,7 +84,7 @@ asking_active call Waiting h = absurd (cc)
 asking_active call (Sends owner s) h = absurd (cc)
 asking_active call (Finds found) h = (refl, refl)
 
-abbrev RowsIf : View → ℕ → (ℕ → ℕ) → Ground → Option Ending → Type 0
+abbrev pub RowsIf : View → ℕ → (ℕ → ℕ) → Ground → Option Ending → Type 0
 RowsIf v p own g None = Unit {0}
 RowsIf v p own g (Some x) = Rows v p own g (with_own g x.own)
 
@@ -145,7 +145,7 @@ covered_out : (call : ℕ) (a : Answer) (own : Ownership) → OwnersCovered (sen
 covered_out call (answer.Done reply) own c = c
 covered_out call (answer.Refused r) own c = c
 
-settled_rows : (v : View) (p : ℕ) (own : ℕ → ℕ) (session : Option ℕ) (now call : ℕ) (a : Answer) (form : Form) (c : Core) → IsLive v p session → AreMarked (ground_in c) → Fits c.own → are_proper c.own.waits.writes ≡ true → AreWritten c.own.waits.writes → OwnersCovered (sends call) a c.own
+pub settled_rows : (v : View) (p : ℕ) (own : ℕ → ℕ) (session : Option ℕ) (now call : ℕ) (a : Answer) (form : Form) (c : Core) → IsLive v p session → AreMarked (ground_in c) → Fits c.own → are_proper c.own.waits.writes ≡ true → AreWritten c.own.waits.writes → OwnersCovered (sends call) a c.own
     → form_of_job c call form job.Wait → own call ≢ 0 → (v.outcomes (own call)).done ≡ true → Tells c.own.waits.prefix form (v.outcomes (own call)) a → RowsIf v p own (ground_in c) (answered call a session now c.own)
 unfolding answered
 settled_rows v p own session now call a form c live marked fits proper ranges covered formed some done tells = by (job_of call c.own.waits.out)

@@ -1,9 +1,10 @@
+use crate::asker::Shared;
 use etcd_types::{Bytes, List, NoMemory};
 use outside::{Draw, SeededDraw, SystemClock, SystemDraw};
 use part_threads::Ends;
 use sockets::{
-    LinkLimits, Members, Permits, SocketAnswer, SocketLink, SocketSink, SocketSource, ends_of,
-    linger,
+    Halt, LinkLimits, Members, Permits, SocketAnswer, SocketLink, SocketSink, SocketSource,
+    ends_of, linger,
 };
 use std::alloc::Global;
 use std::net::{Net, TcpStream};
@@ -26,14 +27,22 @@ pub(crate) struct System<R: Drop> {
 }
 
 impl<R: Net + Times + Wait + Drop + Copy> System<R> {
-    /// Calls go to these hosts, that of member 1 first, and are limited by the session's time to live, in seconds.
+    /// What askers of its members share.
+    pub(crate) fn asked(&self, halt: Arc<Halt, Global>) -> Result<Shared, NoMemory> {
+        let members = Arc::try_clone(&self.members)?;
+        Ok(Shared::new(members, self.limits, halt))
+    }
+
+    /// Calls go to these hosts, that of member 1 first, are limited by the session's time to live, in seconds, and are made by so many
+    /// workers.
     pub(crate) fn new(
         rt: R,
         alloc: Global,
         hosts: &List<Bytes>,
         ttl: u64,
+        workers: u64,
     ) -> Result<System<R>, NoMemory> {
-        let members = Members::new(&rt, alloc, hosts)?;
+        let members = Members::new(&rt, alloc, hosts)?.with_workers(workers);
         Ok(System {
             rt,
             alloc,

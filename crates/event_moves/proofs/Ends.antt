@@ -43,7 +43,7 @@ use Rattle.event_moves.proofs.Behind.{IsBehind, not_zero}
 
 -- What holds of the call.
 
-awaits_it : (prefix : List ℕ) (session : Option ℕ) (acquires : Keyed Acquire) (out : List OutCall) (call : ℕ) (j : OutJob) → AcquiresFit prefix session acquires out → job_at call out ≡ Some j → AwaitsIt acquires call j
+pub awaits_it : (prefix : List ℕ) (session : Option ℕ) (acquires : Keyed Acquire) (out : List OutCall) (call : ℕ) (j : OutJob) → AcquiresFit prefix session acquires out → job_at call out ≡ Some j → AwaitsIt acquires call j
 awaits_it prefix session acquires out call (job.Acquire k) f e = let x = f.awaits call k e in record { acquire = x.acquire; stands = x.stands; out = x.out }
 awaits_it prefix session acquires out call (job.Grant lease) f e = tt
 awaits_it prefix session acquires out call (job.Keep lease) f e = tt
@@ -55,7 +55,7 @@ seat_calls : (s : Option Seat) (out : List OutCall) (call : ℕ) (o : OutCall) �
 seat_calls None out call o h f = tt
 seat_calls (Some s) out call o h f = (not_zero s.session.number h.1, each_out (IsSeatsCall s.session s.call) call out o h.0 f)
 
-covered : (own : Ownership) (call : ℕ) (a : Answer) → AreWritten own.waits.writes → ShowsBytes a → OwnersCovered (sends call) a own
+pub covered : (own : Ownership) (call : ℕ) (a : Answer) → AreWritten own.waits.writes → ShowsBytes a → OwnersCovered (sends call) a own
 covered own call (answer.Done reply) h b = owners_are_covered own (sends call) reply h b
 covered own call (answer.Refused r) h b = tt
 

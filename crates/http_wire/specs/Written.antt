@@ -76,7 +76,7 @@ call_fields length = concat (
     ∷ codes "Content-Length: " ∷ decimal length ∷ line_end
     ∷ line_end ∷ [])
 
--- those of a call behind whose answer it stays, as it does where no field asks for its end (section 9.3)
+-- those of a call behind whose answer it stays, as it does where no field asks for its end (RFC 9112, section 9.3)
 abbrev pub kept_call_fields : ℕ → List ℕ
 kept_call_fields length = concat (
     codes "Content-Type: application/json" ∷ line_end

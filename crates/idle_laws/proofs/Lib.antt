@@ -1,3 +1,3 @@
-mod Runs
+pub mod Runs
 pub mod Touches
 mod Waiting

@@ -14,6 +14,7 @@ use etcd_types::NoMemory;
 use outside::{Part, Spawner};
 use proxy_parts::{Place, run_part};
 use std::alloc::Global;
+use std::rt::Clock as Times;
 use std::sync::atomic::AtomicU64;
 use std::sync::{Arc, Wait};
 use std::thread::Threads;
@@ -61,7 +62,7 @@ pub(crate) struct Task<E: Ends, F> {
 
 /// What starts parts that start further ones by this, or nothing where memory or a thread is wanting.
 fn starting<
-    R: Threads + Wait + Eprint + Copy + Send + 'static,
+    R: Threads + Wait + Times + Eprint + Copy + Send + 'static,
     E: Ends + Send + 'static,
     F: Spawner<Pass = Place, Conn = E::Conn> + Drop + Send + 'static,
 >(rt: R, alloc: Global, ends: E, further: F) -> Option<Threaded<R, E, F, Carried>>
@@ -86,7 +87,10 @@ where
     })
 }
 
-impl<R: Threads + Wait + Eprint + Copy + Send + 'static, E: Ends + Send + 'static> Server<R, E>
+impl<R: Threads + Wait + Times + Eprint + Copy + Send + 'static, E: Ends + Send + 'static> Server<
+    R,
+    E,
+>
 where
     E::Conn: Send + 'static,
     E::Source: Send + 'static,

@@ -19,6 +19,7 @@ use Rattle.core_fits.specs.Ready.{TakesReply}
 use Rattle.core_fits.proofs.Fit.{fits_start, fits_step}
 use Rattle.core_fits.proofs.Ready.{nothing_ready, ready_is_taken}
 use Rattle.script_text.specs.declared.item.Item.{Item}
+use Rattle.script_text.specs.declared.line.Line.{Line}
 use Rattle.world_model.specs.Gains.{Replies, with_reply, fetched_as, fetched_if, fetched}
 use Rattle.world_model.specs.Lives.{names, life, is_named}
 use Rattle.world_model.specs.Places.{place_at, with_core}
@@ -35,7 +36,7 @@ use Rattle.prefix_laws.proofs.Turning.{named_by, PlaceGoes, stays, begins, steps
 -- ---- replies are fetched
 
 -- what each fetch of a proxy keeps
-fetched_so : (P : Core → Type 0) → ((c : Core) (ticket now : ℕ) → P c → P (stepped c (event.Take ticket) now).core) → (n : ℕ) (x : Place) (got : Replies) → P x.core → P (fetched n x got).place.core
+pub fetched_so : (P : Core → Type 0) → ((c : Core) (ticket now : ℕ) → P c → P (stepped c (event.Take ticket) now).core) → (n : ℕ) (x : Place) (got : Replies) → P x.core → P (fetched n x got).place.core
 fetched_so P k zero x got h = h
 fetched_so P k (suc n) x got h = by (ready x.core) (λ y g t. fetched_so P k n y g t)
   where
@@ -55,13 +56,13 @@ fetched_so P k (suc n) x got h = by (ready x.core) (λ y g t. fetched_so P k n y
 -- ---- facts that each step keeps
 
 -- of each place
-abbrev OfPlaces : (Core → Type 0) → List Item → World → Type 0
+abbrev pub OfPlaces : (Core → Type 0) → List Item → World → Type 0
 OfPlaces P items w = (q : ℕ) (x : Place) → place_at w q ≡ Some x → P x.core
 
 -- with what holds of every proxy
-record Lasts (P : Core → Type 0) : Type 0 where
-  start : (s : Settings) → P (first_core s)
-  step : (c : Core) (e : CoreEvent) (now : ℕ) → IsHeard c e → CoreOk c → P c → P (stepped c e now).core
+pub record Lasts (P : Core → Type 0) : Type 0 where
+  pub start : (s : Settings) → P (first_core s)
+  pub step : (c : Core) (e : CoreEvent) (now : ℕ) → IsHeard c e → CoreOk c → P c → P (stepped c e now).core
 
 abbrev Whole : (Core → Type 0) → Core → Type 0
 Whole P c = CoreOk c × P c
@@ -77,24 +78,24 @@ place_so P l namespace items w gained h so q y (steps x z e told own rest at hea
     let t = fetched_so (Whole P) (λ c ticket now k. whole_step P l c (event.Take ticket) now tt k) (length z.core.asks) z told stood in
     subst (λ (v : Place). P v.core) (sym is) t.1
 
-places_kept : (P : Core → Type 0) → Lasts P → IsKept (OfPlaces P)
-places_kept P l = record {
+pub places_kept : (P : Core → Type 0) → Lasts P → (script : List Line) → IsKept script (OfPlaces P)
+places_kept P l script = record {
   begins = λ members namespace leasing q x e. no_place x e;
-  goes_on = λ namespace items w line gained e h so q y at. place_so P l namespace items w gained h so q y (line_goes namespace items w line gained e h q y at);
+  goes_on = λ namespace items w line gained n e h so q y at. place_so P l namespace items w gained h so q y (line_goes namespace items w line gained e h q y at);
 }
 
 pub each_agrees : EachProxyAgrees
-each_agrees lines w p x s e at = ((every_told (λ items w. Unit {0}) (record { begins = λ members namespace leasing. tt; goes_on = λ namespace items w l gained e h so. tt }) lines w s e).ok.places p x at).core
+each_agrees lines w p x s e at = ((every_told (λ items w. Unit {0}) lines (record { begins = λ members namespace leasing. tt; goes_on = λ namespace items w l gained n e h so. tt }) w s e).ok.places p x at).core
 
 pub each_fits : EachProxyFits
-each_fits lines w p x s e at = (every_told (OfPlaces CoreFits) (places_kept CoreFits (record { start = fits_start; step = λ c e now b ok h. fits_step c e now ok h })) lines w s e).so p x at
+each_fits lines w p x s e at = (every_told (OfPlaces CoreFits) lines (places_kept CoreFits (record { start = fits_start; step = λ c e now b ok h. fits_step c e now ok h }) lines) w s e).so p x at
 
 -- ---- what is out is named
 
-abbrev AllNamed : List Item → World → Type 0
+abbrev pub AllNamed : List Item → World → Type 0
 AllNamed items w = (q : ℕ) (x : Place) → place_at w q ≡ Some x → AreNamed (named_by q (life q items)) x.core
 
-named_front : (q ticket : ℕ) (xs ys : List Item) → is_named q ticket xs ≡ true → is_named q ticket (xs ++ ys) ≡ true
+pub named_front : (q ticket : ℕ) (xs ys : List Item) → is_named q ticket xs ≡ true → is_named q ticket (xs ++ ys) ≡ true
 named_front q ticket [] ys h = absurd (cc)
 named_front q ticket (x ∷ xs) ys h = by (names q ticket x) h (named_front q ticket xs ys)
   where
@@ -111,7 +112,7 @@ named_back q ticket (x ∷ xs) ys h = by (names q ticket x) (named_back q ticket
     by false t = t
 
 -- where the life goes on
-named_on : (q : ℕ) (items more : List Item) (c : Core) → Lives q more → AreNamed (named_by q (life q items)) c → AreNamed (named_by q (life q (items ++ more))) c
+pub named_on : (q : ℕ) (items more : List Item) (c : Core) → Lives q more → AreNamed (named_by q (life q items)) c → AreNamed (named_by q (life q (items ++ more))) c
 named_on q items more c quiet h = record { rising = h.rising; asks = λ t n a f e. grow t (h.asks t n a f e); acquires = λ k n x f e. grow x.ticket (h.acquires k n x f e) }
   where
     grow : (t : ℕ) → is_named q t (life q items) ≡ true → is_named q t (life q (items ++ more)) ≡ true
@@ -121,7 +122,7 @@ take_not_work : (ticket : ℕ) → event.Take ticket ≡ event.Work → ⊥
 take_not_work ticket e = absurd (cc)
 
 -- a step, and then its items
-step_named : (q : ℕ) (items own : List Item) (c : Core) (e : CoreEvent) (now : ℕ) → CoreOk c → Lives q own → (e ≡ event.Work → NamesCall (named_by q own) (stepped c e now).outcome) → AreNamed (named_by q (life q items)) c
+pub step_named : (q : ℕ) (items own : List Item) (c : Core) (e : CoreEvent) (now : ℕ) → CoreOk c → Lives q own → (e ≡ event.Work → NamesCall (named_by q own) (stepped c e now).outcome) → AreNamed (named_by q (life q items)) c
     → AreNamed (named_by q (life q (items ++ own))) (stepped c e now).core
 step_named q items own c e now ok quiet sends h =
     let on = life_on q items own quiet in
@@ -132,7 +133,7 @@ step_named q items own c e now ok quiet sends h =
     }) h
 
 -- a fetch names nothing
-fetch_named : (named : ℕ → Bool) (c : Core) (ticket now : ℕ) → CoreOk c × AreNamed named c → CoreOk (stepped c (event.Take ticket) now).core × AreNamed named (stepped c (event.Take ticket) now).core
+pub fetch_named : (named : ℕ → Bool) (c : Core) (ticket now : ℕ) → CoreOk c × AreNamed named c → CoreOk (stepped c (event.Take ticket) now).core × AreNamed named (stepped c (event.Take ticket) now).core
 fetch_named named c ticket now h = (
   steps_keep c (event.Take ticket) now tt h.0,
   steps_name named named c (event.Take ticket) now h.0 (record { stays = λ t n. n; sends = λ f. absurd (take_not_work ticket f) }) h.1,
@@ -150,19 +151,19 @@ place_named namespace items gained w h so q y (steps x z e told own rest at hear
     subst (λ (xs : List Item). AreNamed (named_by q (life q xs)) y.core) same
     (named_on q (items ++ own) rest y.core b (subst (λ (v : Place). AreNamed n v.core) (sym is) t.1))
 
-named_kept : IsKept AllNamed
-named_kept = record {
+pub named_kept : (script : List Line) → IsKept script AllNamed
+named_kept script = record {
   begins = λ members namespace leasing q x e. no_place x e;
-  goes_on = λ namespace items w l gained e h so q y at. place_named namespace items gained w h so q y (line_goes namespace items w l gained e h q y at);
+  goes_on = λ namespace items w l gained n e h so q y at. place_named namespace items gained w h so q y (line_goes namespace items w l gained e h q y at);
 }
 
 pub out_is_named : WhatIsOutIsNamed
-out_is_named lines w p x s e at = (every_told AllNamed named_kept lines w s e).so p x at
+out_is_named lines w p x s e at = (every_told AllNamed lines (named_kept lines) w s e).so p x at
 
 -- ---- no reply is left
 
 -- once it isn't worn
-abbrev NoneLeft : Core → Type 0
+abbrev pub NoneLeft : Core → Type 0
 NoneLeft c = is_worn c ≡ false → ready c ≡ None
 
 fewer : (n m k : ℕ) → m + 1 ≡ k → k ≤ suc n → m ≤ n
@@ -207,11 +208,11 @@ place_none namespace items w gained h so q y (steps x z e told own rest at heard
     let ok : CoreOk z.core = subst CoreOk (sym core) (steps_keep x.core e x.clock heard (h.places q x at).core) in
     subst (λ (v : Place). NoneLeft v.core) (sym is) (fetched_none (length z.core.asks) z told ok (omega arith))
 
-none_kept : IsKept (OfPlaces NoneLeft)
-none_kept = record {
+pub none_kept : (script : List Line) → IsKept script (OfPlaces NoneLeft)
+none_kept script = record {
   begins = λ members namespace leasing q x e. no_place x e;
-  goes_on = λ namespace items w l gained e h so q y at. place_none namespace items w gained h so q y (line_goes namespace items w l gained e h q y at);
+  goes_on = λ namespace items w l gained n e h so q y at. place_none namespace items w gained h so q y (line_goes namespace items w l gained e h q y at);
 }
 
 pub none_is_left : NoReplyIsLeft
-none_is_left lines w p x s e at u = nothing_ready x.core ((every_told (OfPlaces NoneLeft) none_kept lines w s e).so p x at u)
+none_is_left lines w p x s e at u = nothing_ready x.core ((every_told (OfPlaces NoneLeft) lines (none_kept lines) w s e).so p x at u)

@@ -20,7 +20,7 @@ use Rattle.renewed_laws.proofs.Hearing.{show-split}
 use Rattle.renewed_laws.proofs.Lines.{TakenSo, taken_so, begun_ok}
 use Rattle.renewed_laws.proofs.Replies.{Each}
 use Rattle.renewed_laws.proofs.Worlds.{WorldOk}
-use Rattle.prefix_laws.proofs.Prefixes.{IsKept, Known}
+use Rattle.prefix_laws.proofs.Prefixes.{IsNext, IsKept, Known, AreLeft, next_is, left_behind, first_left}
 
 abbrev pub AllItems : (List Item → Item → Type 0) → List Item → List Item → Type 0
 AllItems T before [] = Unit {0}
@@ -35,63 +35,63 @@ items_later T before [] ys h = subst (λ (b : List Item). AllItems T b ys) (sym 
 items_later T before (x ∷ xs) ys h = subst (λ (b : List Item). AllItems T b ys) (append_assoc before (x ∷ []) xs) (items_later T (before ++ x ∷ []) xs ys h.1)
 
 -- where what is known behind a prefix makes the items of the next line tell it
-pub record IsTold (P : List Item → World → Type 0) (T : List Item → Item → Type 0) : Type 0 where
+pub record IsTold (script : List Line) (P : List Item → World → Type 0) (T : List Item → Item → Type 0) : Type 0 where
   pub first : (members : ℕ) (namespace leasing : List ℕ) → T [] (item.World members namespace leasing)
-  pub line : (namespace : List ℕ) (items : List Item) (w : World) (l : Line) (gained : List Item) → (done w l).gained ≡ Ok gained → WorldOk namespace items w → P items w → AllItems T items gained
+  pub line : (namespace : List ℕ) (items : List Item) (w : World) (l : Line) (gained : List Item) → IsNext script w l → (done w l).gained ≡ Ok gained → WorldOk namespace items w → P items w → AllItems T items gained
 
 abbrev ToldIf : (List Item → World → Type 0) → (List Item → Item → Type 0) → List Item → Taken → Type 0
 ToldIf P T items (Ok gained) = AllItems T items gained.1 × (AnswersShowBytes gained.1 → Known P (items ++ gained.1) gained.0)
 ToldIf P T items (Err why) = Unit {0}
 
-taken_told : (P : List Item → World → Type 0) (T : List Item → Item → Type 0) → IsKept P → IsTold P T → (items : List Item) (w : World) (l : Line) → Known P items w → ToldIf P T items (taken w l)
-taken_told P T k t items w l h = by (done w l).gained refl (taken_so h.namespace items w l h.ok)
+taken_told : (script : List Line) (P : List Item → World → Type 0) (T : List Item → Item → Type 0) → IsKept script P → IsTold script P T → (items : List Item) (w : World) (l : Line) → IsNext script w l → Known P items w → ToldIf P T items (taken w l)
+taken_told script P T k t items w l n h = by (done w l).gained refl (taken_so h.namespace items w l h.ok)
   where
     by : (r : Result (List Item) LineRefusal) → (done w l).gained ≡ r → TakenSo h.namespace items (counted_as (done w l).world r) → ToldIf P T items (counted_as (done w l).world r)
-    by (Ok gained) e ok = (t.line h.namespace items w l gained e h.ok h.so, λ s. record { namespace = h.namespace; ok = (ok s).0; so = k.goes_on h.namespace items w l gained e h.ok h.so })
+    by (Ok gained) e ok = (t.line h.namespace items w l gained n e h.ok h.so, λ s. record { namespace = h.namespace; ok = (ok s).0; so = k.goes_on h.namespace items w l gained n e h.ok h.so })
     by (Err why) e ok = tt
 
-lines_told : (P : List Item → World → Type 0) (T : List Item → Item → Type 0) → IsKept P → IsTold P T → (lines : List Line) (items : List Item) (w : World) → Known P items w → AnswersShowBytes (transcript_from (Some w) lines)
-    → AllItems T items (transcript_from (Some w) lines)
-lines_told P T k t [] items w h s = tt
-lines_told P T k t (l ∷ lines) items w h s = by (taken w l) (taken_told P T k t items w l h) s (λ items w h s. lines_told P T k t lines items w h s)
+lines_told : (script : List Line) (P : List Item → World → Type 0) (T : List Item → Item → Type 0) → IsKept script P → IsTold script P T → (lines : List Line) (items : List Item) (w : World) → AreLeft script w lines → Known P items w
+    → AnswersShowBytes (transcript_from (Some w) lines) → AllItems T items (transcript_from (Some w) lines)
+lines_told script P T k t [] items w a h s = tt
+lines_told script P T k t (l ∷ lines) items w a h s = by (taken w l) refl (taken_told script P T k t items w l (next_is script w l lines a) h) s (λ items w a h s. lines_told script P T k t lines items w a h s)
   where
-    by : (x : Taken) → ToldIf P T items x → AnswersShowBytes (items_and_then x (λ after. transcript_from (Some after) lines))
-        → ((items : List Item) (w : World) → Known P items w → AnswersShowBytes (transcript_from (Some w) lines) → AllItems T items (transcript_from (Some w) lines))
+    by : (x : Taken) → taken w l ≡ x → ToldIf P T items x → AnswersShowBytes (items_and_then x (λ after. transcript_from (Some after) lines))
+        → ((items : List Item) (w : World) → AreLeft script w lines → Known P items w → AnswersShowBytes (transcript_from (Some w) lines) → AllItems T items (transcript_from (Some w) lines))
         → AllItems T items (items_and_then x (λ after. transcript_from (Some after) lines))
-    by (Ok gained) g s ih =
+    by (Ok gained) e g s ih =
         let rest = transcript_from (Some gained.0) lines in
         let both = show-split gained.1 rest s in
-        items-append T items gained.1 rest g.0 (ih (items ++ gained.1) gained.0 (g.1 both.0) both.1)
-    by (Err why) g s ih = tt
+        items-append T items gained.1 rest g.0 (ih (items ++ gained.1) gained.0 (left_behind script w l lines gained e a) (g.1 both.0) both.1)
+    by (Err why) e g s ih = tt
 
-all_told : (P : List Item → World → Type 0) (T : List Item → Item → Type 0) → IsKept P → IsTold P T → (lines : List Line) → AnswersShowBytes (transcript lines) → AllItems T [] (transcript lines)
-all_told P T k t [] s = tt
-all_told P T k t (line.World members namespace leasing ∷ lines) s = (
+all_told : (P : List Item → World → Type 0) (T : List Item → Item → Type 0) → (lines : List Line) → IsKept lines P → IsTold lines P T → AnswersShowBytes (transcript lines) → AllItems T [] (transcript lines)
+all_told P T [] k t s = tt
+all_told P T (line.World members namespace leasing ∷ lines) k t s = (
   t.first members namespace leasing,
-  lines_told P T k t lines (item.World members namespace leasing ∷ []) (starting_world members namespace leasing) (record { namespace = namespace; ok = begun_ok members namespace leasing; so = k.begins members namespace leasing }) s,
+  lines_told (line.World members namespace leasing ∷ lines) P T k t lines (item.World members namespace leasing ∷ []) (starting_world members namespace leasing) (first_left members namespace leasing lines) (record { namespace = namespace; ok = begun_ok members namespace leasing; so = k.begins members namespace leasing }) s,
 )
-all_told P T k t (line.Start p ∷ lines) s = tt
-all_told P T k t (line.Clock p millis ∷ lines) s = tt
-all_told P T k t (line.Ask p ticket q ∷ lines) s = tt
-all_told P T k t (line.Post p ticket path body ∷ lines) s = tt
-all_told P T k t (line.Tick p ∷ lines) s = tt
-all_told P T k t (line.Send p ∷ lines) s = tt
-all_told P T k t (line.Exec number ∷ lines) s = tt
-all_told P T k t (line.Answer number ∷ lines) s = tt
-all_told P T k t (line.Lose number ∷ lines) s = tt
-all_told P T k t (line.Push number ∷ lines) s = tt
-all_told P T k t (line.Progress number ∷ lines) s = tt
-all_told P T k t (line.Deliver number ∷ lines) s = tt
-all_told P T k t (line.Cut number ∷ lines) s = tt
-all_told P T k t (line.Take p ticket ∷ lines) s = tt
-all_told P T k t (line.Leave p ticket ∷ lines) s = tt
-all_told P T k t (line.Expire lease ∷ lines) s = tt
-all_told P T k t (line.Apply member revision ∷ lines) s = tt
+all_told P T (line.Start p ∷ lines) k t s = tt
+all_told P T (line.Clock p millis ∷ lines) k t s = tt
+all_told P T (line.Ask p ticket q ∷ lines) k t s = tt
+all_told P T (line.Post p ticket path body ∷ lines) k t s = tt
+all_told P T (line.Tick p ∷ lines) k t s = tt
+all_told P T (line.Send p ∷ lines) k t s = tt
+all_told P T (line.Exec number ∷ lines) k t s = tt
+all_told P T (line.Answer number ∷ lines) k t s = tt
+all_told P T (line.Lose number ∷ lines) k t s = tt
+all_told P T (line.Push number ∷ lines) k t s = tt
+all_told P T (line.Progress number ∷ lines) k t s = tt
+all_told P T (line.Deliver number ∷ lines) k t s = tt
+all_told P T (line.Cut number ∷ lines) k t s = tt
+all_told P T (line.Take p ticket ∷ lines) k t s = tt
+all_told P T (line.Leave p ticket ∷ lines) k t s = tt
+all_told P T (line.Expire lease ∷ lines) k t s = tt
+all_told P T (line.Apply member revision ∷ lines) k t s = tt
 
 -- of every script, also of one with a line that can't be taken
-pub every_item : (P : List Item → World → Type 0) (T : List Item → Item → Type 0) → IsKept P → IsTold P T → (lines : List Line) → AnswersShowBytes (transcript lines)
+pub every_item : (P : List Item → World → Type 0) (T : List Item → Item → Type 0) → (lines : List Line) → IsKept lines P → IsTold lines P T → AnswersShowBytes (transcript lines)
     → (earlier later : List Item) (i : Item) → transcript lines ≡ earlier ++ i ∷ later → T earlier i
-every_item P T k t lines s earlier later i e = (items_later T [] earlier (i ∷ later) (subst (AllItems T []) e (all_told P T k t lines s))).0
+every_item P T lines k t s earlier later i e = (items_later T [] earlier (i ∷ later) (subst (AllItems T []) e (all_told P T lines k t s))).0
 
 -- ---- the replies of a line
 

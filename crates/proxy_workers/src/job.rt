@@ -12,6 +12,10 @@ use proxy_server::Turn;
 use std::alloc::Global;
 use work_model::{CallFault, WorkEnd};
 
+/// How long a worker pauses where nobody could be started to follow a stream, in milliseconds: a core begins a stream that was cut
+/// again at once, and would turn for ever.
+const PAUSE: u64 = 250;
+
 /// The host of a member, from 1 on, or nothing where there is none.
 fn host_of(hosts: &List<Bytes>, member: u32) -> &[u8]
     ensures { result.now ≡ host_of hosts.now member }
@@ -85,7 +89,7 @@ fn follower<T: Seats, C>(
     ))
 }
 
-/// Hands a stream over to be followed, or cuts it where it can't be started. An end, where the worker's turns end with it.
+/// Hands a stream over to be followed, or cuts it, behind a pause, where it can't be started. An end, where the worker's turns end with it.
 fn do_begin<T: Seats, P: Spawner<Pass = T::Place>, C: Clock>(
     alloc: Global,
     turn: &mut T,
@@ -118,6 +122,7 @@ where
         Ok(()) => return None,
         Err(_) => {}
     }
+    clock.pause(PAUSE);
     feed(turn, clock, CoreEvent::Cut { stream }, None)
 }
 

@@ -120,10 +120,10 @@ stored_kept namespace items i w after h n c p quiet tells = record {
 }
 
 -- a call is executed
-abbrev ran : List SentCall → ℕ → SentCall → Answer → List SentCall
+abbrev pub ran : List SentCall → ℕ → SentCall → Answer → List SentCall
 ran calls number call a = with_nth calls number (record call { executed = Some a })
 
-ran_executes : (calls : List SentCall) (number : ℕ) (call : SentCall) (a : Answer) → nth calls number ≡ Some call → Executes calls (ran calls number call a) (item.Executed number a ∷ [])
+pub ran_executes : (calls : List SentCall) (number : ℕ) (call : SentCall) (a : Answer) → nth calls number ≡ Some call → Executes calls (ran calls number call a) (item.Executed number a ∷ [])
 ran_executes calls number call a at n items h = by (n == number) refl
   where
     by : (b : Bool) → (n == number) ≡ b → IsExecuted n (answers_of (ran calls number call a) n) (items ++ item.Executed number a ∷ [])

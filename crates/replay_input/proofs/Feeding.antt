@@ -12,7 +12,6 @@ use Rattle.replay_model.specs.Transcript.{transcript_text}
 use Rattle.replay_model.proofs.Growing.{is_open-true, progress_grows, progress_stays, passed_more, passed_adds_nothing}
 use Rattle.replay_model.specs.declared.ending.Ending.{Ending}
 use Rattle.replay_model.specs.declared.ending.Ending.TheVariants as ending
-use Rattle.renewed_laws.specs.Renewals.{AnswersShowBytes}
 use Rattle.script_text.specs.declared.item.Item.{Item}
 use Rattle.replay_input.specs.Replay.{Follows, Writes, HasRefused, TakesPart, Fed, Stopped, Feeds, text_so_far}
 use Rattle.replay_input.specs.declared.replay.Replay.{Replay}
@@ -104,7 +103,6 @@ refused_at start written old new bytes piece at count e closed f t =
     subst (λ (bs : List ℕ). Feeds start written new bs e) all (feeds_by start written new (cut ++ more) e (record {
       refused = refused_more e cut more refused;
       writes = subst (λ (items : List Item). Writes start written (string_bytes new.pending) (transcript_text items)) (sym (items_stay e cut more refused)) written_of_cut;
-      shown = subst AnswersShowBytes (sym (items_stay e cut more refused)) t.shown;
     }))
 
 -- what stands written is of a front of the bytes, and so of all

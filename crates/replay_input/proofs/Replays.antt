@@ -17,7 +17,6 @@ use Rattle.replay_model.specs.declared.ending.Ending.{Ending}
 use Rattle.replay_model.specs.declared.ending.Ending.TheVariants as ending
 use Rattle.replay_model.proofs.Progresses.{on_open, progress-append_one, finished-whole, finished-begun}
 use Rattle.replay_model.proofs.ScriptLines.{begun_line-append_one}
-use Rattle.renewed_laws.specs.Renewals.{AnswersShowBytes}
 use Rattle.replay_input.specs.Replay.{Follows, HasNoFeed, HasRefused, TakesPart, TakesEnd}
 use Rattle.replay_input.specs.Script.{Adds, Stands, IsReady}
 use Rattle.replay_input.specs.declared.replay.Replay.{Replay}
@@ -86,7 +85,6 @@ takes_end_of_line old new bytes rest e f none a cleared =
       added = a.added;
       text = ap (λ (p : Progress). transcript_text p.items) goes ∙ a.text;
       pending = a.out;
-      shown = subst (λ (p : Progress). AnswersShowBytes p.items) (sym goes) a.shown;
     }
 
 -- bytes without a line feed
@@ -109,7 +107,6 @@ takes_front old new bytes part f none script line pending within =
       added = [];
       text = ap (λ (p : Progress). transcript_text p.items) goes ∙ sym (append-nil (transcript_text (progress bytes).items));
       pending = pending ∙ sym (append-nil (string_bytes old.pending));
-      shown = subst (λ (p : Progress). AnswersShowBytes p.items) (sym goes) f.stands.shown;
     }
 
 is_begun : (line part : List ℕ) → 0 < length part → is_empty (line ++ part) ≡ false
@@ -137,7 +134,6 @@ takes_too_much old new bytes part f none some line pending past =
       added = [];
       text = ap (λ (p : Progress). transcript_text p.items) goes ∙ sym (append-nil (transcript_text (progress bytes).items));
       pending = pending ∙ sym (append-nil (string_bytes old.pending));
-      shown = subst (λ (p : Progress). AnswersShowBytes p.items) (sym goes) f.stands.shown;
     }
 
 -- the end of the input, where no line has begun
@@ -150,7 +146,6 @@ ends_whole old new bytes f none pending =
       added = [];
       text = ap (λ (p : Progress). transcript_text p.items) there ∙ sym (append-nil (transcript_text (progress bytes).items));
       pending = pending ∙ sym (append-nil (string_bytes old.pending));
-      shown = subst (λ (p : Progress). AnswersShowBytes p.items) (sym there) f.stands.shown;
     }
   where
     is_nothing : (line : List ℕ) → is_empty line ≡ true → line ≡ []
@@ -171,7 +166,6 @@ ends_begun old new bytes e f some a =
       added = a.added;
       text = ap (λ (p : Progress). transcript_text p.items) there ∙ a.text;
       pending = a.out;
-      shown = subst (λ (p : Progress). AnswersShowBytes p.items) (sym there) a.shown;
     }
 
 pub nothing_by_length : (line : List ℕ) (n : ℕ) → n ≡ length line → n == 0 ≡ true → line ≡ []

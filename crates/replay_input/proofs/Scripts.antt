@@ -12,8 +12,6 @@ use Rattle.world_model.specs.State.{World as Model}
 use Rattle.world_model.specs.Transcript.{Taken, done, counted_as, next, taken, begun}
 use Rattle.world_model.specs.declared.fault.LineRefusal.{LineRefusal}
 use Rattle.world_laws.proofs.Lines.{taken_keeps}
-use Rattle.renewed_laws.specs.Renewals.{AnswersShowBytes}
-use Rattle.renewed_laws.proofs.Hearing.{show-append}
 use Rattle.replay_world.specs.World.{Parts}
 use Rattle.replay_world.specs.World as world
 use Rattle.replay_model.specs.Progress.{Progress, next_number, is_past, after_step, after_reading, after_line, size_of}
@@ -112,9 +110,9 @@ pub adds_line : {C : _} {g : _} (script new : Script C g) (p : Progress) (bytes 
     → is_past script.lines script.bytes (length bytes) (size_of bytes feed) ≡ false
     → Gains new.world items p.world (line_at (script.lines + 1) bytes)
     → new.lines ≡ script.lines + 1 → new.bytes ≡ script.bytes + size_of bytes feed
-    → out' ≡ out ++ transcript_text items → AnswersShowBytes items
+    → out' ≡ out ++ transcript_text items
     → Adds new out out' ending.Open p (after_line p bytes feed)
-adds_line script new p bytes feed items out out' s ready within g lines size text shown =
+adds_line script new p bytes feed items out out' s ready within g lines size text =
     subst (λ (q : Progress). Adds new out out' ending.Open p q) (sym (goes_to p bytes feed g.line g.after items within_p read_so g.taken_so))
     (record {
       ended = refl;
@@ -123,14 +121,12 @@ adds_line script new p bytes feed items out out' s ready within g lines size tex
         lines = lines ∙ ap (λ n. n + 1) s.lines ∙ sym (length-append p.lines (g.line ∷ []));
         bytes = size ∙ ap (λ n. n + size_of bytes feed) s.bytes;
         ending = refl;
-        shown = show-append p.items items s.shown shown;
       };
       ready = λ _. subst (λ n. CountsIfThere n new.world) (sym lines)
           (counts_more script.lines new.world g.after g.stands (next_counts script.lines script.world p.world g.line g.after items s.world ready g.taken_so));
       added = transcript_text items;
       text = flat_map-append (λ (item : Item). item_text item ++ line_feed ∷ []) p.items items;
       out = text;
-      shown = show-append p.items items s.shown shown;
     })
   where
     within_p : is_past (length p.lines) p.bytes (length bytes) (size_of bytes feed) ≡ false

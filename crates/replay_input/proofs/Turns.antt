@@ -1,60 +1,26 @@
 -- A turn of the replay, at each of its ends.
-use Rattle.std.proofs.Common.{◌≡◌, ◌≢◌, ◌≤◌, ◌<◌, ◌^◌, ℕ, Bool, true, false, List, [], ◌++◌, length, take, Result, Ok, Err, IfOk, IfErr, inl, inr, refl, sym, ◌∙◌, ap, subst, append_assoc, append-nil, arith}
+use Rattle.std.proofs.Common.{◌≡◌, ◌≢◌, ◌≤◌, ℕ, Bool, true, false, List, [], ◌++◌, length, take, Result, Ok, Err, IfOk, IfErr, inl, inr, refl, sym, ◌∙◌, ap, subst, append_assoc, append-nil, arith}
 use Rattle.std.specs.Prelude.{Option, string_bytes}
 use Rattle.std.proofs.KnownBytes.{Consumes-trans, Consumes-kept, Consumes-nil, Appends-nil}
 use Rattle.std.specs.Io.KnownBytes.{Appends, Consumes, Keeps, IsAtEnd}
 use Rattle.etcd_types.specs.Keys.{is_empty}
 use Rattle.outside.specs.Faults.{Rose}
 use Rattle.outside.specs.Streams.{WritesFront}
-use Rattle.world_model.specs.Answers.{AnswersAreTheStores, MessagesAreTheStores}
 use Rattle.replay_model.specs.Endings.{is_open}
 use Rattle.replay_model.specs.Progress.{Progress, finished, progress, passes_limit}
 use Rattle.replay_model.specs.Script.{begun_line}
 use Rattle.replay_model.specs.Transcript.{transcript_text}
-use Rattle.world_model.specs.Received.{WatchesReceive}
-use Rattle.world_model.specs.Transcript.{transcript}
 use Rattle.replay_model.specs.declared.ending.Ending.{Ending}
 use Rattle.replay_model.specs.declared.ending.Ending.TheVariants as ending
-use Rattle.replay_model.specs.declared.limits.TheConstants.{MOST_BYTES, MOST_LINES}
-use Rattle.received_laws.proofs.Receiving.{receives}
-use Rattle.renewed_laws.specs.Renewals.{AnswersShowBytes, KeepalivesRenew}
-use Rattle.renewed_laws.proofs.Lines.{keepalives_renew}
-use Rattle.script_text.specs.declared.line.Line.{Line}
-use Rattle.text_laws.specs.Texts.{AreRead}
-use Rattle.text_laws.proofs.ReadLines.{progress_read, finished_read, have_texts}
-use Rattle.replay_model.proofs.FewLines.{progress_few, finished_few}
+use Rattle.replay_model.specs.declared.limits.TheConstants.{MOST_BYTES}
 use Rattle.replay_model.proofs.Growing.{is_open-true, finished_grows, finished_stays, finished_passed, refused_adds_nothing}
-use Rattle.replay_model.proofs.Transcripts.{progress_has, finished_has, items_are}
-use Rattle.world_laws.proofs.TrueAnswers.{answers_are_the_stores, messages_are_the_stores}
+use Rattle.transcript_laws.proofs.Truth.{transcripts_are_true}
 use Rattle.replay_input.specs.Replay.{Follows, HasRefused, Writes, Feeds, Fed, Moves, Breaks, Finishes, taken_of, text_of, text_so_far}
-use Rattle.replay_input.specs.Replays.{IsTrueTranscript, NoneIsRefused, IsWhole, Replays, Refuses, Interrupts, BreaksOff, Stops, Has, most_at_once}
+use Rattle.replay_input.specs.Replays.{NoneIsRefused, IsWhole, Replays, Refuses, Interrupts, BreaksOff, Stops, Has, most_at_once}
 use Rattle.replay_input.specs.declared.replay.Replay.{Replay}
 use Rattle.replay_input.specs.declared.stop.Stop.{Stop}
 use Rattle.replay_input.specs.declared.stop.Stop.TheVariants as stop
 use Rattle.replay_input.proofs.Feeding.{kept_follows}
-
--- far fewer lines are taken than would pass the numbers of revisions
-few_lines : (lines : List Line) → length lines ≤ MOST_LINES → length lines < 2 ^ 60
-few_lines lines few = omega (arith, few)
-
-is_true : (p : Progress) → p.items ≡ transcript p.lines → AreRead 1 p.lines → length p.lines ≤ MOST_LINES → AnswersShowBytes p.items → IsTrueTranscript p
-is_true p is read few shown = record {
-  items = is;
-  answers = subst AnswersAreTheStores (sym is) (answers_are_the_stores p.lines);
-  messages = subst MessagesAreTheStores (sym is) (messages_are_the_stores p.lines);
-  watches = subst WatchesReceive (sym is) (receives p.lines (few_lines p.lines few));
-  renewals = subst KeepalivesRenew (sym is) (keepalives_renew p.lines (subst AnswersShowBytes is shown));
-  texts = have_texts p is read few;
-}
-
--- what the lines of a script gain is a true transcript, whether a last line without line feed counts or not
-finished_true : (bytes : List ℕ) → AnswersShowBytes (finished bytes).items → IsTrueTranscript (finished bytes)
-finished_true bytes shown =
-    is_true (finished bytes) (items_are (finished bytes) (finished_has bytes)) (finished_read bytes) (finished_few bytes) shown
-
-progress_true : (bytes : List ℕ) → AnswersShowBytes (progress bytes).items → IsTrueTranscript (progress bytes)
-progress_true bytes shown =
-    is_true (progress bytes) (items_are (progress bytes) (progress_has bytes)) (progress_read bytes) (progress_few bytes) shown
 
 -- where nothing is pending, all is written
 pub all_written : (start written : Option (List ℕ)) (pending text : List ℕ) → Writes start written pending text → pending ≡ [] → Appends start written text
@@ -82,9 +48,9 @@ breaks_off : (left left' start written : Option (List ℕ)) (before piece : List
     → Consumes left left' (before ++ piece) → WritesFront start written (text_so_far (before ++ piece)) → Stops left left' start written s
 breaks_off left left' start written before piece stop.ReadFault n none small c w = absurd (n refl)
 breaks_off left left' start written before piece stop.WriteFault n none small c w =
-    record { before = before; piece = piece; consumed = c; none_before = none; one_piece = small; writes = inl w }
+    record { before = before; piece = piece; consumed = c; none_before = none; one_piece = small; headline = transcripts_are_true (before ++ piece); writes = inl w }
 breaks_off left left' start written before piece stop.NoMemory n none small c w =
-    record { before = before; piece = piece; consumed = c; none_before = none; one_piece = small; writes = inl w }
+    record { before = before; piece = piece; consumed = c; none_before = none; one_piece = small; headline = transcripts_are_true (before ++ piece); writes = inl w }
 
 none_refused : {C : _} {g : _} {left start l written : Option (List ℕ)} {replay : Replay C g} {read : List ℕ} → Has left start l written replay read → NoneIsRefused read
 none_refused h = record { whole = h.follows.stands.ending; within = h.follows.within }
@@ -97,7 +63,7 @@ read_failed left start l l' written replay read h k = record {
   read = read;
   consumed = Consumes-kept left l l' read h.consumed k;
   writes = all_written start written [] (text_so_far read) h.writes refl;
-  headline = progress_true read h.follows.stands.shown;
+  headline = (transcripts_are_true read).whole;
 }
 
 -- the input ended, and the last line couldn't be taken or written
@@ -114,6 +80,7 @@ end_stopped left start l l' old written replay read s h c at_end n w = stops_at_
   consumed = Consumes-trans left l l' read [] h.consumed c;
   none_before = none_refused h;
   one_piece = omega arith;
+  headline = transcripts_are_true (read ++ []);
   writes = inr (at_end, subst (λ (bs : List ℕ). WritesFront start written (text_of bs)) (sym (append-nil read)) w);
 })
 
@@ -149,7 +116,7 @@ refused_last left start l' written read e none c at_end f = record {
   ended = ap (λ (bs : List ℕ). (finished bs).ending) (append-nil read) ∙ f.ended;
   whole = is_whole_at_end e l' (read ++ []) at_end;
   writes = subst (λ (bs : List ℕ). Appends start written (text_of bs)) (sym (append-nil read)) f.writes;
-  headline = finished_true (read ++ []) (subst (λ (bs : List ℕ). AnswersShowBytes (finished bs).items) (sym (append-nil read)) f.shown);
+  headline = (transcripts_are_true (read ++ [])).all;
 }
 
 -- the input ended
@@ -161,7 +128,7 @@ finishes_by left start l' written read ending.Open none c at_end f = record {
   at_end = at_end;
   ended = f.ended;
   writes = f.writes;
-  headline = finished_true read f.shown;
+  headline = (transcripts_are_true read).all;
 }
 finishes_by left start l' written read (ending.Refused number refusal) none c at_end f =
     refused_last left start l' written read (ending.Refused number refusal) none c at_end f
@@ -209,8 +176,8 @@ goes_on left start l l' mid old written replay new last read piece e h c o f m s
     }
 
 refused_by : (left start l' written : Option (List ℕ)) (read piece : List ℕ) (e : Ending) → NoneIsRefused read → length piece ≤ most_at_once → Consumes left l' (read ++ piece)
-    → is_open e ≡ false → HasRefused (read ++ piece) e → AnswersShowBytes (progress (read ++ piece)).items → Appends start written (text_so_far (read ++ piece)) → Refuses left l' start written e
-refused_by left start l' written read piece e none small c closed refused shown w = record {
+    → is_open e ≡ false → HasRefused (read ++ piece) e → Appends start written (text_so_far (read ++ piece)) → Refuses left l' start written e
+refused_by left start l' written read piece e none small c closed refused w = record {
   before = read;
   piece = piece;
   consumed = c;
@@ -219,7 +186,7 @@ refused_by left start l' written read piece e none small c closed refused shown 
   ended = has_ended e (read ++ piece) refused;
   whole = is_whole e l' (read ++ piece) refused;
   writes = subst (Appends start written) (sym (text_of_refused e (read ++ piece) closed (has_ended e (read ++ piece) refused))) w;
-  headline = finished_true (read ++ piece) (subst AnswersShowBytes (sym (refused_adds_nothing (read ++ piece) (ap is_open (has_ended e (read ++ piece) refused) ∙ closed))) shown);
+  headline = (transcripts_are_true (read ++ piece)).all;
 }
 
 -- a line of the piece is refused
@@ -227,9 +194,9 @@ refused_piece : {C : _} {g : _} (left start l' mid written : Option (List ℕ)) 
     → Consumes left l' (read ++ piece) → is_open e ≡ false → Feeds start mid new (read ++ piece) e → Appends start written (text_so_far (read ++ piece)) → Replays left l' start written e
 refused_piece left start l' mid written new read piece ending.Open none small c o f w = absurd (cc)
 refused_piece left start l' mid written new read piece (ending.Refused number refusal) none small c o f w =
-    refused_by left start l' written read piece (ending.Refused number refusal) none small c o f.refused f.shown w
+    refused_by left start l' written read piece (ending.Refused number refusal) none small c o f.refused w
 refused_piece left start l' mid written new read piece ending.PastLimit none small c o f w =
-    refused_by left start l' written read piece ending.PastLimit none small c o f.refused f.shown w
+    refused_by left start l' written read piece ending.PastLimit none small c o f.refused w
 
 pub refuses : {C : _} {g : _} (left start l l' mid old written : Option (List ℕ)) (replay new last : Replay C g) (read piece : List ℕ) (e : Ending) → Has left start l old replay read
     → length piece ≤ most_at_once → Consumes l l' piece → is_open e ≡ false → Feeds start mid new (read ++ piece) e → Moves mid written (string_bytes new.pending) (string_bytes last.pending)
@@ -253,6 +220,7 @@ nothing_done left written = record {
   consumed = Consumes-nil left;
   none_before = record { whole = refl; within = λ some. absurd (cc) };
   one_piece = omega arith;
+  headline = transcripts_are_true [];
   writes = inl (record { front = []; rest = text_so_far []; parts = refl; written = Appends-nil written });
 }
 
@@ -280,6 +248,7 @@ refused_off left left' written written' e closed r = record {
   consumed = r.consumed;
   none_before = r.none_before;
   one_piece = r.one_piece;
+  headline = transcripts_are_true (r.before ++ r.piece);
   writes = inl (subst (WritesFront written written') (text_of_refused e (r.before ++ r.piece) closed r.ended)
       (front_of_text written written' (text_of (r.before ++ r.piece)) r.writes));
 }
@@ -309,6 +278,7 @@ left_off left left' written written' (Ok ending.Open) r s = record {
   consumed = subst (Consumes left left') (sym (append-nil r.read)) r.consumed;
   none_before = none_by_end r.read r.ended;
   one_piece = omega arith;
+  headline = transcripts_are_true (r.read ++ []);
   writes = inr (r.at_end, subst (λ (bs : List ℕ). WritesFront written written' (text_of bs)) (sym (append-nil r.read)) (front_of_text written written' (text_of r.read) r.writes));
 }
 left_off left left' written written' (Ok (ending.Refused number refusal)) r s = refused_off left left' written written' (ending.Refused number refusal) refl r
@@ -319,6 +289,7 @@ left_off left left' written written' (Err stop.ReadFault) r s = record {
   consumed = subst (Consumes left left') (sym (append-nil s.read)) s.consumed;
   none_before = s.none_refused;
   one_piece = omega arith;
+  headline = transcripts_are_true (s.read ++ []);
   writes = inl (subst (λ (bs : List ℕ). WritesFront written written' (text_so_far bs)) (sym (append-nil s.read)) (front_of_text written written' (text_so_far s.read) s.writes));
 }
 left_off left left' written written' (Err stop.WriteFault) r s = s

@@ -7,7 +7,6 @@ use Rattle.replay_model.specs.Endings.{is_open}
 use Rattle.replay_model.specs.Progress.{progress, finished, passes_limit, HasPassed}
 use Rattle.replay_model.specs.Script.{begun_line, line_feed}
 use Rattle.replay_model.specs.Transcript.{transcript_text}
-use Rattle.renewed_laws.specs.Renewals.{AnswersShowBytes}
 use Rattle.replay_model.specs.declared.ending.Ending.{Ending}
 use Rattle.replay_model.specs.declared.ending.Ending.TheVariants.{Open, Refused, PastLimit}
 use Rattle.outside.specs.Streams.{WritesFront}
@@ -61,7 +60,6 @@ pub record TakesPart {C : _} {g : _} (old new : Replay C g) (bytes part : List �
   pub added : List ℕ
   pub text : text_so_far (bytes ++ part) ≡ text_so_far bytes ++ added
   pub pending : string_bytes new.pending ≡ string_bytes old.pending ++ added
-  pub shown : AnswersShowBytes (progress (bytes ++ part)).items
 
 -- what the end of the input adds: a last line without line feed is taken
 pub record TakesEnd {C : _} {g : _} (old new : Replay C g) (bytes : List ℕ) (ending : Ending) : Type 0 where
@@ -69,7 +67,6 @@ pub record TakesEnd {C : _} {g : _} (old new : Replay C g) (bytes : List ℕ) (e
   pub added : List ℕ
   pub text : text_of bytes ≡ text_so_far bytes ++ added
   pub pending : string_bytes new.pending ≡ string_bytes old.pending ++ added
-  pub shown : AnswersShowBytes (finished bytes).items
 
 -- these bytes were taken, and of their lines' text the rest is pending
 pub record Fed {C : _} {g : _} (start written : Option (List ℕ)) (new : Replay C g) (bytes : List ℕ) : Type 0 where
@@ -80,7 +77,6 @@ pub record Fed {C : _} {g : _} (start written : Option (List ℕ)) (new : Replay
 pub record Stopped {C : _} {g : _} (start written : Option (List ℕ)) (new : Replay C g) (bytes : List ℕ) (ending : Ending) : Type 0 where
   pub refused : HasRefused bytes ending
   pub writes : Writes start written (string_bytes new.pending) (text_so_far bytes)
-  pub shown : AnswersShowBytes (progress bytes).items
 
 abbrev pub Feeds : {C : _} {g : _} → Option (List ℕ) → Option (List ℕ) → Replay C g → List ℕ → Ending → Type 0
 Feeds start written new bytes Open = Fed start written new bytes
@@ -103,4 +99,3 @@ taken_of replay = replay.script.bytes + length replay.line.items
 pub record Finishes (start written : Option (List ℕ)) (bytes : List ℕ) (ending : Ending) : Type 0 where
   pub ended : (finished bytes).ending ≡ ending
   pub writes : Appends start written (text_of bytes)
-  pub shown : AnswersShowBytes (finished bytes).items

@@ -1,15 +1,11 @@
 -- What a whole replay takes of its input and writes to its output.
 use Rattle.std.specs.Prelude.{◌≡◌, ◌≤◌, ◌⊎◌, ℕ, List, [], ◌++◌, length, Option, None, Some, Result, Ok, Err, string_bytes}
 use Rattle.std.specs.Io.KnownBytes.{Appends, Consumes, IsAtEnd}
-use Rattle.replay_model.specs.Progress.{Progress, finished, progress}
-use Rattle.world_model.specs.Answers.{AnswersAreTheStores, MessagesAreTheStores}
-use Rattle.world_model.specs.Received.{WatchesReceive}
-use Rattle.world_model.specs.Transcript.{transcript}
-use Rattle.text_laws.specs.Texts.{HaveTextsAsMade}
+use Rattle.replay_model.specs.Progress.{finished, progress}
+use Rattle.transcript_laws.specs.Truth.{IsTrueTranscript, TranscriptIsTrue}
 use Rattle.replay_model.specs.declared.ending.Ending.{Ending}
 use Rattle.replay_model.specs.declared.ending.Ending.TheVariants.{Open, Refused}
 use Rattle.outside.specs.Streams.{WritesFront}
-use Rattle.renewed_laws.specs.Renewals.{KeepalivesRenew}
 use Rattle.replay_input.specs.Replay.{Follows, BeginsWithin, Writes, text_of, text_so_far}
 use Rattle.replay_input.specs.declared.replay.Replay.{Replay}
 use Rattle.replay_input.specs.declared.stop.Stop.{Stop}
@@ -18,19 +14,6 @@ use Rattle.replay_input.specs.declared.stop.Stop.TheVariants as stop
 -- the most bytes that are read at once
 abbrev pub most_at_once : ℕ
 most_at_once = 65536
-
--- The items are the transcript of the lines taken. Each of its answers is the store's, and so is each message of a stream; and at each
--- step each watch has received, each once and in order, a front of the history's events that it asked for from its start, then possibly
--- a cancellation naming the compaction. Each ok reply to a client's keepalive is the answer of an executed keepalive of that lease that
--- its proxy sent after the request was asked. Each item has a text, and is read from it, exactly where what a
--- proxy or the store made of it has.
-pub record IsTrueTranscript (p : Progress) : Type 0 where
-  pub items : p.items ≡ transcript p.lines
-  pub answers : AnswersAreTheStores p.items
-  pub messages : MessagesAreTheStores p.items
-  pub watches : WatchesReceive p.items
-  pub renewals : KeepalivesRenew p.items
-  pub texts : HaveTextsAsMade p.items
 
 -- the script was read to its end, none of its lines is refused, and its transcript is written
 pub record ReadsAll (left left' written written' : Option (List ℕ)) : Type 0 where
@@ -77,7 +60,7 @@ pub record Interrupts (left left' written written' : Option (List ℕ)) : Type 0
   pub writes : Appends written written' (text_so_far read)
   pub headline : IsTrueTranscript (progress read)
 
--- A front of the transcript of the lines before the first refused one is written. A last line without line feed is a line only where
+-- A front of the transcript of the lines before the first refused one is written, which is true as a whole. A last line without line feed is a line only where
 -- the input is at its end. The last piece was read while no line was refused.
 pub record BreaksOff (left left' written written' : Option (List ℕ)) : Type 0 where
   pub before : List ℕ
@@ -85,6 +68,7 @@ pub record BreaksOff (left left' written written' : Option (List ℕ)) : Type 0 
   pub consumed : Consumes left left' (before ++ piece)
   pub none_before : NoneIsRefused before
   pub one_piece : length piece ≤ most_at_once
+  pub headline : TranscriptIsTrue (before ++ piece)
   pub writes : WritesFront written written' (text_so_far (before ++ piece)) ⊎ (IsAtEnd left' × WritesFront written written' (text_of (before ++ piece)))
 
 abbrev pub Stops : Option (List ℕ) → Option (List ℕ) → Option (List ℕ) → Option (List ℕ) → Stop → Type 0

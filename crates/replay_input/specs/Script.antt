@@ -7,7 +7,6 @@ use Rattle.world_model.specs.State.{World as Model}
 use Rattle.world_model.specs.Transcript.{Taken, next}
 use Rattle.world_model.specs.declared.fault.LineRefusal.{LineRefusal}
 use Rattle.world_model.specs.declared.fault.LineRefusal.TheVariants.{BadLine}
-use Rattle.renewed_laws.specs.Renewals.{AnswersShowBytes}
 use Rattle.replay_world.specs.World.{Parts}
 use Rattle.replay_world.specs.World as world
 use Rattle.replay_model.specs.Progress.{Progress}
@@ -35,7 +34,6 @@ pub record Stands {C : _} {g : _} (script : Script C g) (p : Progress) : Type 0 
   pub lines : script.lines ≡ length p.lines
   pub bytes : script.bytes ≡ p.bytes
   pub ending : p.ending ≡ Open
-  pub shown : AnswersShowBytes p.items
 
 -- the script can be given a line
 abbrev pub IsReady : {C : _} {g : _} → Script C g → Type 0
@@ -94,4 +92,3 @@ pub record Adds {C : _} {g : _} (new : Script C g) (before after : List ℕ) (en
   pub added : List ℕ
   pub text : transcript_text p'.items ≡ transcript_text p.items ++ added
   pub out : after ≡ before ++ added
-  pub shown : AnswersShowBytes p'.items

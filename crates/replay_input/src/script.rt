@@ -3,16 +3,14 @@ ghost use Rattle.replay_model.specs.declared.limits.TheConstants.{MOST_LINES, MO
 ghost use Rattle.replay_model.specs.Transcript.{transcript_text};
 ghost use Rattle.replay_model.specs.Endings.{is_open};
 ghost use Rattle.replay_model.specs.Progress.{size_of};
-ghost use Rattle.renewed_laws.specs.Renewals.{item_shows, AnswersShowBytes};
 
 use crate::lines::{begin, later};
 use crate::refused::NotTaken;
 use core_face::ProxyCore;
-use etcd_types::{Answer, List, NoMemory};
+use etcd_types::{List, NoMemory};
 use replay_model::{Ending, MOST_BYTES, MOST_LINE_BYTES, MOST_LINES};
 use replay_world::World;
 use script_text::{Item, LineFault, append_item, read_line};
-use shown_bytes::show_body;
 use std::alloc::Global;
 use world_model::LineRefusal;
 
@@ -80,7 +78,6 @@ impl<C: ProxyCore> Script<C> {
         }
         match self.gain(number, line) {
             Ok(items) => {
-                show_items(&items);
                 write_items(&items, out)?;
                 self.lines = number;
                 self.bytes += size;
@@ -132,25 +129,4 @@ fn write_items(items: &List<Item>, out: &mut String) -> Result<(), NoMemory>
         out.push('\n')?;
     }
     Ok(())
-}
-
-/// The keys that the answers among these items show are made of bytes. It does nothing else.
-fn show_items(items: &List<Item>)
-    ensures { AnswersShowBytes items.now }
-{
-    for item in items.as_slice() {
-        show_item(item);
-    }
-}
-
-fn show_item(item: &Item)
-    ensures { item_shows item.now ≡ true }
-{
-    match item {
-        Item::Executed {
-            answer: Answer::Done(reply),
-            ..
-        } => show_body(&reply.body),
-        _ => {}
-    }
 }

@@ -6,7 +6,7 @@ use Rattle.sockets.specs.declared.limits.LinkLimits.{LinkLimits}
 
 abbrev pub limit_for : LinkLimits → CallKind → ℕ
 limit_for limits kind.Reads = limits.read
-limit_for limits kind.Scans = limits.read
+limit_for limits kind.Scans = limits.scan
 limit_for limits kind.Writes = limits.write
 limit_for limits (kind.Session lease) = limits.read
 limit_for limits (kind.Watches stream) = limits.read

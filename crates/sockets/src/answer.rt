@@ -3,7 +3,6 @@ ghost use Rattle.sockets.specs.Answers.{faults_of};
 
 use crate::call_answer::CallAnswer;
 use crate::stream_answer::StreamAnswer;
-use crate::upstream::Upstream;
 use outside::{Failed, ReadMark, Source};
 use std::net::{Net, TcpStream};
 use std::rt::Clock as Times;
@@ -16,16 +15,6 @@ pub enum SocketAnswer<R: Drop> {
     Call(CallAnswer<R>),
     /// It comes as long as its member sends.
     Stream(StreamAnswer<R>),
-}
-
-impl<R: Drop> SocketAnswer<R> {
-    /// The member that it comes from, and its connection.
-    pub(crate) fn into_upstream(self) -> (u32, Upstream) {
-        match self {
-            SocketAnswer::Call(call) => (call.member, call.upstream),
-            SocketAnswer::Stream(stream) => (stream.member, stream.upstream),
-        }
-    }
 }
 
 impl<R: Net<Stream = TcpStream> + Times + Wait + Drop> Source for SocketAnswer<R> {

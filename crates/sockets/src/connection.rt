@@ -105,6 +105,7 @@ pub fn ends_within<R: Drop + Copy>(
         phase: Phase::Between,
         began: 0,
         came: 0,
+        watches: false,
         limit: Duration::ZERO,
         faults: 0,
     };

@@ -3,16 +3,22 @@
 //! What the bytes are is said by who reads and writes them, by the kind of a call and by marks, and isn't looked for here.
 //!
 //! Every wait has a limit, but for a lookup of a host's name. A member that fails and one that answers again are reported on the
-//! standard error, and so is why the host listens or accepts no more.
+//! standard error, and so are workers that are all busy, and why the host listens or accepts no more. Each line begins with its time and its level, and of each kind there
+//! is at most one a second.
 #![tactic(auto)]
 
 mod answer;
+mod busy;
 mod call_answer;
 mod connection;
+mod halt;
+mod health;
 mod host;
 mod idle;
 mod limits;
 mod link;
+mod lively;
+mod log;
 mod member;
 mod members;
 mod permits;
@@ -20,15 +26,19 @@ mod phase;
 mod sink;
 mod source;
 mod stream_answer;
+mod streams;
 mod times;
 mod transfer;
 mod upstream;
 
 pub use answer::SocketAnswer;
 pub use connection::{ends_of, ends_within, linger};
+pub use halt::Halt;
+pub use health::{Asked, Health};
 pub use host::SocketHost;
 pub use limits::{ConnectionLimits, LinkLimits};
 pub use link::SocketLink;
+pub use log::line_time;
 pub use members::Members;
 pub use permits::Permits;
 pub use sink::SocketSink;

@@ -36,11 +36,13 @@ impl Default for ConnectionLimits {
 pub struct LinkLimits {
     /// To take a connection.
     pub connect: u64,
-    /// For a whole call that reads, grants or keeps alive, and for the sending of a call that begins a stream.
+    /// For a whole call that reads one key, grants or keeps alive, and for the sending of a call that begins a stream.
     pub read: u64,
+    /// For a whole call that reads more than one key.
+    pub scan: u64,
     /// For a whole call that writes.
     pub write: u64,
-    /// A stream that said nothing for so long has its member asked.
+    /// A stream that said nothing for so long fails where its member is down.
     pub silence: u64,
     /// For a whole call that asks whether a member answers.
     pub ask: u64,
@@ -49,20 +51,22 @@ pub struct LinkLimits {
 }
 
 impl LinkLimits {
-    /// The limits of a proxy whose session lives for so many seconds. A call that reads, grants or keeps alive has a second and
-    /// a half, one that writes five, and none has more than a third of the session's time to live, so that a member that hangs
-    /// leaves time to try another.
+    /// The limits of a proxy whose session lives for so many seconds. A call that reads one key, grants or keeps alive has a second
+    /// and a half, one that reads more 4.8, one that writes five, and none has more than a third of the session's time to live, so
+    /// that a member that hangs leaves time to try another.
     pub fn of_ttl(seconds: u64) -> LinkLimits
         ensures read { result.read ≡ min 1500 (seconds * 1000 / 3) }
+        ensures scan { result.scan ≡ min 4800 (seconds * 1000 / 3) }
         ensures write { result.write ≡ min 5000 (seconds * 1000 / 3) }
     {
-        // from 15 seconds on, a third is more than each of the two
+        // from 15 seconds on, a third is more than each of the three
         let third = seconds.min(15) * 1_000 / 3;
         LinkLimits {
             connect: 1_000,
             read: third.min(1_500),
+            scan: third.min(4_800),
             write: third.min(5_000),
-            silence: 10_000,
+            silence: 5_000,
             ask: 1_500,
             cut: 600_000,
         }
@@ -73,8 +77,8 @@ impl LinkLimits {
         ensures { result ≡ limit_for self.now kind }
     {
         match kind {
-            CallKind::Reads | CallKind::Scans | CallKind::Session(_) | CallKind::Watches(_) =>
-                self.read,
+            CallKind::Reads | CallKind::Session(_) | CallKind::Watches(_) => self.read,
+            CallKind::Scans => self.scan,
             CallKind::Writes => self.write,
             CallKind::Asks => self.ask,
         }

@@ -11,21 +11,28 @@ use crate::times::{Until, time};
 use crate::upstream::{Unsent, Upstream};
 use outside::{AnswerEnd, CallKind, Link, LinkFault};
 use std::alloc::Global;
-use std::io;
 use std::io::ErrorKind;
 use std::marker::Model;
 use std::net::{Net, TcpStream};
 use std::rt::Clock as Times;
 use std::sync::{Arc, Wait};
 use std::time::Duration;
+use std::{io, thread};
 
-/// The link to the members of a cluster over sockets. A call uses a connection that an earlier call left, where one is there,
-/// and a stream has one of its own.
+/// How long a call rests that found no member, where all are down, in milliseconds: who makes it may make it again at once, and would
+/// turn for ever.
+const REST: u64 = 250;
+
+/// The link to the members of a cluster over sockets. A call goes to the member that it names, or to the next one where that is down or
+/// takes no byte of it. It uses a connection that an earlier call left, where one is there, and a stream has one of its own.
 #[derive(Drop)]
 pub struct SocketLink<R: Drop> {
     rt: R,
     members: Arc<Members, Global>,
     limits: LinkLimits,
+    // whether it is inside a worker's call, and when the last one ended, by `time`, or 0 where there was none
+    inside: bool,
+    ended: u64,
     faults: u64,
 }
 
@@ -46,9 +53,16 @@ impl<R: Drop> SocketLink<R> {
             rt,
             members,
             limits,
+            inside: false,
+            ended: 0,
             faults: 0,
         }
     }
+}
+
+/// Whether a call of this kind is made by a worker.
+fn is_of_worker(kind: CallKind) -> bool {
+    !matches!(kind, CallKind::Watches(_) | CallKind::Asks)
 }
 
 /// How a link reports an error.
@@ -76,63 +90,125 @@ impl<R: Net<Stream = TcpStream> + Times + Wait + Eprint + Drop + Copy> SocketLin
         }
     }
 
-    // Sends a call to the member of this number, and says whether the member takes no call, or takes a stream again.
-    fn sent(&self, number: u32, kind: CallKind, call: &[u8]) -> io::Result<(Upstream, Until)> {
-        let member = self.members.member(number)?;
-        let until = Until::after(&self.rt, self.limits.limit_for(kind))?;
-        match self.send(member, kind, call, until) {
-            Ok(upstream) => {
-                if let CallKind::Watches(_) = kind {
-                    self.members.tell(&self.rt, member, None);
+    // Sends a call to one of these members, the first that takes a byte of it.
+    fn sent_to(
+        &self,
+        order: &[&Member],
+        kind: CallKind,
+        call: &[u8],
+        until: Until,
+    ) -> io::Result<(u32, Upstream)> {
+        let mut last = io::Error::from(ErrorKind::NotFound);
+        for member in order {
+            match self.send(member, kind, call, until) {
+                Ok(upstream) => return Ok((member.number, upstream)),
+                Err(Unsent::Prefix(error)) => {
+                    self.members.doubt(&self.rt, member);
+                    return Err(error);
                 }
-                Ok((upstream, until))
-            }
-            Err(fault) => {
-                let error = fault.into_error();
-                self.members.fail(&self.rt, member, &error);
-                Err(error)
+                // where no time is left, it may be the others that took it
+                Err(Unsent::Untouched(error)) if until.left(&self.rt).is_err() => {
+                    self.members.doubt(&self.rt, member);
+                    return Err(error);
+                }
+                Err(Unsent::Untouched(error)) => {
+                    self.members.untouched(&self.rt, member, &error);
+                    last = error;
+                }
             }
         }
+        Err(last)
     }
 
-    // The stream that comes over this connection.
-    fn stream(&self, number: u32, upstream: Upstream) -> io::Result<StreamAnswer<R>>
-        ensures { IfOk result (λ stream. stream.faults ≡ 0) }
+    // Sends a call to the member of this number, or to another one that stands in for it.
+    fn sent(&self, number: u32, kind: CallKind, call: &[u8]) -> io::Result<(u32, Upstream, Until)> {
+        let until = Until::after(&self.rt, self.limits.limit_for(kind))?;
+        let (number, upstream) = match kind {
+            CallKind::Asks => { self.sent_to(&[self.members.member(number)?], kind, call, until)? }
+            _ => {
+                let order = self.members.order(number)?;
+                self.sent_to(order.as_slice(), kind, call, until)?
+            }
+        };
+        Ok((number, upstream, until))
+    }
+
+    // The stream of this number that comes over this connection. It is `ConnectionAborted` where nobody wants it any more.
+    fn stream(&self, number: u32, stream: u64, upstream: Upstream) -> io::Result<StreamAnswer<R>>
+        ensures { IfOk result (λ answer. answer.faults ≡ 0) }
     {
-        let mut upstream = upstream;
-        upstream.limit_read(Duration::from_millis(self.limits.silence.max(1)))?;
-        Ok(StreamAnswer {
+        let socket = upstream.into_socket();
+        let silence = Duration::from_millis(self.limits.silence.max(1));
+        socket.set_read_timeout(Some(silence))?;
+        let answer = StreamAnswer {
             rt: self.rt,
             members: Arc::try_clone(&self.members)?,
             limits: self.limits,
             member: number,
-            upstream,
+            stream,
+            socket: Arc::new(self.members.alloc, socket)?,
             heard: time(&self.rt)?,
             faults: 0,
-        })
+        };
+        let streams = &self.members.streams;
+        if streams.begin(&self.rt, stream, &answer.socket)? {
+            Ok(answer)
+        } else {
+            Err(io::Error::from(ErrorKind::ConnectionAborted))
+        }
+    }
+
+    // What the member of this number answers to a call over this connection.
+    fn answer(
+        &self,
+        number: u32,
+        kind: CallKind,
+        upstream: Upstream,
+        until: Until,
+    ) -> io::Result<CallAnswer<R>>
+        ensures { IfOk result (λ answer. answer.faults ≡ 0) }
+    {
+        let members = Arc::try_clone(&self.members)?;
+        Ok(CallAnswer::new(self.rt, members, upstream, number, kind, until))
     }
 
     // Sends a call to the member of this number, and gives its answer.
     fn begun(&self, number: u32, kind: CallKind, call: &[u8]) -> io::Result<SocketAnswer<R>>
         ensures { IfOk result (λ answer. faults_of answer ≡ 0) }
     {
-        let (upstream, until) = self.sent(number, kind, call)?;
-        if let CallKind::Watches(_) = kind {
-            Ok(SocketAnswer::Stream(self.stream(number, upstream)?))
+        let (number, upstream, until) = self.sent(number, kind, call)?;
+        if let CallKind::Watches(stream) = kind {
+            Ok(SocketAnswer::Stream(self.stream(number, stream, upstream)?))
         } else {
-            Ok(SocketAnswer::Call(CallAnswer::new(self.rt, upstream, number, until)))
+            Ok(SocketAnswer::Call(self.answer(number, kind, upstream, until)?))
         }
     }
 
-    // Says what the answer to a call shows of its member.
+    // A call is begun.
+    fn enter(&mut self, kind: CallKind)
+        ensures { self.new.faults ≡ self.old.faults }
+    {
+        if is_of_worker(kind) {
+            self.members.busy.begin(&self.rt, self.ended);
+            self.inside = true;
+        }
+    }
+
+    // A call ends.
+    fn leave(&mut self)
+        ensures { self.new.faults ≡ self.old.faults }
+    {
+        if self.inside {
+            self.ended = self.members.busy.end(&self.rt);
+            self.inside = false;
+        }
+    }
+
+    // Doubts a member where the answer to a call failed. Who asks it says himself what came of that.
     fn judge(&self, call: &CallAnswer<R>) {
-        let Ok(member) = self.members.member(call.member) else {
-            return;
-        };
-        match &call.error {
-            Some(error) => self.members.fail(&self.rt, member, error),
-            None if call.has_begun() => self.members.tell(&self.rt, member, None),
-            None => {}
+        let has_failed = call.faults > 0 && call.kind != CallKind::Asks;
+        if let (true, Ok(member)) = (has_failed, self.members.member(call.member)) {
+            self.members.doubt(&self.rt, member);
         }
     }
 }
@@ -150,9 +226,14 @@ impl<R: Net<Stream = TcpStream> + Times + Wait + Eprint + Drop + Copy> Link for 
         kind: CallKind,
         call: &[u8],
     ) -> Result<SocketAnswer<R>, LinkFault> {
+        self.enter(kind);
         match self.begun(member, kind, call) {
             Ok(answer) => Ok(answer),
             Err(error) => {
+                if self.inside && self.members.none_answers() {
+                    thread::sleep(&self.rt, Duration::from_millis(REST));
+                }
+                self.leave();
                 self.faults = self.faults.saturating_add(1);
                 Err(link_fault(&error))
             }
@@ -161,15 +242,20 @@ impl<R: Net<Stream = TcpStream> + Times + Wait + Eprint + Drop + Copy> Link for 
 
     /// The connection of an answer that was read whole is left to a later call; each other one is closed.
     fn end(&mut self, answer: SocketAnswer<R>, how: AnswerEnd) {
-        if let SocketAnswer::Call(call) = &answer {
-            self.judge(call);
-        }
-        let (number, upstream) = answer.into_upstream();
-        if let (AnswerEnd::Whole, Ok(member)) = (how, self.members.member(number)) {
-            member.idle.keep(&self.rt, upstream);
+        match answer {
+            SocketAnswer::Call(call) => {
+                self.judge(&call);
+                self.leave();
+                if let (AnswerEnd::Whole, Ok(member)) = (how, self.members.member(call.member)) {
+                    member.idle.keep(&self.rt, call.upstream);
+                }
+            }
+            SocketAnswer::Stream(stream) => self.members.streams.end(&self.rt, stream.stream),
         }
     }
 
-    /// The stream's follower learns of it by its own next step.
-    fn forget(&mut self, _stream: u64) {}
+    /// The stream's connection is shut down, so that its follower sees the end at once.
+    fn forget(&mut self, stream: u64) {
+        self.members.streams.forget(&self.rt, stream);
+    }
 }

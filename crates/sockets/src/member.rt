@@ -1,35 +1,19 @@
-use crate::call_answer::CallAnswer;
+use crate::health::{Health, Pulse};
 use crate::idle::{Idle, MOST};
-use crate::limits::LinkLimits;
+use crate::lively::keep_lively;
 use crate::times::Until;
 use crate::upstream::{Unsent, Upstream};
 use etcd_types::{Bytes, NoMemory};
-use http_wire::{Wire, write_call};
 use std::alloc::Global;
 use std::io::ErrorKind;
 use std::net::{Net, SocketAddr, TcpStream, ToSocketAddrs};
 use std::rt::Clock as Times;
-use std::sync::atomic::AtomicU64;
+use std::sync::atomic::AtomicBool;
 use std::sync::{Mutex, Wait};
 use std::{io, str};
 
-/// The request by which a member is asked whether it answers: a range of one key, which needs the agreement of the cluster
-/// and gives no record (etcd API reference: service KV, Range).
-const ASKING_PATH: &[u8] = b"/v3/kv/range";
-
-const ASKING_BODY: &[u8] = b"{\"key\":\"AA==\",\"count_only\":true}";
-
 /// No name has more addresses.
 const MOST_ADDRESSES: u32 = 32;
-
-/// The last asking whether a member answers.
-#[derive(Drop)]
-pub(crate) struct Asked {
-    /// When its answer came, by `time`, or 0 where it wasn't asked yet.
-    pub(crate) at: u64,
-    /// Whether it was the one that was asked for.
-    pub(crate) good: bool,
-}
 
 /// A member of a cluster.
 #[derive(Drop)]
@@ -38,14 +22,14 @@ pub(crate) struct Member {
     pub(crate) number: u32,
     /// Its address as it was named, `host:port`.
     pub(crate) host: String,
-    // the bytes of the call that asks whether it answers
-    asking: Bytes,
     // the address to be tried first, where the name has any
     address: Mutex<Option<SocketAddr>>,
-    /// The last asking whether it answers. Who asks holds the lock.
-    pub(crate) asked: Mutex<Asked>,
-    /// 1 where it was told last that it doesn't answer.
-    pub(crate) told: AtomicU64,
+    /// Whether it answers.
+    pub(crate) pulse: Pulse,
+    /// Whether the last asking wasn't made, since memory or descriptors were wanting.
+    pub(crate) is_unasked: AtomicBool,
+    /// Whether it was told last that it doesn't answer.
+    pub(crate) is_told: AtomicBool,
     /// Connections that calls left.
     pub(crate) idle: Idle,
 }
@@ -72,16 +56,15 @@ impl Member {
         number: u32,
         host: &Bytes,
     ) -> Result<Member, NoMemory> {
-        let asking = write_call(alloc, host.as_slice(), ASKING_PATH, ASKING_BODY)?;
         let host = str::from_utf8(host.as_slice()).unwrap_or("");
         let address = next_address(rt, host, None).ok();
         Ok(Member {
             number,
             host: String::from_str(alloc, host)?,
-            asking,
             address: Mutex::new(address),
-            asked: Mutex::new(Asked { at: 0, good: false }),
-            told: AtomicU64::new(0),
+            pulse: Pulse::new(),
+            is_unasked: AtomicBool::new(false),
+            is_told: AtomicBool::new(false),
             idle: Idle::new(alloc),
         })
     }
@@ -127,6 +110,7 @@ impl Member {
     ) -> io::Result<Upstream> {
         let stream = self.connect(rt, until.or_after(rt, connect)?)?;
         let _ = stream.set_nodelay(true);
+        keep_lively(&stream);
         Ok(Upstream::new(stream))
     }
 
@@ -185,25 +169,8 @@ impl Member {
         }
     }
 
-    /// Asks whether it answers, on a connection of its own.
-    pub(crate) fn ask<R: Net<Stream = TcpStream> + Times + Wait>(
-        &self,
-        rt: &R,
-        alloc: Global,
-        limits: &LinkLimits,
-    ) -> io::Result<bool> {
-        let until = Until::after(rt, limits.ask)?;
-        let Ok(mut wire) = Wire::new(alloc) else {
-            return Err(io::Error::from(ErrorKind::OutOfMemory));
-        };
-        let upstream = match self.send_anew(rt, self.asking.as_slice(), limits.connect, until) {
-            Ok(upstream) => upstream,
-            Err(fault) => return Err(fault.into_error()),
-        };
-        let mut answer = CallAnswer::new(rt, upstream, self.number, until);
-        match wire.read_answer(&mut answer) {
-            Ok(head) => Ok(head.status == 200),
-            Err(_) => Ok(false),
-        }
+    /// Whether its calls go to others.
+    pub(crate) fn is_down(&self) -> bool {
+        matches!(self.pulse.health(), Health::Down | Health::Barred)
     }
 }

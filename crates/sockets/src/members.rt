@@ -1,21 +1,20 @@
 ghost use Rattle.std.specs.Prelude.{◌≡◌, length, IfOk};
 
-use crate::limits::LinkLimits;
-use crate::member::{Asked, Member};
-use crate::times::time;
+use crate::busy::Busy;
+use crate::health::{Asked, Health};
+use crate::log::{Pace, line_time};
+use crate::member::Member;
+use crate::streams::Streams;
 use etcd_types::{Bytes, List, NoMemory};
 use std::alloc::Global;
+use std::fmt::Display;
 use std::io;
 use std::io::ErrorKind;
 use std::marker::Model;
-use std::net::{Net, TcpStream};
+use std::net::Net;
 use std::rt::Clock as Times;
 use std::sync::Wait;
-use std::sync::atomic::AtomicU64;
 use std::sync::atomic::Ordering::SeqCst;
-
-/// A good answer to the asking whether a member answers counts for so many milliseconds.
-const FRESH: u64 = 5_000;
 
 /// Between two lines on the standard error are at least so many milliseconds.
 const LINES: u64 = 1_000;
@@ -23,10 +22,14 @@ const LINES: u64 = 1_000;
 /// The members of a cluster, as all links of a process share them.
 #[derive(Drop)]
 pub struct Members {
-    alloc: Global,
+    pub(crate) alloc: Global,
     all: Vec<Member>,
-    // when the last line was written, by `time`, or 0 where none was
-    told: AtomicU64,
+    // when the last line was written
+    pace: Pace,
+    /// The streams that were begun at them.
+    pub(crate) streams: Streams,
+    /// Those who make calls to them.
+    pub(crate) busy: Busy,
 }
 
 /// It is seen as how many members there are.
@@ -36,6 +39,13 @@ impl Model for Members {
     ghost Value = { ℕ };
 
     ghost view = { λ m. vec_len m.all };
+}
+
+/// Whether an error says nothing of a member: memory, descriptors or ports of this machine were wanting.
+fn is_wanting(error: &io::Error) -> bool {
+    // ENOMEM, ENFILE, EMFILE, EADDRNOTAVAIL, ENOBUFS
+    error.kind() == ErrorKind::OutOfMemory
+        || matches!(error.raw_os_error(), Some(12 | 23 | 24 | 99 | 105))
 }
 
 impl Members {
@@ -53,8 +63,20 @@ impl Members {
         Ok(Members {
             alloc,
             all,
-            told: AtomicU64::new(0),
+            pace: Pace::new(),
+            streams: Streams::new(alloc),
+            busy: Busy::new(0),
         })
+    }
+
+    /// The same members, to which so many workers make calls: where all of them are busy, that is said on the standard error.
+    pub fn with_workers(self, workers: u64) -> Members
+        ensures { result ≡ self }
+    {
+        Members {
+            busy: Busy::new(workers),
+            ..self
+        }
     }
 
     /// The member of this number. It is `NotFound` where there is none.
@@ -65,79 +87,157 @@ impl Members {
             .ok_or(io::Error::from(ErrorKind::NotFound))
     }
 
-    // Whether a line may be written now. It is then counted as written.
-    fn may_tell<R: Times>(&self, rt: &R) -> bool {
-        let Ok(now) = time(rt) else {
-            return false;
-        };
-        let last = self.told.load(SeqCst);
-        let is_over = last == 0 || now >= last.saturating_add(LINES);
-        is_over
-            && self
-                .told
-                .compare_exchange(last, now, SeqCst, SeqCst)
-                .is_ok()
-    }
-
-    /// Says on the standard error that a member doesn't answer, or that it answers again, where that isn't what was said of it
-    /// last. What can't be said now, since a line was written less than a second ago, is said by a later call. Want of memory
-    /// says nothing of a member.
-    pub(crate) fn tell<R: Times + Eprint>(
-        &self,
-        rt: &R,
-        member: &Member,
-        fault: Option<&io::Error>,
-    ) {
-        if let Some(error) = fault {
-            if error.kind() == ErrorKind::OutOfMemory {
-                return;
+    /// The members that a call to the one of this number goes to, one after the other as long as none takes a byte of it: that one
+    /// and those behind it, then those before it, but those that are down behind all others, and none that refused to be asked.
+    pub(crate) fn order(&self, number: u32) -> io::Result<Vec<&Member>> {
+        let first = self.member(number)?.number;
+        let mut order = Vec::new(self.alloc);
+        let mut down = Vec::new(self.alloc);
+        let behind = self.all.iter().filter(|member| member.number >= first);
+        let before = self.all.iter().filter(|member| member.number < first);
+        for member in behind.chain(before) {
+            match member.pulse.health() {
+                Health::Up | Health::Suspect => order.push(member)?,
+                Health::Down => down.push(member)?,
+                Health::Barred => {}
             }
         }
-        let told = u64::from(fault.is_some());
-        if member.told.load(SeqCst) == told || !self.may_tell(rt) {
+        for member in down {
+            order.push(member)?;
+        }
+        Ok(order)
+    }
+
+    /// Whether all members are down.
+    pub(crate) fn none_answers(&self) -> bool {
+        self.all.iter().all(|member| member.is_down())
+    }
+
+    // The number of the member that calls to this one go to.
+    fn stand_in(&self, member: &Member) -> Option<u32> {
+        let order = self.order(member.number).ok()?;
+        let next = order.first()?;
+        if next.is_down() {
+            None
+        } else {
+            Some(next.number)
+        }
+    }
+
+    // Whether it may be told now that a member answers, or doesn't, where that isn't what was told of it last. What can't be told
+    // now, since a line was written less than a second ago, is told later: one that is down is asked each second.
+    fn tells<R: Times>(&self, rt: &R, member: &Member, fails: bool) -> bool {
+        if member.is_told.load(SeqCst) == fails || !self.pace.may_tell(rt, LINES) {
+            return false;
+        }
+        member.is_told.store(fails, SeqCst);
+        true
+    }
+
+    // A member is down: its calls go to another one, and connections to it that rest are closed. The cause is told.
+    fn fall<R: Times + Wait + Eprint, D: Display + Drop>(&self, rt: &R, member: &Member, cause: D) {
+        member.pulse.fall();
+        member.idle.close(rt);
+        if !self.tells(rt, member, true) {
             return;
         }
-        member.told.store(told, SeqCst);
         let number = member.number;
         let host = member.host.as_str();
-        let _ = match fault {
-            Some(error) => {
-                eprintln!(rt; "etcd_proxy: member {number} ({host}) doesn't answer: {error}")
+        let when = line_time(rt);
+        let _ = match self.stand_in(member) {
+            Some(other) => {
+                eprintln!(rt;
+                    "{when:.3} WARN etcd_proxy: member {number} ({host}) doesn't answer: {cause}; its calls go to member {other}"
+                )
             }
-            None => eprintln!(rt; "etcd_proxy: member {number} ({host}) answers again"),
+            None => eprintln!(rt;
+                "{when:.3} WARN etcd_proxy: member {number} ({host}) doesn't answer: {cause}"
+            ),
         };
     }
 
-    /// Closes the connections to a member that rest, and says that it doesn't answer: a call to it failed.
-    pub(crate) fn fail<R: Times + Wait + Eprint>(
+    /// A member took no byte of a call.
+    pub(crate) fn untouched<R: Times + Wait + Eprint>(
         &self,
         rt: &R,
         member: &Member,
         error: &io::Error,
     ) {
-        member.idle.close(rt);
-        self.tell(rt, member, Some(error));
+        if is_wanting(error) {
+            member.is_unasked.store(true, SeqCst);
+        } else {
+            self.fall(rt, member, error);
+        }
     }
 
-    /// Whether a member answers when it is asked for what needs the agreement of the cluster. Those who ask at the same time
-    /// share one asking, and a good answer counts for five seconds.
-    pub(crate) fn answers<R: Net<Stream = TcpStream> + Times + Wait>(
-        &self,
-        rt: &R,
-        member: &Member,
-        limits: &LinkLimits,
-    ) -> bool {
-        let Ok(came) = time(rt) else {
-            return false;
+    /// The answer to a call failed, or its sending behind the first byte: its member is asked next, and connections to it that rest
+    /// are closed.
+    pub(crate) fn doubt<R: Wait>(&self, rt: &R, member: &Member) {
+        member.pulse.doubt();
+        member.idle.close(rt);
+    }
+
+    /// A member was asked whether it answers. One that was up and didn't is asked again before its calls go to another one.
+    pub fn asked<R: Times + Wait + Eprint>(&self, rt: &R, number: u32, came: Asked) {
+        let Ok(member) = self.member(number) else {
+            return;
         };
-        let mut asked = member.asked.lock(rt);
-        // the asking ended since, or its good answer still counts
-        if asked.at >= came || asked.good && came.saturating_sub(asked.at) < FRESH {
-            return asked.good;
+        let is_unasked = member.is_unasked.swap(false, SeqCst);
+        match came {
+            Asked::Well => self.rise(rt, member),
+            Asked::Barred => self.bar(rt, member),
+            // nothing is known of it
+            Asked::InVain if is_unasked => {}
+            Asked::InVain if member.pulse.health() == Health::Up => member.pulse.doubt(),
+            Asked::InVain => {
+                self.fall(
+                    rt,
+                    member,
+                    "it was asked for the state of the cluster in vain",
+                )
+            }
         }
-        let good = member.ask(rt, self.alloc, limits).unwrap_or(false);
-        let at = time(rt).unwrap_or(0);
-        *asked = Asked { at, good };
-        good
+    }
+
+    // A member answers.
+    fn rise<R: Times + Eprint>(&self, rt: &R, member: &Member) {
+        member.pulse.rise();
+        if self.tells(rt, member, false) {
+            let number = member.number;
+            let host = member.host.as_str();
+            let when = line_time(rt);
+            let _ = eprintln!(rt;
+                "{when:.3} INFO etcd_proxy: member {number} ({host}) answers again"
+            );
+        }
+    }
+
+    // No call goes to a member: what it would answer to some, such as a keepalive, would be no word of a cluster that serves this proxy.
+    fn bar<R: Times + Wait + Eprint>(&self, rt: &R, member: &Member) {
+        member.pulse.bar();
+        member.idle.close(rt);
+        if self.tells(rt, member, true) {
+            let number = member.number;
+            let host = member.host.as_str();
+            let when = line_time(rt);
+            let _ = eprintln!(rt;
+                "{when:.3} WARN etcd_proxy: member {number} ({host}) asks for a user, and this proxy has none"
+            );
+        }
+    }
+
+    /// Waits until a member is to be asked again: each five seconds, or each second where it isn't up.
+    pub fn rest<R: Wait + Times>(&self, rt: &R, number: u32) {
+        if let Ok(member) = self.member(number) {
+            member.pulse.rest(rt);
+        }
+    }
+
+    /// Whether a member answers, as far as it is known. One that isn't there is down.
+    pub fn health(&self, number: u32) -> Health {
+        match self.member(number) {
+            Ok(member) => member.pulse.health(),
+            Err(_) => Health::Down,
+        }
     }
 }

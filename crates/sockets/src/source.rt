@@ -6,7 +6,7 @@ use crate::connection::Shared;
 use crate::phase::Phase;
 use crate::times::{TRIES, Until};
 use crate::transfer::glance;
-use outside::{Failed, ReadMark, Source};
+use outside::{Failed, ReadMark, RequestKind, Source};
 use std::alloc::Global;
 use std::io::{ErrorKind, Read};
 use std::marker::Model;
@@ -31,6 +31,8 @@ pub struct SocketSource<R: Drop> {
     pub(crate) began: u64,
     /// How many bytes came since the last body was read.
     pub(crate) came: u64,
+    /// Whether the last request is a watch.
+    pub(crate) watches: bool,
     /// The limit of time that the socket has for a read; zero where none was set.
     pub(crate) limit: Duration,
     pub(crate) faults: u64,
@@ -133,10 +135,11 @@ impl<R: Wait + Times + Drop> Source for SocketSource<R> {
         Err(Failed)
     }
 
-    /// The other end is gone where the connection was closed or failed. One that closed its writing half counts as gone.
+    /// The other end is gone where the connection failed, and for a watch also where it was closed. Of a client that closed its writing
+    /// half alone no more is seen than of one that closed both, and each other request has its reply soon.
     fn check(&mut self) -> Result<(), Failed> {
         let is_there = match glance(&self.shared.stream) {
-            Ok(count) => count > 0,
+            Ok(count) => count > 0 || !self.watches,
             Err(error) => { matches!(error.kind(), ErrorKind::WouldBlock | ErrorKind::Interrupted) }
         };
         if is_there {
@@ -147,6 +150,9 @@ impl<R: Wait + Times + Drop> Source for SocketSource<R> {
     }
 
     fn mark(&mut self, mark: ReadMark) {
+        if let ReadMark::Request(kind) = mark {
+            self.watches = kind == RequestKind::Watch;
+        }
         self.phase = self.phase.after(mark);
         if self.phase.is_between() {
             self.came = 0;

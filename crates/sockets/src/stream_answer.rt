@@ -3,16 +3,15 @@ ghost use Rattle.std.specs.Prelude.{◌≡◌, None};
 use crate::limits::LinkLimits;
 use crate::members::Members;
 use crate::times::{TRIES, time};
-use crate::upstream::Upstream;
 use outside::{Failed, ReadMark, Source};
 use std::alloc::Global;
-use std::io::ErrorKind;
+use std::io::{ErrorKind, Read};
 use std::net::{Net, TcpStream};
 use std::rt::Clock as Times;
 use std::sync::{Arc, Wait};
 
-/// An answer that comes as long as the member sends. Where it said nothing for ten seconds its member is asked, and it fails only
-/// where that doesn't answer, or behind ten minutes of silence.
+/// An answer that comes as long as the member sends. Where it said nothing for five seconds it fails if its member is down, and it fails
+/// behind ten minutes of silence in any case.
 #[derive(Drop)]
 pub struct StreamAnswer<R: Drop> {
     pub(crate) rt: R,
@@ -20,8 +19,10 @@ pub struct StreamAnswer<R: Drop> {
     pub(crate) limits: LinkLimits,
     /// The member that it comes from.
     pub(crate) member: u32,
-    /// Its socket has the limit of silence.
-    pub(crate) upstream: Upstream,
+    /// The number of the stream.
+    pub(crate) stream: u64,
+    /// It has the limit of silence.
+    pub(crate) socket: Arc<TcpStream, Global>,
     /// When the last bytes came, by `time`.
     pub(crate) heard: u64,
     pub(crate) faults: u64,
@@ -33,8 +34,7 @@ impl<R: Net<Stream = TcpStream> + Times + Wait + Drop> StreamAnswer<R> {
         let (Ok(now), Ok(member)) = (time(&self.rt), self.members.member(self.member)) else {
             return false;
         };
-        now.saturating_sub(self.heard) < self.limits.cut
-            && self.members.answers(&self.rt, member, &self.limits)
+        now.saturating_sub(self.heard) < self.limits.cut && !member.is_down()
     }
 }
 
@@ -45,7 +45,8 @@ impl<R: Net<Stream = TcpStream> + Times + Wait + Drop> Source for StreamAnswer<R
 
     fn read(&mut self, room: &mut [u8]) -> Result<usize, Failed> {
         for _ in 0..TRIES {
-            match self.upstream.receive_once(room) {
+            let mut socket = &*self.socket;
+            match socket.read(room) {
                 Ok(count) => {
                     self.heard = time(&self.rt).unwrap_or(self.heard);
                     return Ok(count);

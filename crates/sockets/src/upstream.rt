@@ -139,11 +139,9 @@ impl Upstream {
         Ok(())
     }
 
-    /// Lets a read that has no moment to end by last for so long at most.
-    pub(crate) fn limit_read(&mut self, limit: Duration) -> io::Result<()> {
-        self.stream.set_read_timeout(Some(limit))?;
-        self.read_limit = limit;
-        Ok(())
+    /// The connection's socket.
+    pub(crate) fn into_socket(self) -> TcpStream {
+        self.stream
     }
 
     /// Sends all the bytes over a new connection.
@@ -207,13 +205,5 @@ impl Upstream {
         ensures { ReadsAtMost result room.new }
     {
         receive(rt, &self.stream, &mut self.read_limit, room, until)
-    }
-
-    /// Reads once, within the socket's limit.
-    pub(crate) fn receive_once(&mut self, room: &mut [u8]) -> io::Result<usize>
-        ensures { ReadsAtMost result room.new }
-    {
-        let mut socket = &self.stream;
-        socket.read(room)
     }
 }

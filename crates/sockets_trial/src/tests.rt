@@ -1,5 +1,7 @@
 mod calls;
 mod ends;
+mod forgotten;
+mod health;
 mod kept;
 mod streams;
 
@@ -114,6 +116,7 @@ impl<R: Net<Listener = TcpListener, Stream = TcpStream>> Net for Watched<R> {
 const LIMITS: LinkLimits = LinkLimits {
     connect: 20_000,
     read: 20_000,
+    scan: 20_000,
     write: 20_000,
     silence: 300,
     ask: 20_000,
@@ -131,6 +134,19 @@ fn listening<R: Net<Listener = TcpListener, Stream = TcpStream>>(
     Ok((listener, Bytes::from_slice(alloc, address.as_bytes())?))
 }
 
+/// The members at these addresses.
+fn members_at<R: Net>(
+    rt: &R,
+    alloc: Global,
+    addresses: &[&Bytes],
+) -> Result<Arc<Members, Global>, NoMemory> {
+    let mut hosts = List::new(alloc);
+    for address in addresses {
+        hosts.push(address.copy(alloc)?)?;
+    }
+    Ok(Arc::new(alloc, Members::new(rt, alloc, &hosts)?)?)
+}
+
 /// A link to the members at these addresses.
 fn linked<R: Net + Drop>(
     rt: R,
@@ -138,11 +154,7 @@ fn linked<R: Net + Drop>(
     addresses: &[&Bytes],
     limits: LinkLimits,
 ) -> Result<SocketLink<R>, NoMemory> {
-    let mut hosts = List::new(alloc);
-    for address in addresses {
-        hosts.push(address.copy(alloc)?)?;
-    }
-    let members = Arc::new(alloc, Members::new(&rt, alloc, &hosts)?)?;
+    let members = members_at(&rt, alloc, addresses)?;
     Ok(SocketLink::new(rt, members, limits))
 }
 

@@ -1,4 +1,4 @@
-//! Calls, and what a link says of its members.
+//! Calls, and their limits.
 
 use super::{
     Act, CALL, Heard, LIMITS, ONE, Story, TWO, Watched, call, hear, linked, listening, play,
@@ -9,54 +9,6 @@ use std::alloc::Global;
 use std::test::Fail;
 use std::thread;
 use std::time::Duration;
-
-const TWICE: Story = Story {
-    lots: &[
-        &[Act::Hear(CALL), Act::Say(ONE)],
-        &[Act::Hear(CALL)],
-        &[Act::Hear(CALL), Act::Say(TWO)],
-    ],
-};
-
-/// Calls, each with how many milliseconds are waited before it, its member, the answer that is wanted, what it comes to, and how many
-/// lines there are then.
-const REPORTED: &[(u64, u32, &[u8], Heard, u64)] = &[
-    (0, 1, ONE, Heard::Wanted, 0),
-    // a connection that is closed without an answer
-    (0, 1, ONE, Heard::Failed, 1),
-    // another failure within the same second is not reported, and then it is, once
-    (0, 2, ONE, Heard::Unsent, 1),
-    (1_100, 2, ONE, Heard::Unsent, 2),
-    (1_100, 2, ONE, Heard::Unsent, 2),
-    // the first one is back
-    (0, 1, TWO, Heard::Wanted, 3),
-    // there is no third one
-    (0, 3, ONE, Heard::Unsent, 3),
-];
-
-#[test]
-fn a_link_calls_members_and_reports_failures_and_recoveries(rt: HostRuntime) -> Result<(), Fail> {
-    let alloc: Global = rt.alloc();
-    let (listener, address) = listening(&rt, alloc)?;
-    let (none, gone) = listening(&rt, alloc)?;
-    drop(none);
-    let handle = thread::spawn(&rt, move || -> usize { play(&rt, &listener, TWICE) })?;
-    let system = Watched::new(&rt);
-    let mut link = linked(&system, alloc, &[&address, &gone], LIMITS)?;
-    for (pause, member, wanted, heard, lines) in REPORTED {
-        thread::sleep(&rt, Duration::from_millis(*pause));
-        let came = call(
-            &mut link,
-            *member,
-            CallKind::Reads,
-            wanted,
-            AnswerEnd::Broken,
-        );
-        assert_eq!(rt; (came, system.lines()), (*heard, *lines), "{member}");
-    }
-    assert_eq!(rt; handle.join(&rt), 5);
-    Ok(())
-}
 
 #[test]
 fn a_call_has_a_limit_and_fails_where_the_clock_does(rt: HostRuntime) -> Result<(), Fail> {
@@ -71,11 +23,12 @@ fn a_call_has_a_limit_and_fails_where_the_clock_does(rt: HostRuntime) -> Result<
     let mut link = linked(&system, alloc, &[&address], limits)?;
     let late = call(&mut link, 1, CallKind::Reads, ONE, AnswerEnd::Whole);
     assert_eq!(rt; late, Heard::Failed);
-    // the call's limit, a kept connection, the connection's limit, connecting, sending, and reading
-    for reading in 1..7 {
+    // behind the reading that says since when the worker is inside a call, which may fail: the call's limit, a kept connection, the
+    // connection's limit, connecting, sending, and reading
+    for reading in 2..8 {
         system.refuse(reading);
         let heard = call(&mut link, 1, CallKind::Writes, ONE, AnswerEnd::Whole);
-        let wanted = if reading < 6 {
+        let wanted = if reading < 7 {
             Heard::Unsent
         } else {
             Heard::Failed

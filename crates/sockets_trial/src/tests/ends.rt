@@ -2,7 +2,7 @@
 
 use super::{Watched, hears, listening};
 use etcd_types::Bytes;
-use outside::{Host, ReadMark, Sink, Source, WriteMark};
+use outside::{Host, ReadMark, RequestKind, Sink, Source, WriteMark};
 use sockets::{
     ConnectionLimits, Permits, SocketHost, SocketSink, SocketSource, ends_within, linger,
 };
@@ -68,6 +68,10 @@ fn a_client_that_went_away_is_seen(rt: HostRuntime) -> Result<(), Fail> {
     client.write_all(b"a")?;
     drop(client);
     assert!(rt; source.check().is_ok() && gives(&mut source, b"a"));
+    // it may have closed its writing half alone, and waits for its reply, but for a watch
+    source.mark(ReadMark::Request(RequestKind::Put));
+    assert!(rt; source.check().is_ok());
+    source.mark(ReadMark::Request(RequestKind::Watch));
     assert!(rt; source.check().is_err() && gives(&mut source, b""));
     // the ends may go to another thread
     let handle = thread::spawn(&rt, move || -> usize { linger(source, sink) })?;
@@ -269,5 +273,19 @@ fn a_host_accepts_and_says_why_it_fails(rt: HostRuntime) -> Result<(), Fail> {
     let client = TcpStream::connect(&rt, str::from_utf8(taken.as_slice())?)?;
     assert!(rt; host.accept().is_ok());
     drop(client);
+    Ok(())
+}
+
+#[test]
+fn a_host_fails_behind_its_last_connection(rt: HostRuntime) -> Result<(), Fail> {
+    let alloc: Global = rt.alloc();
+    let (there, address) = listening(&rt, alloc)?;
+    drop(there);
+    let mut host = SocketHost::new(rt).of_most(1);
+    assert!(rt; host.listen(&address).is_ok());
+    let _first = TcpStream::connect(&rt, str::from_utf8(address.as_slice())?)?;
+    let _second = TcpStream::connect(&rt, str::from_utf8(address.as_slice())?)?;
+    assert!(rt; host.accept().is_ok());
+    assert!(rt; host.accept().is_err());
     Ok(())
 }

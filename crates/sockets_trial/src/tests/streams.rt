@@ -1,57 +1,48 @@
 //! Streams that are silent.
 
-use super::{Act, CALL, Heard, LIMITS, ONE, Story, TWO, does_all, hear, hears, linked, listening};
-use etcd_types::Bytes;
+use super::{Act, CALL, Heard, LIMITS, ONE, Story, TWO, hear, hears, listening, members_at, play};
 use outside::{AnswerEnd, CallKind, Link, Source};
-use sockets::{LinkLimits, SocketAnswer};
+use sockets::{Asked, LinkLimits, Members, SocketAnswer, SocketLink};
 use std::alloc::Global;
 use std::io::Write;
-use std::net::{Net, TcpListener, TcpStream};
+use std::net::{Net, TcpStream};
 use std::rt::Clock as Times;
-use std::sync::Wait;
+use std::sync::{Arc, Wait};
 use std::test::Fail;
 use std::thread;
-use std::time::Duration;
 
-/// A stream that is begun on the one member there.
+/// A stream that is begun on the first of these members.
 fn begun<R: Net<Stream = TcpStream> + Times + Wait + Eprint + Drop + Copy>(
     rt: R,
-    alloc: Global,
-    address: &Bytes,
+    members: &Arc<Members, Global>,
     limits: LinkLimits,
 ) -> Option<SocketAnswer<R>> {
-    let mut link = linked(rt, alloc, &[address], limits).ok()?;
+    let mut link = SocketLink::new(rt, Arc::try_clone(members).ok()?, limits);
     link.begin(1, CallKind::Watches(1), CALL).ok()
 }
 
-/// A member whose stream says something, is silent for three limits of silence while it is asked once, which it answers so, and
-/// then says something else: how many of those went so.
-fn watched<R: Times>(rt: &R, listener: &TcpListener, says: &'static [u8]) -> usize {
-    let Ok((mut stream, _)) = listener.accept() else {
-        return 0;
-    };
-    let began = hears(&mut stream, CALL) && stream.write(ONE).is_ok();
-    let Ok((asking, _)) = listener.accept() else {
-        return usize::from(began);
-    };
-    let asked = does_all(rt, asking, &[Act::Say(says), Act::Rest(700)]);
-    let last = stream.write(TWO).is_ok();
-    asked
-        .saturating_add(usize::from(began))
-        .saturating_add(usize::from(last))
-}
+/// A member whose stream is silent for three limits of silence between two things that it says.
+const SILENT: Story = Story {
+    lots: &[&[
+        Act::Hear(CALL),
+        Act::Say(ONE),
+        Act::Rest(1_000),
+        Act::Say(TWO),
+    ]],
+};
 
 #[test]
-fn a_silent_stream_goes_on_where_its_member_answers(rt: HostRuntime) -> Result<(), Fail> {
+fn a_silent_stream_goes_on_where_its_member_is_not_down(rt: HostRuntime) -> Result<(), Fail> {
     let alloc: Global = rt.alloc();
     let (listener, address) = listening(&rt, alloc)?;
-    let good = b"HTTP/1.1 200 OK\r\n\r\n".as_slice();
-    let handle = thread::spawn(&rt, move || -> usize { watched(&rt, &listener, good) })?;
-    let Some(mut stream) = begun(rt, alloc, &address, LIMITS) else {
+    let handle = thread::spawn(&rt, move || -> usize { play(&rt, &listener, SILENT) })?;
+    let members = members_at(&rt, alloc, &[&address])?;
+    let Some(mut stream) = begun(rt, &members, LIMITS) else {
         return Err(Fail::new("no stream was begun"));
     };
     assert!(rt; stream.check().is_ok());
-    // the good answer counts for a while: nobody is there to be asked again
+    // one asking in vain says nothing yet
+    members.asked(&rt, 1, Asked::InVain);
     assert_eq!(rt;
         (hear(&mut stream, ONE), hear(&mut stream, TWO)),
         (Heard::Wanted, Heard::Wanted)
@@ -62,15 +53,17 @@ fn a_silent_stream_goes_on_where_its_member_answers(rt: HostRuntime) -> Result<(
 }
 
 #[test]
-fn a_silent_stream_fails_where_its_member_does_not_answer(rt: HostRuntime) -> Result<(), Fail> {
+fn a_silent_stream_fails_where_its_member_is_down(rt: HostRuntime) -> Result<(), Fail> {
     let alloc: Global = rt.alloc();
     let (listener, address) = listening(&rt, alloc)?;
-    let bad = b"HTTP/1.1 503 Service Unavailable\r\n\r\n".as_slice();
-    let handle = thread::spawn(&rt, move || -> usize { watched(&rt, &listener, bad) })?;
-    let link = linked(rt, alloc, &[&address], LIMITS)?;
-    let Some(stream) = begun(rt, alloc, &address, LIMITS) else {
+    let handle = thread::spawn(&rt, move || -> usize { play(&rt, &listener, SILENT) })?;
+    let members = members_at(&rt, alloc, &[&address])?;
+    let link = SocketLink::new(rt, Arc::try_clone(&members)?, LIMITS);
+    let Some(stream) = begun(rt, &members, LIMITS) else {
         return Err(Fail::new("no stream was begun"));
     };
+    members.asked(&rt, 1, Asked::InVain);
+    members.asked(&rt, 1, Asked::InVain);
     // link and stream may go to another thread
     let follower = thread::spawn(&rt, move || -> bool {
         let (mut link, mut stream) = (link, stream);
@@ -88,7 +81,8 @@ fn a_stream_that_is_silent_for_too_long_is_cut(rt: HostRuntime) -> Result<(), Fa
     let alloc: Global = rt.alloc();
     let (listener, address) = listening(&rt, alloc)?;
     let limits = LinkLimits { cut: 200, ..LIMITS };
-    let Some(mut stream) = begun(rt, alloc, &address, limits) else {
+    let members = members_at(&rt, alloc, &[&address])?;
+    let Some(mut stream) = begun(rt, &members, limits) else {
         return Err(Fail::new("no stream was begun"));
     };
     let (mut member, _) = listener.accept()?;
@@ -97,8 +91,5 @@ fn a_stream_that_is_silent_for_too_long_is_cut(rt: HostRuntime) -> Result<(), Fa
         (hear(&mut stream, ONE), hear(&mut stream, TWO)),
         (Heard::Wanted, Heard::Failed)
     );
-    // the member wasn't asked
-    listener.set_nonblocking(true)?;
-    assert!(rt; listener.accept().is_err());
     Ok(())
 }

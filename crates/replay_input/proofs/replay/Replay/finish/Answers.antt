@@ -17,5 +17,4 @@ returns-clause-finished g c = λ start bytes f w.
     record {
       ended = t.ended;
       writes = all_written start written (string_bytes c.flush.new.self.pending) (text_of bytes) (c.in_ok-flush.ensures.ok start (text_of bytes) (writes_more (string_bytes c.take_end.new.self.pending) (text_of bytes) t.added w t.pending t.text)) c.in_ok-flush.ensures.nothing;
-      shown = t.shown;
     }

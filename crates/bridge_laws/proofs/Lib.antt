@@ -1,0 +1,13 @@
+pub mod Placed
+pub mod Growing
+pub mod Begins
+pub mod Clocks
+pub mod Starts
+pub mod Stores
+pub mod Pushes
+pub mod Executes
+pub mod Turns
+pub mod Holding
+pub mod Senders
+pub mod Rising
+pub mod Floored

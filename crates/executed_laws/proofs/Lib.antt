@@ -1,0 +1,17 @@
+pub mod OwnSends
+pub mod CoreSends
+pub mod Dues
+pub mod Sends
+pub mod Stories
+pub mod Turns
+pub mod Naming
+pub mod Waiting
+pub mod Reading
+pub mod Newly
+pub mod Tracked
+pub mod Turning
+pub mod Keeping
+pub mod Worlds
+pub mod Sources
+pub mod Told
+pub mod Standing

@@ -1,0 +1,3 @@
+pub mod Executed
+pub mod Standing
+pub mod Laws

@@ -1,0 +1,6 @@
+pub mod Grounds
+pub mod Clocked
+pub mod Decided
+pub mod Snapshots
+pub mod Replies
+pub mod Shown

@@ -1,0 +1,4 @@
+pub mod Cores
+pub mod Worlds
+pub mod Keeping
+pub mod Telling

@@ -1,0 +1,16 @@
+pub mod Passing
+pub mod Items
+pub mod Calls
+pub mod Acquires
+pub mod Firsts
+pub mod Known
+pub mod Ended
+pub mod Answers
+pub mod Jobs
+pub mod Works
+pub mod Steps
+pub mod Places
+pub mod Lists
+pub mod Worlds
+pub mod Turns
+pub mod Whole

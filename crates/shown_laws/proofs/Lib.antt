@@ -1,0 +1,9 @@
+pub mod Clock
+pub mod Lacks
+pub mod Sent
+pub mod Lists
+pub mod Works
+pub mod Sendings
+pub mod Fetches
+pub mod CallsSent
+pub mod Worlds

@@ -1,0 +1,16 @@
+pub mod Headers
+pub mod Stores
+pub mod Telling
+pub mod Facts
+pub mod Going
+pub mod Giving
+pub mod Heads
+pub mod Writing
+pub mod Unsent
+pub mod Showing
+pub mod Seeing
+pub mod Reached
+pub mod Replies
+pub mod Turns
+pub mod Truths
+pub mod Scripts

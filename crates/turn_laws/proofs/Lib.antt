@@ -1,0 +1,15 @@
+pub mod Numbers
+pub mod StreamJobs
+pub mod Openings
+pub mod OwnerEvents
+pub mod Clocked
+pub mod WriteCalls
+pub mod Created
+pub mod Jobs
+pub mod Answering
+pub mod Items
+pub mod Worlds
+pub mod Outs
+pub mod Keeping
+pub mod Turns
+pub mod Behind
