@@ -5,6 +5,9 @@ ghost use Rattle.core_model.specs.Lookups.{is_known};
 ghost use Rattle.core_model.specs.Takes.{ready};
 ghost use Rattle.core_model.specs.declared.event.StepFault.TheVariants.{NoMemory as Wanting};
 ghost use Rattle.core_face.specs.Steps.{Steps, takes_no_memory, is_watch};
+ghost use Rattle.core_face.specs.Promises.{StaysSound, LeavesNoneIdle, HoldsNothingBack, LeavesStreamsMerged, LeavesQueuesBounded};
+ghost use Rattle.idle_laws.specs.Streams.{JoinsWhereItCan};
+ghost use Rattle.waiting_laws.specs.Sound.{IsSound};
 
 use core_model::{CoreEvent, Outcome, Settings, StepFault};
 use etcd_types::NoMemory;
@@ -18,15 +21,26 @@ pub trait ProxyCore: Drop {
     /// A proxy at its start, with these settings. They name at least one member.
     fn new(alloc: Global, settings: Settings) -> Result<Self, NoMemory>
         requires { 1 ≤ settings.members }
-        ensures { IfOk result (λ made. core made ≡ first_core settings) };
+        ensures first { IfOk result (λ made. core made ≡ first_core settings) }
+        ensures sound { IfOk result (λ made. IsSound (core made)) };
 
     /// One step, at this reading of the proxy's clock in milliseconds.
     ///
     /// `Worn` comes before all else, and leaves all as it was. The other faults leave what stood before the step, but for its
     /// clock work. Losses, ticks, cuts and leaving take no memory.
+    ///
+    /// A sound proxy is sound after it, whatever the result: no request and no watch waits for nothing, and no two created streams
+    /// of one range have equal next. A watch that is asked opens a stream only where there is none that it can join. Nothing is held
+    /// back of a watch, and no queue has more than 1,024 events, or than one message.
     fn step(&mut self, event: CoreEvent, now: u64) -> Result<Outcome, StepFault>
         ensures step { Steps (core self.old) event now (core self.new) result }
-        ensures memory { takes_no_memory event ≡ true → result ≢ Err Wanting };
+        ensures memory { takes_no_memory event ≡ true → result ≢ Err Wanting }
+        ensures sound { StaysSound (core self.old) event (core self.new) }
+        ensures idle { LeavesNoneIdle (core self.old) event (core self.new) }
+        ensures merged { LeavesStreamsMerged (core self.old) event (core self.new) }
+        ensures joined { JoinsWhereItCan (core self.old) event (core self.new) }
+        ensures held { HoldsNothingBack (core self.old) event (core self.new) result }
+        ensures bounded { LeavesQueuesBounded (core self.old) event (core self.new) };
 
     /// The least ticket whose reply stands. It takes no memory.
     fn ready(&self) -> Option<u64>

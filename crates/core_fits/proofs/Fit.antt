@@ -1,5 +1,6 @@
--- All of it: at the start, by each step, after each run.
+-- All of it: at the start, by each step and its clock work, after each run.
 use Rattle.std.proofs.Common.{ℕ, List, [], ◌∷◌, refl, sym, subst}
+use Rattle.core_model.specs.ClockWork.{clock_work}
 use Rattle.core_model.specs.Fits.{CoreOk}
 use Rattle.core_model.specs.State.{Core, first_core}
 use Rattle.core_model.specs.Step.{stepped}
@@ -12,10 +13,10 @@ use Rattle.core_laws.proofs.Whole.{of_ok}
 use Rattle.core_fits.specs.Fits.{IsOfLeasing, CoreFits}
 use Rattle.core_fits.specs.Laws.{Starts, Lasts, RunsFit}
 use Rattle.core_fits.proofs.Beside.{stepped_beside}
-use Rattle.core_fits.proofs.CallsBeside.{Beside}
+use Rattle.core_fits.proofs.CallsBeside.{Beside, clock_beside}
 use Rattle.core_fits.proofs.Prefix.{clock_prefix}
-use Rattle.core_fits.proofs.Same.{same_starts, same_steps}
-use Rattle.core_fits.proofs.Served.{served_starts, served_steps, reads_start, reads_step}
+use Rattle.core_fits.proofs.Same.{same_starts, same_steps, clock_same}
+use Rattle.core_fits.proofs.Served.{served_starts, served_steps, served_clock, reads_start, reads_step, reads_clock}
 
 pub fits_start : Starts CoreFits
 fits_start settings = record {
@@ -39,6 +40,20 @@ fits_step c e now k h =
       seat_job = b.0.0;
       numbered = b.0.1;
       range = subst (λ (p : List ℕ). IsOfLeasing p d.leasing) (sym (steps_stay c e now).prefix) b.1.0;
+      header = b.1.1;
+    }
+
+pub fits_clock : (now : ℕ) (c : Core) → CoreFits c → CoreFits (clock_work now c)
+fits_clock now c h =
+    let d = clock_work now c in
+    let b : Beside c.own.waits.prefix d = clock_beside c.own.waits.prefix now c ((h.seat_job, h.numbered), (h.range, h.header)) in
+    record {
+      served = served_clock now c h.served;
+      read = reads_clock now c h.read;
+      write = clock_same now c h.write;
+      seat_job = b.0.0;
+      numbered = b.0.1;
+      range = subst (λ (p : List ℕ). IsOfLeasing p d.leasing) (sym (clock_prefix now c)) b.1.0;
       header = b.1.1;
     }
 

@@ -54,7 +54,7 @@ all_agree ws c h = each_kept (Agrees ws) (λ a. EachOf (IsSame a) c.own.waits.wr
 has_same : (c : Core) → WritesAreAsked c → CoreHas (Agrees c.own.waits.writes) (Among c.own.waits.writes) c
 has_same c h = (h, all_among c.own.waits.writes)
 
-clock_same : (now : ℕ) (c : Core) → WritesAreAsked c → WritesAreAsked (clock_work now c)
+pub clock_same : (now : ℕ) (c : Core) → WritesAreAsked c → WritesAreAsked (clock_work now c)
 clock_same now c h = all_agree c.own.waits.writes (clock_work now c) (clock_has (Agrees c.own.waits.writes) (Among c.own.waits.writes) (among_lasts c.own.waits.writes) now c (has_same c h))
 
 -- A new ticket.

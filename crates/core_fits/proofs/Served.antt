@@ -13,7 +13,7 @@ use Rattle.core_model.specs.Step.{stepped}
 use Rattle.core_laws.proofs.Staying.{steps_stay}
 use Rattle.core_fits.specs.Fits.{EachOf, Serves, AreServed, is_reading, ReadsAlone}
 use Rattle.core_fits.specs.Laws.{Starts, Lasts}
-use Rattle.core_fits.proofs.CallRows.{CoreHas, Last}
+use Rattle.core_fits.proofs.CallRows.{CoreHas, Last, clock_has}
 use Rattle.core_fits.proofs.CoreRows.{Brings, stepped_has}
 use Rattle.core_fits.proofs.Prefix.{clock_prefix}
 
@@ -48,6 +48,14 @@ served_steps c e now k h =
     let d = (stepped c e now).core in
     let t : CoreHas (AskServed p) (WriteServed p) d = stepped_has (AskServed p) (WriteServed p) (served_lasts p) e now c (served_brings p e now (clock_work now c) (clock_prefix now c)) (h.asks, h.writes) in
     let s : p ≡ d.own.waits.prefix = sym (steps_stay c e now).prefix in
+    record { asks = subst (λ (i : List ℕ). EachOf (AskServed i) d.asks) s t.0; writes = subst (λ (i : List ℕ). EachOf (WriteServed i) d.own.waits.writes) s t.1 }
+
+pub served_clock : (now : ℕ) (c : Core) → AreServed c → AreServed (clock_work now c)
+served_clock now c h =
+    let p = c.own.waits.prefix in
+    let d = clock_work now c in
+    let t : CoreHas (AskServed p) (WriteServed p) d = clock_has (AskServed p) (WriteServed p) (served_lasts p) now c (h.asks, h.writes) in
+    let s : p ≡ d.own.waits.prefix = sym (clock_prefix now c) in
     record { asks = subst (λ (i : List ℕ). EachOf (AskServed i) d.asks) s t.0; writes = subst (λ (i : List ℕ). EachOf (WriteServed i) d.own.waits.writes) s t.1 }
 
 -- Plain reads.
@@ -85,3 +93,10 @@ reads_step c e now k h =
     let d = (stepped c e now).core in
     let t : CoreHas (ReadsSo p) Any d = stepped_has (ReadsSo p) Any (reads_last p) e now c (reads_bring p e now (clock_work now c) (clock_prefix now c)) (h, any_write c.own.waits.writes) in
     subst (λ (i : List ℕ). EachOf (ReadsSo i) d.asks) (sym (steps_stay c e now).prefix) t.0
+
+pub reads_clock : (now : ℕ) (c : Core) → ReadsAlone c → ReadsAlone (clock_work now c)
+reads_clock now c h =
+    let p = c.own.waits.prefix in
+    let d = clock_work now c in
+    let t : CoreHas (ReadsSo p) Any d = clock_has (ReadsSo p) Any (reads_last p) now c (h, any_write c.own.waits.writes) in
+    subst (λ (i : List ℕ). EachOf (ReadsSo i) d.asks) (sym (clock_prefix now c)) t.0

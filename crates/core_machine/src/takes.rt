@@ -9,6 +9,7 @@ use call_kinds::{reply_of, text_of};
 use core_model::{Outcome, StepFault};
 use etcd_types::{Answer, Bytes};
 use read_steps::{Asked, Stage};
+use told_items::Told;
 use watch_merge::WatchFault;
 
 impl Machine {
@@ -40,7 +41,7 @@ impl Machine {
         ensures ranges { self.new.ranges ≡ self.old.ranges }
     {
         match self.watches.take(ticket, self.header) {
-            Ok(Some(item)) => Ok(Outcome::Item(item)),
+            Ok(Some(item)) => Ok(Outcome::Item(Told::alone(item))),
             Ok(None) => Ok(Outcome::Pending),
             Err(WatchFault::NoSuchWatch(_)) => Err(StepFault::NoSuchTicket(ticket)),
             Err(WatchFault::NoSuchStream(_)) => unreachable!(),

@@ -1,5 +1,6 @@
 use etcd_types::{Answer, Request, WatchItem};
 use thiserror::Error;
+use told_items::Told;
 
 /// What comes to a proxy. Words are drawn, tickets name requests and watches, and calls and streams are numbered by the proxy.
 #[derive(Debug, PartialEq, Eq, Drop)]
@@ -67,7 +68,7 @@ pub enum Job {
 }
 
 /// What an event gives.
-#[derive(Debug, PartialEq, Eq, Drop)]
+#[derive(Debug, Drop)]
 pub enum Outcome {
     /// The reply to the request.
     Replied(Answer),
@@ -76,7 +77,7 @@ pub enum Outcome {
     /// There is nothing to be taken yet.
     Pending,
     /// The watch's next message.
-    Item(WatchItem),
+    Item(Told),
     Noted,
     /// What is due first, or nothing.
     Job(Option<Job>),

@@ -18,7 +18,7 @@ pub fn tell(out: &mut String, came: &Result<Outcome, StepFault>) -> Result<(), W
 fn tell_outcome(out: &mut String, outcome: &Outcome) -> Result<(), Wrong> {
     match outcome {
         Outcome::Replied(answer) => tell_text(out, "replied ", answer),
-        Outcome::Item(message) => tell_text(out, "item ", message),
+        Outcome::Item(message) => tell_text(out, "item ", message.item()),
         Outcome::Job(Some(job)) => tell_job(out, job),
         Outcome::Job(None) => tell_word(out, "nothing"),
         Outcome::Waiting => tell_word(out, "waiting"),

@@ -1,4 +1,4 @@
--- What each event makes of the writes whose own calls are out, but for the sending of a job.
+-- What each event makes of the writes whose calls are out, but for the sending of a job.
 use Rattle.std.proofs.Common.{◌≡◌, ℕ, ◌==◌, Bool, true, false, not, cond, ◌&&◌, ◌||◌, List, [], ◌∷◌, ◌++◌, map, Option, None, Some, Ok, Err, refl, sym, ◌∙◌, subst}
 use Rattle.etcd_types.specs.declared.answer.Answer.{Answer}
 use Rattle.etcd_types.specs.declared.answer.Answer.TheVariants.{Done, Refused}
@@ -16,6 +16,7 @@ use Rattle.proxy_model.specs.declared.ownership.Claim.TheVariants.{Acquired, Own
 use Rattle.proxy_model.specs.Acquire.{claimed}
 use Rattle.proxy_model.specs.Keyed.{at}
 use Rattle.proxy_model.specs.Unwrapped.{Unwrapped, item_without}
+use Rattle.wait_model.specs.declared.write.Write.{Write}
 use Rattle.wait_model.specs.Asked.{new_write}
 use Rattle.wait_model.specs.Endings.{answered, forgotten}
 use Rattle.wait_model.specs.GuardedAnswers.{Ending}
@@ -60,16 +61,17 @@ use Rattle.core_model.specs.Takes as takes
 use Rattle.core_model.specs.Watching.{stream_message, stream_item, taken_item}
 use Rattle.core_model.specs.Watching as watching
 use Rattle.core_laws.proofs.Comes.{by_test}
+use Rattle.core_fits.specs.Fits.{EachOf}
 use Rattle.core_fits.proofs.Eachs.{each_pushed}
 use Rattle.core_fits.proofs.ReadRows.{decided_writes}
-use Rattle.executed_laws.proofs.OwnSends.{IsSent, AreSent, OwnSo, EndSo, passed_sent, answered_sent, lost_sent, forgotten_sent, ended_sent, gone_sent, message_sent}
+use Rattle.executed_laws.proofs.OwnSends.{Lasting, OwnSo, EndSo, passed_sent, answered_sent, lost_sent, forgotten_sent, ended_sent, gone_sent, message_sent}
 
-module _ (W : ℕ → ℕ → Type 0) where
+module _ (P : Write → Type 0) (l : Lasting P) where
   abbrev ReadsSo : Reads → Type 0
-  ReadsSo r = OwnSo W r.own
+  ReadsSo r = OwnSo P r.own
 
   abbrev pub CoreSo : Core → Type 0
-  CoreSo c = OwnSo W c.own
+  CoreSo c = OwnSo P c.own
 
   abbrev pub StepSo : Stepped → Type 0
   StepSo s = CoreSo s.core
@@ -81,7 +83,7 @@ module _ (W : ℕ → ℕ → Type 0) where
   either b x y h i = by_test CoreSo b x y (λ t. h) (λ t. i)
 
   pub go_on : (c : Core) → CoreSo c → CoreSo (writes_go_on c)
-  go_on c h = passed_sent W c.own.waits.step [] c.own.entries c.own.waits.spoiled c.own.waits.writes h
+  go_on c h = passed_sent P l c.own.waits.step [] c.own.entries c.own.waits.spoiled c.own.waits.writes h
 
   -- releases
 
@@ -93,18 +95,18 @@ module _ (W : ℕ → ℕ → Type 0) where
       ∙ by_test (λ (h : Ground). h.own.waits.writes ≡ g.own.waits.writes) (ask_stands g a || not again) g (decided_ground m g a) (λ t. refl) (λ t. decided_writes m g a)
 
   released_so : (again : Bool) (m : Moment) (r : Reads) → ReadsSo r → ReadsSo (released again m r)
-  released_so again m r h = subst (AreSent W) (sym (released_writes again m (ground_of r) r.asks)) h
+  released_so again m r h = subst (EachOf P) (sym (released_writes again m (ground_of r) r.asks)) h
 
   over_so : (m : Moment) (r : Reads) → ReadsSo r → ReadsSo (session_over m r)
-  over_so m r h = subst (AreSent W) (sym (released_writes false m _ r.asks)) (ended_sent W r.own.waits.writes h)
+  over_so m r h = subst (EachOf P) (sym (released_writes false m _ r.asks)) (ended_sent P l r.own.waits.writes h)
 
-  forgotten_so : (p : Asked → Bool) (xs : List Asked) (own : Ownership) → OwnSo W own → OwnSo W (forgotten_all p xs own)
+  forgotten_so : (p : Asked → Bool) (xs : List Asked) (own : Ownership) → OwnSo P own → OwnSo P (forgotten_all p xs own)
   forgotten_so p [] own h = h
   forgotten_so p (a ∷ rest) own h =
-      forgotten_so p rest (cond (p a && is_writes a.stage) (forgotten a.ticket own) own) (by_test (OwnSo W) (p a && is_writes a.stage) (forgotten a.ticket own) own (λ t. forgotten_sent W a.ticket own h) (λ t. h))
+      forgotten_so p rest (cond (p a && is_writes a.stage) (forgotten a.ticket own) own) (by_test (OwnSo P) (p a && is_writes a.stage) (forgotten a.ticket own) own (λ t. forgotten_sent P l a.ticket own h) (λ t. h))
 
   taken_off_so : (m : Moment) (p : Asked → Bool) (xs : List Asked) (r : Reads) → ReadsSo r → ReadsSo (taken_off m p xs r)
-  taken_off_so m p xs r h = subst (AreSent W) (sym (released_writes false m _ xs)) (forgotten_so p r.asks r.own h)
+  taken_off_so m p xs r h = subst (EachOf P) (sym (released_writes false m _ xs)) (forgotten_so p r.asks r.own h)
 
   -- the clock's work
 
@@ -147,7 +149,7 @@ module _ (W : ℕ → ℕ → Type 0) where
   ReadsIf None = Unit {0}
   ReadsIf (Some r) = ReadsSo r
 
-  ending_so : (m : Moment) (o : Option Ending) (r : Reads) → EndSo W o → ReadsIf (answered_by m o r)
+  ending_so : (m : Moment) (o : Option Ending) (r : Reads) → EndSo P o → ReadsIf (answered_by m o r)
   ending_so m None r h = tt
   ending_so m (Some x) r h = released_so true m _ h
 
@@ -196,8 +198,8 @@ module _ (W : ℕ → ℕ → Type 0) where
   lost_job_so : (now : ℕ) (o : OutCall) (j : OutJob) (c : Core) → Ok' c → CoreSo c → CoreSo (lost_job now o j c)
   lost_job_so now o (job.Grant lease) c ok t = grant_fails_so o c t
   lost_job_so now o (job.Keep lease) c ok t = keep_fails_so o c t
-  lost_job_so now o (job.Acquire k) c ok t = subst (AreSent W) (sym (released_writes false (moment c now) _ _)) t
-  lost_job_so now o job.Wait c ok t = subst (AreSent W) (sym (released_writes false (moment c now) _ _)) (lost_sent W o.call c.own ok t)
+  lost_job_so now o (job.Acquire k) c ok t = subst (EachOf P) (sym (released_writes false (moment c now) _ _)) t
+  lost_job_so now o job.Wait c ok t = subst (EachOf P) (sym (released_writes false (moment c now) _ _)) (lost_sent P l o.call c.own ok t)
   lost_job_so now o (job.Ask k) c ok t = t
   lost_job_so now o (job.Group lease) c ok t = t
 
@@ -212,7 +214,7 @@ module _ (W : ℕ → ℕ → Type 0) where
       by None h = tt
       by (Some x) h = h
   job_so now o job.Wait a c ok t =
-      by (wait_answered (moment c now) o.call a (reads_of c)) (ending_so (moment c now) (answered o.call a (moment c now).session now c.own) (reads_of c) (answered_sent W o.call a (moment c now).session now c.own ok t))
+      by (wait_answered (moment c now) o.call a (reads_of c)) (ending_so (moment c now) (answered o.call a (moment c now).session now c.own) (reads_of c) (answered_sent P l o.call a (moment c now).session now c.own ok t))
     where
       by : (q : Option Reads) → ReadsIf q → IfSo (reads_if c q)
       by None h = tt
@@ -257,7 +259,7 @@ module _ (W : ℕ → ℕ → Type 0) where
   read_so m a c t = by (decided_ask m (ground_of (reads_of c)) a).stage
     where
       after : CoreSo (writes_go_on (with_reads c (read_asked m a (reads_of c))))
-      after = go_on (with_reads c (read_asked m a (reads_of c))) (subst (AreSent W) (sym (decided_writes m (ground_of (reads_of c)) a)) t)
+      after = go_on (with_reads c (read_asked m a (reads_of c))) (subst (EachOf P) (sym (decided_writes m (ground_of (reads_of c)) a)) t)
 
       by : (s : Stage) → StepSo (read_by s c (with_reads c (read_asked m a (reads_of c))))
       by (stage.Replied v) = t
@@ -268,12 +270,9 @@ module _ (W : ℕ → ℕ → Type 0) where
       by stage.Writes = after
       by (stage.Grouped s) = after
 
-  new_sent : (a : Asked) → IsSent W (new_write a.ticket a.request)
-  new_sent a call e = absurd (cc)
-
   write_so : (a : Asked) (c : Core) → CoreSo c → StepSo (write_is_asked a c)
   write_so a c t =
-      passed_sent W c.own.waits.step [] c.own.entries c.own.waits.spoiled (c.own.waits.writes ++ new_write a.ticket a.request ∷ []) (each_pushed (IsSent W) (new_write a.ticket a.request) c.own.waits.writes t (new_sent a))
+      passed_sent P l c.own.waits.step [] c.own.entries c.own.waits.spoiled (c.own.waits.writes ++ new_write a.ticket a.request ∷ []) (each_pushed P (new_write a.ticket a.request) c.own.waits.writes t (l.fresh a.ticket a.request))
 
   taken_so : (m : Moment) (a : Asked) (c : Core) → CoreSo c → StepSo (taken_in m a c)
   taken_so m a c t =
@@ -357,11 +356,11 @@ module _ (W : ℕ → ℕ → Type 0) where
       by (Some o) = t
 
   created_so : (o : Opening) (x : Header) (c : Core) → CoreSo c → CoreSo (leasing_created o x c)
-  created_so o x c t = by_test CoreSo o.stream.created c _ (λ e. t) (λ e. by_test (OwnSo W) (o.stream.next == 0) (resynced c.own) c.own (λ u. gone_sent W (λ k. true) c.own.waits.writes t) (λ u. t))
+  created_so o x c t = by_test CoreSo o.stream.created c _ (λ e. t) (λ e. by_test (OwnSo P) (o.stream.next == 0) (resynced c.own) c.own (λ u. gone_sent P l (λ k. true) c.own.waits.writes t) (λ u. t))
 
   message_so : (now : ℕ) (o : Opening) (x : WatchItem) (c : Core) → CoreSo c → CoreSo (leasing_message now o x c)
   message_so now o (item.Created d) c t = created_so o d c t
-  message_so now o (item.Events d es) c t = by_test CoreSo (is_readable o.stream es) _ (leasing_cut o c) (λ e. message_sent W (live_number c.seat now) es c.own t) (λ e. t)
+  message_so now o (item.Events d es) c t = by_test CoreSo (is_readable o.stream es) _ (leasing_cut o c) (λ e. message_sent P l (live_number c.seat now) es c.own t) (λ e. t)
   message_so now o (item.Canceled d compaction) c t = by_test CoreSo (compaction == 0) (leasing_cut o c) _ (λ e. t) (λ e. t)
 
   leasing_so : (now : ℕ) (o : Opening) (x : WatchItem) (c : Core) → CoreSo c → CoreSo (leasing_item now o x c)

@@ -59,13 +59,14 @@ use Rattle.core_laws.proofs.Comes.{by_test}
 use Rattle.core_laws.proofs.Lists.{same_number}
 use Rattle.core_laws.proofs.Middle.{clock_whole}
 use Rattle.core_laws.proofs.Whole.{Whole, of_ok}
+use Rattle.core_fits.specs.Fits.{EachOf}
 use Rattle.core_fits.proofs.Eachs.{each_kept}
 use Rattle.keep_laws.proofs.Rows.{All, all_mapped, all_kept}
 use Rattle.reply_laws.proofs.Lasting as lasting
 use Rattle.reply_laws.proofs.Lasting.{is_uncalled, Lasts}
 use Rattle.executed_laws.proofs.CoreSends as sending_of
 use Rattle.executed_laws.proofs.Dues.{StandsIf, first_stands}
-use Rattle.executed_laws.proofs.OwnSends.{IsSent, AreSent}
+use Rattle.executed_laws.proofs.OwnSends.{IsSent, AreSent, sends_last}
 
 -- of a request whose own call is out
 abbrev pub AskSent : (ℕ → ℕ → Type 0) → Asked → Type 0
@@ -150,12 +151,12 @@ acquire_goes K number k x xs f t h = record {
 
 -- of the writes
 
-first_goes : (W : ℕ → ℕ → Type 0) (p : Write → Bool) (s : WriteStage) (w : Write) (ws : List Write) → first_by p ws ≡ Some w → (IsSent W w → IsSent W (staged w s)) → AreSent W ws → AreSent W (with_first p s ws)
-first_goes W p s w [] f g h = tt
-first_goes W p s w (v ∷ vs) f g h =
-    by_test (AreSent W) (p v) (staged v s ∷ vs) (v ∷ with_first p s vs)
-    (λ t. let same = head_found p v w vs t f in (subst (λ (x : Write). IsSent W (staged x s)) (sym same) (g (subst (IsSent W) same h.0)), h.1))
-    (λ t. (h.0, first_goes W p s w vs (rest_found p v w vs t f) g h.1))
+pub first_goes : (P : Write → Type 0) (p : Write → Bool) (s : WriteStage) (w : Write) (ws : List Write) → first_by p ws ≡ Some w → (P w → P (staged w s)) → EachOf P ws → EachOf P (with_first p s ws)
+first_goes P p s w [] f g h = tt
+first_goes P p s w (v ∷ vs) f g h =
+    by_test (EachOf P) (p v) (staged v s ∷ vs) (v ∷ with_first p s vs)
+    (λ t. let same = head_found p v w vs t f in (subst (λ (x : Write). P (staged x s)) (sym same) (g (subst P same h.0)), h.1))
+    (λ t. (h.0, first_goes P p s w vs (rest_found p v w vs t f) g h.1))
 
 revoking_goes : (W : ℕ → ℕ → Type 0) (call : ℕ) (k : List ℕ) (w : Write) → IsSent W w → IsSent W (staged w (stage_revoking call k w.stage))
 revoking_goes W call k w h n t = h n (by w.stage t)
@@ -188,10 +189,10 @@ job_of_so W call d None own f g h = tt
 job_of_so W call d (Some w) own f g h = by (is_revoke d.place.kind) refl
   where
     by : (b : Bool) → is_revoke d.place.kind ≡ b → AreSent W (cond b (revoke_job call d w own) (write_job call d w own)).own.waits.writes
-    by true e = first_goes W (writes.has_ticket d.place.number) (stage_revoking call d.key w.stage) w own.waits.writes f (revoking_goes W call d.key w) h
+    by true e = first_goes (IsSent W) (writes.has_ticket d.place.number) (stage_revoking call d.key w.stage) w own.waits.writes f (revoking_goes W call d.key w) h
     by false e =
         let is : call_of call d (Some w) own ≡ Some (write_job call d w own) = ap (λ (b : Bool). Some (cond b (revoke_job call d w own) (write_job call d w own))) e in
-        first_goes W (writes.has_ticket d.place.number) (stage_sent call w.stage) w own.waits.writes f (λ t. sending_goes W call w (g d.place.number w f (write_job call d w own) is (refl, refl))) h
+        first_goes (IsSent W) (writes.has_ticket d.place.number) (stage_sent call w.stage) w own.waits.writes f (λ t. sending_goes W call w (g d.place.number w f (write_job call d w own) is (refl, refl))) h
 
 job_so : (W : ℕ → ℕ → Type 0) (call : ℕ) (own : Ownership) → WriteGoes W call own (job_sent call own) → AreSent W own.waits.writes → SentSo W (job_sent call own)
 unfolding job_sent
@@ -260,21 +261,21 @@ both A K W c h w = record { asks = h.0; acquires = h.1; writes = w }
 
 happened_so : (A K W : ℕ → ℕ → Type 0) (now : ℕ) (e : CoreEvent) (c : Core) → Whole 0 c → (e ≡ event.Work → SendsSo A K W c (happened now e c).outcome) → AllSent A K W c → AllSent A K W (happened now e c).core
 happened_so A K W now (event.Ask ticket q word) c k s h =
-    both A K W _ (lasting.asked_so (AskSent A) (AcquiresSent K) (sent_lasts A K) now ticket q word c (h.asks, h.acquires)) (sending_of.asked_so W now ticket q word c h.writes)
+    both A K W _ (lasting.asked_so (AskSent A) (AcquiresSent K) (sent_lasts A K) now ticket q word c (h.asks, h.acquires)) (sending_of.asked_so (IsSent W) (sends_last W) now ticket q word c h.writes)
 happened_so A K W now (event.Answer call a) c k s h =
-    both A K W _ (lasting.answered_so (AskSent A) (AcquiresSent K) (sent_lasts A K) now call a c (h.asks, h.acquires)) (sending_of.answered_so W now call a c k.mid.agrees.writes h.writes)
+    both A K W _ (lasting.answered_so (AskSent A) (AcquiresSent K) (sent_lasts A K) now call a c (h.asks, h.acquires)) (sending_of.answered_so (IsSent W) (sends_last W) now call a c k.mid.agrees.writes h.writes)
 happened_so A K W now (event.Lost call) c k s h =
-    both A K W _ (lasting.lost_so (AskSent A) (AcquiresSent K) (sent_lasts A K) now call c (h.asks, h.acquires)) (sending_of.lost_so W now call c k.mid.agrees.writes h.writes)
-happened_so A K W now (event.Tick word) c k s h = both A K W _ (lasting.tick_so (AskSent A) (AcquiresSent K) (sent_lasts A K) now word c (h.asks, h.acquires)) (sending_of.tick_so W now word c h.writes)
-happened_so A K W now (event.Item number x) c k s h = both A K W _ (lasting.item_so (AskSent A) (AcquiresSent K) (sent_lasts A K) now number x c (h.asks, h.acquires)) (sending_of.item_so W now number x c h.writes)
-happened_so A K W now (event.Cut number) c k s h = both A K W _ (lasting.cut_so (AskSent A) (AcquiresSent K) (sent_lasts A K) number c (h.asks, h.acquires)) (sending_of.cut_so W number c h.writes)
-happened_so A K W now (event.Take ticket) c k s h = both A K W _ (lasting.take_so (AskSent A) (AcquiresSent K) (sent_lasts A K) ticket c (h.asks, h.acquires)) (sending_of.take_so W ticket c h.writes)
-happened_so A K W now (event.Leave ticket) c k s h = both A K W _ (lasting.leave_so (AskSent A) (AcquiresSent K) (sent_lasts A K) now ticket c (h.asks, h.acquires)) (sending_of.leave_so W now ticket c h.writes)
+    both A K W _ (lasting.lost_so (AskSent A) (AcquiresSent K) (sent_lasts A K) now call c (h.asks, h.acquires)) (sending_of.lost_so (IsSent W) (sends_last W) now call c k.mid.agrees.writes h.writes)
+happened_so A K W now (event.Tick word) c k s h = both A K W _ (lasting.tick_so (AskSent A) (AcquiresSent K) (sent_lasts A K) now word c (h.asks, h.acquires)) (sending_of.tick_so (IsSent W) (sends_last W) now word c h.writes)
+happened_so A K W now (event.Item number x) c k s h = both A K W _ (lasting.item_so (AskSent A) (AcquiresSent K) (sent_lasts A K) now number x c (h.asks, h.acquires)) (sending_of.item_so (IsSent W) (sends_last W) now number x c h.writes)
+happened_so A K W now (event.Cut number) c k s h = both A K W _ (lasting.cut_so (AskSent A) (AcquiresSent K) (sent_lasts A K) number c (h.asks, h.acquires)) (sending_of.cut_so (IsSent W) (sends_last W) number c h.writes)
+happened_so A K W now (event.Take ticket) c k s h = both A K W _ (lasting.take_so (AskSent A) (AcquiresSent K) (sent_lasts A K) ticket c (h.asks, h.acquires)) (sending_of.take_so (IsSent W) (sends_last W) ticket c h.writes)
+happened_so A K W now (event.Leave ticket) c k s h = both A K W _ (lasting.leave_so (AskSent A) (AcquiresSent K) (sent_lasts A K) now ticket c (h.asks, h.acquires)) (sending_of.leave_so (IsSent W) (sends_last W) now ticket c h.writes)
 happened_so A K W now event.Work c k s h = work_so A K W now c k.mid.agrees.asks.once (s refl) h
 
 -- behind the clock's work
 pub clock_sent : (A K W : ℕ → ℕ → Type 0) (now : ℕ) (c : Core) → AllSent A K W c → AllSent A K W (clock_work now c)
-clock_sent A K W now c h = both A K W (clock_work now c) (lasting.clock_so (AskSent A) (AcquiresSent K) (sent_lasts A K) now c (h.asks, h.acquires)) (sending_of.clock_so W now c h.writes)
+clock_sent A K W now c h = both A K W (clock_work now c) (lasting.clock_so (AskSent A) (AcquiresSent K) (sent_lasts A K) now c (h.asks, h.acquires)) (sending_of.clock_so (IsSent W) (sends_last W) now c h.writes)
 
 counted_so : (A K W : ℕ → ℕ → Type 0) (c : Core) (r : Result Outcome StepFault) → AllSent A K W c → AllSent A K W (counted_by c r).core
 counted_so A K W c (Ok o) h = record { asks = h.asks; acquires = h.acquires; writes = h.writes }

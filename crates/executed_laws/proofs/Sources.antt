@@ -61,7 +61,7 @@ use Rattle.executed_laws.proofs.Naming.{named-append}
 use Rattle.executed_laws.proofs.Tracked.{Claims, claims_behind}
 use Rattle.executed_laws.proofs.Turning.{NamedWait}
 use Rattle.executed_laws.proofs.Waiting.{not_both}
-use Rattle.executed_laws.proofs.OwnSends.{IsSent}
+use Rattle.executed_laws.proofs.OwnSends.{IsSent, sends_last}
 use Rattle.executed_laws.proofs.Stories.{SentFor, answered_story}
 use Rattle.executed_laws.proofs.Turns.{IsPassedOn, IsAcquire, IsGuarded, Sent, one_request, each_found, first_each}
 
@@ -193,7 +193,7 @@ module _ (prefix : List ℕ) (l : Life) (own : ℕ → Option ℕ) (answers : �
   is_written : (a : Asked) (reply transaction : Reply) (o : OutCall) (w : Write) → Ready l more (stepped c e now).core a reply → Stood c a stage.Writes → Hears c e o (Done transaction) → first_by (sends o.call) (clock_work now c).own.waits.writes ≡ Some w
       → w.ticket ≡ a.ticket → written (clock_work now c).own.waits.prefix w.request transaction ≡ Some (Wrote reply) → Source l.namespace prefix (l.told ++ more) l.proxy a.ticket a.request reply
   is_written a reply transaction o w r t k first ticket f =
-      let clocked = sending_of.clock_so (SentFor (IsGuarded l.namespace prefix) l) now c h.sent.writes in
+      let clocked = sending_of.clock_so (IsSent (SentFor (IsGuarded l.namespace prefix) l)) (sends_last (SentFor (IsGuarded l.namespace prefix) l)) now c h.sent.writes in
       let s = first_each (IsSent (SentFor (IsGuarded l.namespace prefix) l)) (sends o.call) (clock_work now c).own.waits.writes w first clocked o.call (first_passes (sends o.call) (clock_work now c).own.waits.writes w first) in
       let same : w.request ≡ a.request = one_request c now t.before a.ticket (sends o.call) w h.fits.write t.there first (ticket ∙ sym (stood_ticket a stage.Writes t)) ∙ t.request in
       let b = told_of (IsGuarded l.namespace prefix) l more a.ticket o.call k.answer a.request (subst (λ (n : ℕ). SentFor (IsGuarded l.namespace prefix) l n o.call) ticket s) (its_answer o (Done transaction) k) r.asked in

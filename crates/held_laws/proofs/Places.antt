@@ -33,7 +33,9 @@ use Rattle.world_model.specs.Received.{taken_for}
 use Rattle.world_model.specs.State.{Place}
 use Rattle.held_laws.proofs.Pushes.{Whole}
 use Rattle.held_laws.proofs.Firm.{Firm, NewHas, touch_firm}
-use Rattle.held_laws.proofs.Holding.{SideOk, stepped_ok, received_by, IsTold, IsNew, touch_ok, watch_itself}
+use Rattle.held_laws.proofs.Holding.{SideOk, stepped_ok, IsTold, touch_ok}
+use Rattle.idle_laws.specs.Streams.{received_by, IsNew}
+use Rattle.idle_laws.proofs.Holding.{watch_itself}
 use Rattle.held_laws.proofs.Items.{IsSilent, IsUnasking, life_still, taken_still, taken-append, queued-append, asked_still, asked_same, asked-append, or_later}
 use Rattle.held_laws.proofs.Kept.{among_new, among_still, not_among}
 use Rattle.held_laws.proofs.Stories.{Strips, story_by, story_by_rises}

@@ -33,7 +33,8 @@ use Rattle.world_model.specs.Places.{kept_at, ended}
 use Rattle.world_model.specs.Received.{WasPushed}
 use Rattle.world_model.specs.State.{Numbered, OpenedStream}
 use Rattle.held_laws.proofs.Pushes.{Whole, Says, ends, tells, reaches}
-use Rattle.held_laws.proofs.Holding.{IsApart, IsTold, among_each}
+use Rattle.held_laws.proofs.Holding.{IsApart, IsTold}
+use Rattle.idle_laws.proofs.Runs.{among}
 use Rattle.held_laws.proofs.Links.{Stands, waits, goes, never, Linked, StreamOk, moved, reopened, delivered_link, delivered_true}
 use Rattle.held_laws.proofs.Records.{TellsEach, in_span, message_tells}
 use Rattle.held_laws.proofs.Told.{BatchTold, IsBatchTold}
@@ -79,7 +80,7 @@ untouched namespace whole store number s a b kept g y h =
     moved namespace whole store number s a (record a { broadcasts = b }) kept (a.broadcasts.given + 1) (fresh_number s.own a.broadcasts.given h.given) g y h
 
 pub found_is : (a : Side) (s : Stream) → numbered 0 a.broadcasts.given a.broadcasts.streams ≡ true → IsAmong s a.broadcasts.streams → stream_at s.number a.broadcasts.streams ≡ Some s
-found_is a s n i = among_each (λ (t : Stream). stream_at t.number a.broadcasts.streams ≡ Some t) a.broadcasts.streams s i (each_found a.broadcasts.given a.broadcasts.streams n)
+found_is a s n i = among (λ (t : Stream). stream_at t.number a.broadcasts.streams ≡ Some t) a.broadcasts.streams s i (each_found a.broadcasts.given a.broadcasts.streams n)
 
 pub sent_streams : (namespace : List ℕ) (whole : Whole) (store : State) (number : ℕ) (s : OpenedStream) (a : Side) (u : Stream) (kept : Numbered ℕ) → stream_at u.number a.broadcasts.streams ≡ Some u
     → StreamOk namespace whole store number s a kept → StreamOk namespace whole store number s (record a { broadcasts = (next_job a.broadcasts (Some u)).0 }) kept

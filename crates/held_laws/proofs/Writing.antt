@@ -38,7 +38,8 @@ use Rattle.core_model.specs.declared.event.Outcome.{Outcome}
 use Rattle.core_model.specs.declared.event.StepFault.{StepFault}
 use Rattle.core_model.specs.Watching.{with_watches}
 use Rattle.held_laws.proofs.Firm.{sent_firm}
-use Rattle.held_laws.proofs.Holding.{IsTold as IsStoryTold, watch_itself}
+use Rattle.held_laws.proofs.Holding.{IsTold as IsStoryTold}
+use Rattle.idle_laws.proofs.Holding.{watch_itself}
 use Rattle.held_laws.proofs.Items.{queued-append}
 use Rattle.held_laws.proofs.Knowing.{AreKnown, IsKnown, known_without, created_next, join_known, left_known, joined_known, cut_known, told_known, taken_known, removed_known, sent_known}
 use Rattle.held_laws.proofs.Messages.{AreMessages, is_over}

@@ -20,10 +20,10 @@ use Rattle.idle_laws.specs.Laws.{AreWaiting, StartWaits, WaitingNoneIsIdle, Step
 use Rattle.idle_laws.proofs.Touches.{Side, with_step, told_message, told_unwrapped, told_stream, numbered_anew, IsAmong, Touch, leaves, hears, ticks, joins, heard_leasing, broke_leasing, cut_leasing, told, cut, took, left_it, opens_leasing, sends, step_touches}
 use Rattle.idle_laws.proofs.Waiting.{cuts_keep, deliveries_keep, creations_keep, joins_keep, cancellations_keep, takes_keep, leaving_keeps, jobs_keep, given_on}
 
-itself : (number : ℕ) (ss : List Stream) (s : Stream) → stream_at number ss ≡ Some s → stream_at s.number ss ≡ Some s
+pub itself : (number : ℕ) (ss : List Stream) (s : Stream) → stream_at number ss ≡ Some s → stream_at s.number ss ≡ Some s
 itself number ss s e = ap (λ (k : ℕ). stream_at k ss) (at_number number ss s e) ∙ e
 
-among : (P : Stream → Type 0) (ss : List Stream) (s : Stream) → IsAmong s ss → EachStream P ss → P s
+pub among : (P : Stream → Type 0) (ss : List Stream) (s : Stream) → IsAmong s ss → EachStream P ss → P s
 among P [] s i h = absurd i
 among P (t ∷ ss) s (inl e) h = subst P (sym e) h.0
 among P (t ∷ ss) s (inr i) h = among P ss s i h.1

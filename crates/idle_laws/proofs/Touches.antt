@@ -164,6 +164,9 @@ pub clock_same : (now : ℕ) (c : Core) → side (clock_work now c) ≡ record (
 unfolding clock_work
 clock_same now c = either (λ d. side d ≡ side (begun c)) (seat_is_over c.seat now) (without_session now (begun c)) (begun c) refl refl
 
+pub clock_watches : (now : ℕ) (c : Core) → (clock_work now c).watches ≡ with_step c.watches c.steps
+clock_watches now c = ap (λ (a : Side). a.broadcasts) (clock_same now c)
+
 grant_fails : (o : OutCall) (c : Core) → Same c (grant_failed o c)
 grant_fails o c = either (Same c) (seat_calls o.call c.seat) _ c refl refl
 

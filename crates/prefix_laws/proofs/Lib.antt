@@ -3,3 +3,6 @@ pub mod Prefixes
 pub mod Fetched
 pub mod Told
 pub mod Places
+pub mod Idle
+pub mod Lines
+pub mod Shared

@@ -77,7 +77,7 @@ more_from v w (k ∷ lines) l e = by (taken v k) e (λ u f. more_from u w lines 
     by (Ok gained) e more = more gained.0 e
     by (Err why) e more = absurd (cc)
 
-more_behind : (w : World) (lines : List Line) (l : Line) → world_behind lines ≡ Ok (Some w) → world_behind (lines ++ l ∷ []) ≡ and_then (taken w l) (λ after. Ok (Some after))
+pub more_behind : (w : World) (lines : List Line) (l : Line) → world_behind lines ≡ Ok (Some w) → world_behind (lines ++ l ∷ []) ≡ and_then (taken w l) (λ after. Ok (Some after))
 more_behind w [] l e = absurd (cc)
 more_behind w (k ∷ lines) l e = by (begun k) e
   where

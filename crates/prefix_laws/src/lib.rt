@@ -3,6 +3,9 @@
 
 ghost use Rattle.prefix_laws.specs.Prefixes.{EachProxyAgrees, EachProxyFits, WhatIsOutIsNamed, NoReplyIsLeft};
 ghost use Rattle.prefix_laws.specs.Comes.{ToldRepliesCome, AskedReplyComes};
+ghost use Rattle.prefix_laws.specs.Idle.{EachProxyIsSound, ScriptsLeaveNoneIdle};
+ghost use Rattle.prefix_laws.specs.Lines.{LinesStaySound, LinesStayBounded};
+ghost use Rattle.prefix_laws.specs.Shared.{ScriptsShareKeepalives};
 
 /// Behind each prefix of a script the parts of every proxy agree and fit.
 pub fn proxies_agree()
@@ -24,4 +27,21 @@ pub fn no_reply_is_left()
 pub fn told_replies_come()
     ensures told { ToldRepliesCome }
     ensures asked { AskedReplyComes }
+{}
+
+/// Behind each prefix of a script every proxy is sound, and no request and no watch of any of them waits for nothing.
+pub fn scripts_leave_none_idle()
+    ensures sound { EachProxyIsSound }
+    ensures idle { ScriptsLeaveNoneIdle }
+{}
+
+/// Behind each prefix of a script at most one keepalive of a lease is out at a proxy, and none is due beside it.
+pub fn scripts_share_keepalives()
+    ensures { ScriptsShareKeepalives }
+{}
+
+/// Each line, taken or refused, leaves proxies sound that were sound, and queues bounded that were bounded.
+pub fn lines_stay_sound()
+    ensures sound { LinesStaySound }
+    ensures bounded { LinesStayBounded }
 {}

@@ -31,7 +31,7 @@ use Rattle.held_laws.specs.Laws.{is_below}
 use Rattle.received_laws.proofs.Changing.{TakesOne, Changes, effect_changes}
 use Rattle.received_laws.proofs.Fronts.{tells_fewer, tells_all}
 use Rattle.held_laws.proofs.Growing.{Grows}
-use Rattle.held_laws.proofs.Holding.{watch_itself}
+use Rattle.idle_laws.proofs.Holding.{watch_itself}
 use Rattle.held_laws.proofs.Items.{life_still, taken_still, taken-append, queued-append, asked_still}
 use Rattle.held_laws.proofs.Lines.{begun_world}
 use Rattle.held_laws.proofs.Messages.{AreMessages, messages_front}

@@ -139,7 +139,7 @@ any_streams [] = tt
 any_streams (s ∷ ss) = (tt, any_streams ss)
 
 -- the stream that a watch whose start isn't decided joins
-join_most : (ss : List Stream) (range : KeyRange) (next seen : ℕ) → (next == 0) ≡ true → AllSome (λ s. s.stream.next ≤ seen + 1) (stream_to_join ss range next seen)
+pub join_most : (ss : List Stream) (range : KeyRange) (next seen : ℕ) → (next == 0) ≡ true → AllSome (λ s. s.stream.next ≤ seen + 1) (stream_to_join ss range next seen)
 join_most ss range next seen z =
     let Q : Stream → Type 0 = λ s. s.stream.next ≤ seen + 1 in
     let P : Stream → Type 0 = λ s. Unit {0} in
@@ -161,7 +161,7 @@ created_starts : (high n : ℕ) (last : Header) (w : Watch) → ((w.next == 0) �
 created_starts high n last w l h = told_leaves last high (decided n w) (decided_starts high n w l h)
 
 -- a created message tells a start behind its revision
-created_most : (high : ℕ) (s : Stream) (g : Header) → g.revision ≤ high → (s.stream.next == 0) ≡ true → (created s.stream g.revision).next ≤ high + 1
+pub created_most : (high : ℕ) (s : Stream) (g : Header) → g.revision ≤ high → (s.stream.next == 0) ≡ true → (created s.stream g.revision).next ≤ high + 1
 created_most high s g l z =
     let k = capped_most (g.revision + 1) in
     let here : (created s.stream g.revision).next ≡ capped (g.revision + 1) = ap (λ b. cond b (capped (g.revision + 1)) s.stream.next) z in

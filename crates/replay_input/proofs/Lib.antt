@@ -1,4 +1,5 @@
 pub mod Feeding
+pub mod InTurn
 pub mod Replays
 pub mod Scripts
 pub mod Turns

@@ -52,7 +52,7 @@ breaks_off left left' start written before piece stop.WriteFault n none small c 
 breaks_off left left' start written before piece stop.NoMemory n none small c w =
     record { before = before; piece = piece; consumed = c; none_before = none; one_piece = small; headline = transcripts_are_true (before ++ piece); writes = inl w }
 
-none_refused : {C : _} {g : _} {left start l written : Option (List ℕ)} {replay : Replay C g} {read : List ℕ} → Has left start l written replay read → NoneIsRefused read
+pub none_refused : {C : _} {g : _} {left start l written : Option (List ℕ)} {replay : Replay C g} {read : List ℕ} → Has left start l written replay read → NoneIsRefused read
 none_refused h = record { whole = h.follows.stands.ending; within = h.follows.within }
 
 -- the input failed

@@ -1,3 +1,4 @@
 pub mod Replay
 pub mod Replays
 pub mod Script
+pub mod Reads

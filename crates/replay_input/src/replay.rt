@@ -1,12 +1,14 @@
 ghost use Rattle.std.specs.Prelude.{◌≡◌, ◌≢◌, ◌+◌, ◌<◌, ◌≤◌, ◌==◌, true, Ok, None, length, take, ◌∷◌, ◌++◌, [], List, ℕ, Option, IfOk, IfErr, OnOk, OnErr, MatchOption, string_bytes};
 ghost use Rattle.std.specs.List.{position as first_place};
 ghost use Rattle.outside.specs.Faults.{HasCause, Rose};
+ghost use Rattle.outside.specs.Reads.{ReadsWhile};
 ghost use Rattle.outside.specs.Streams.{WritesFront};
 ghost use Rattle.replay_model.specs.Endings.{is_open};
 ghost use Rattle.replay_model.specs.Script.{line_feed};
 ghost use Rattle.replay_model.specs.declared.limits.TheConstants.{MOST_BYTES};
 ghost use Rattle.replay_input.specs.Replay.{HasNoFeed};
-ghost use Rattle.replay_input.specs.Replays.{Replays, Stops, Has, Turns, most_at_once};
+ghost use Rattle.replay_input.specs.Replays.{Replays, Stops, Has, Turns, NoneIsRefused, most_at_once};
+ghost use Rattle.replay_input.specs.Reads.{ReadsInTurn, LeavesRead};
 
 use crate::script::Script;
 use crate::stop::Stop;
@@ -208,6 +210,10 @@ impl<C: ProxyCore> Replay<C> {
         ensures turned { (left start : Option (List ℕ)) (read : List ℕ)
             → Has left start (S.left input.old) (K.written output.old) self.old read
             → Turns left start (S.left input.new) (K.written output.new) self.new result }
+        ensures in_turn { (from : S) (start : Option (List ℕ)) (read : List ℕ)
+            → Has (S.left from) start (S.left input.old) (K.written output.old) self.old read
+            → ReadsWhile S.reads most_at_once NoneIsRefused from input.old read
+            → LeavesRead S.reads S.left from input.new start (K.written output.new) self.new result }
         ensures count { result ≡ Ok None → taken_of self.old < taken_of self.new }
         ensures few { result ≡ Ok None → taken_of self.new ≤ MOST_BYTES }
         ensures kept_input { S.faults input.old ≤ S.faults input.new }
@@ -261,6 +267,7 @@ pub fn replay_script<C: ProxyCore, S: Source, K: Sink>(
 ) -> Result<Ending, Stop>
     ensures ended { IfOk result (Replays (S.left input.old) (S.left input.new) (K.written output.old) (K.written output.new)) }
     ensures stopped { IfErr result (Stops (S.left input.old) (S.left input.new) (K.written output.old) (K.written output.new)) }
+    ensures in_turn { ReadsInTurn S.reads S.left input.old input.new }
     ensures read_cause { IfErr result (λ stop. stop ≡ Stop.ReadFault → Rose (S.faults input.old) (S.faults input.new)) }
     ensures write_cause { IfErr result (λ stop. stop ≡ Stop.WriteFault → Rose (K.faults output.old) (K.faults output.new)) }
 {

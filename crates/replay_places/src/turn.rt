@@ -17,6 +17,7 @@ use etcd_types::{Bytes, List, NoMemory, Request, WatchItem};
 use replay_parts::{Numbers, one, taken};
 use script_text::Item;
 use std::alloc::Global;
+use told_items::Told;
 use world_model::WorldFault;
 
 /// What happens at a proxy.
@@ -95,7 +96,7 @@ fn job_of(outcome: Outcome) -> Option<Job>
 }
 
 /// The message that an outcome is.
-fn message_of(outcome: Outcome) -> Option<WatchItem>
+fn message_of(outcome: Outcome) -> Option<Told>
     ensures { result ≡ message_of outcome }
 {
     match outcome {
@@ -241,7 +242,7 @@ impl<C: ProxyCore> Place<C> {
         let event = CoreEvent::Take { ticket };
         let outcome = self.make_step(proxy, event, WorldFault::NoSuchTicket(ticket))?;
         match message_of(outcome) {
-            Some(item) => Ok(self.tell_taken(alloc, proxy, ticket, item)?),
+            Some(told) => Ok(self.tell_taken(alloc, proxy, ticket, told.into_item(alloc)?)?),
             None => Ok(self.tell(alloc, proxy, Item::Pending { proxy, ticket })?),
         }
     }

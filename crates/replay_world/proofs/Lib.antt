@@ -6,3 +6,4 @@ pub mod StreamLines
 pub mod SendLines
 pub mod StoreLines
 pub mod Steps
+mod Promises

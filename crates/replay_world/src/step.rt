@@ -1,5 +1,6 @@
 ghost use Rattle.std.specs.Prelude.{◌≡◌, ◌+◌, ◌<◌, ◌^◌, Err, OnOk, OnErr};
 ghost use Rattle.replay_world.specs.World.{Gives, Stands};
+ghost use Rattle.replay_world.specs.Promises.{StaysSound, LeavesNoneIdle, LeavesStreamsMerged, LeavesQueuesBounded, LeavesAllHeld};
 ghost use Rattle.replay_world.specs.Step.{IsStep, StepsTo, IsSpent, is_wanting, line_step};
 ghost use Rattle.world_model.specs.declared.fault.WorldFault.TheVariants as fault;
 ghost use Rattle.world_model.specs.State.{World as Model};
@@ -16,6 +17,10 @@ impl<C: ProxyCore> World<C> {
     ///
     /// Each fault leaves the world as before, but for the clock work and the count of steps of the proxy that made a step. Once
     /// memory was wanting the world answers that from then on.
+    ///
+    /// Where the world's proxies are sound and what the line brings to one of them is made of bytes, they are sound again, whether the
+    /// line is taken or refused. Then no request and no watch of any of them waits for nothing, and their streams are merged. Their
+    /// queues stay bounded, and behind lines that were all taken nothing is held back of any watch.
     pub fn step(&mut self, number: u64, line: Line) -> Result<List<Item>, WorldFault>
         requires number { number ≡ self.old.lines + 2 }
         requires lines { self.old.lines < 2 ^ 60 }
@@ -25,6 +30,11 @@ impl<C: ProxyCore> World<C> {
         ensures counted { OnOk result (self.new.lines ≡ self.old.lines + 1) }
         ensures kept { OnErr result (self.new.lines ≡ self.old.lines) }
         ensures spent { IsSpent self.old → result ≡ Err fault.NoMemory }
+        ensures sound { (w : Model) → Stands self.old w → StaysSound w line result self.new }
+        ensures idle { (w : Model) → Stands self.old w → LeavesNoneIdle w line result self.new }
+        ensures merged { (w : Model) → Stands self.old w → LeavesStreamsMerged w line result self.new }
+        ensures bounded { (w : Model) → Stands self.old w → LeavesQueuesBounded w line result self.new }
+        ensures held { OnOk result ((w : Model) → Stands self.old w → LeavesAllHeld w line self.new) }
     {
         if self.spent {
             return Err(WorldFault::NoMemory);

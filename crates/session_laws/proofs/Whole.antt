@@ -268,7 +268,7 @@ nth_nothing number = by (number == 0)
 head_is : (x y : Item) (xs ys : List Item) → x ∷ xs ≡ y ∷ ys → x ≡ y
 head_is x y xs ys e = cc
 
-told_kept : (script : List Line) → list_all sets_clock_below script ≡ true → length script < 2 ^ 60 → IsKept script (λ items w. WorldTold items w (bound_of w))
+pub told_kept : (script : List Line) → list_all sets_clock_below script ≡ true → length script < 2 ^ 60 → IsKept script (λ items w. WorldTold items w (bound_of w))
 told_kept script fits few = record {
   begins = λ members namespace leasing. record {
     calls = none members namespace leasing;

@@ -1,3 +1,4 @@
+mod Clocks
 pub mod Shown
 pub mod Truth
 mod Worlds

@@ -5,4 +5,4 @@ mod Entries
 mod Owned
 mod Ends
 mod Steps
-pub mod Scripts
+pub mod Sound

@@ -1,5 +1,5 @@
 -- Every step keeps that each rescind that was sent is out.
-use Rattle.std.proofs.Common.{ℕ, ◌==◌, cond, List, [], Option, None, Some, Result, Ok, Err, sym, ◌∙◌, ap}
+use Rattle.std.proofs.Common.{◌≡◌, ℕ, ◌==◌, true, false, cond, List, Option, None, Some, Result, Ok, Err, refl, sym, ◌∙◌, ap}
 use Rattle.etcd_types.specs.declared.answer.Answer.{Answer}
 use Rattle.etcd_types.specs.declared.answer.Body.{Body}
 use Rattle.etcd_types.specs.declared.answer.Refusal.{Refusal}
@@ -9,6 +9,10 @@ use Rattle.etcd_types.specs.declared.request.Request.TheVariants as request
 use Rattle.etcd_types.specs.declared.watch.Event.{Event}
 use Rattle.etcd_types.specs.declared.watch.WatchItem.{WatchItem}
 use Rattle.etcd_types.specs.declared.watch.WatchItem.TheVariants as item
+use Rattle.proxy_model.specs.declared.lease.Entry.{Entry}
+use Rattle.proxy_model.specs.declared.lease.Phase.{Phase}
+use Rattle.proxy_model.specs.declared.lease.Phase.TheVariants.{Held, Writing, Leaving}
+use Rattle.proxy_model.specs.Keyed.{at, is_in_order}
 use Rattle.proxy_model.specs.Unwrapped.{Unwrapped, item_without}
 use Rattle.proxy_model.specs.Upstream.{created, advance, opened}
 use Rattle.wait_model.specs.Asked.{submitted}
@@ -53,7 +57,6 @@ use Rattle.core_model.specs.Takes as takes
 use Rattle.core_model.specs.Watching.{stream_message, stream_item, taken_item, stream_job, with_watches}
 use Rattle.core_model.specs.Watching as watching
 use Rattle.core_laws.proofs.Comes.{by_test}
-use Rattle.prefix_laws.proofs.Places.{Lasts}
 use Rattle.waiting_laws.specs.Laws.{RescindsAreOut}
 use Rattle.waiting_laws.proofs.Entries.{phase_fits, is_among, entry_fits, none_out}
 use Rattle.waiting_laws.proofs.Owned.{OwnOut, proceeded_out, message_out, given_up_out, SentOut, job_sent_out}
@@ -283,15 +286,26 @@ counted_after s h = by s.outcome
     by (Ok o) = h
     by (Err f) = h
 
-step_out : (c : Core) (e : CoreEvent) (now : ℕ) → CoreOut c → CoreOut (stepped c e now).core
+pub step_out : (c : Core) (e : CoreEvent) (now : ℕ) → CoreOut c → CoreOut (stepped c e now).core
 unfolding stepped
 step_out c e now h =
     by_test After (is_worn c) (faults c fault.Worn) (counted (happened now e (clock_work now c))) (λ t. h)
     (λ t. counted_after (happened now e (clock_work now c)) (happened_after now e (clock_work now c) (clock_out now c h)))
 
-pub rescinds_last : Lasts CoreOut
-rescinds_last = record { start = λ settings. none_out []; step = λ c e now heard ok h. step_out c e now h }
-
 pub they_are_out : (c : Core) → CoreOut c → RescindsAreOut c
 they_are_out c h k e at_key p =
     sym (ap (phase_fits (is_among c.own.waits.out k e.create)) p) ∙ sym (ap (entry_fits c.own.waits.out k) at_key) ∙ h.sent k
+
+-- and where they are, so are their entries
+pub rescinds_out : (c : Core) → is_in_order c.own.entries ≡ true → RescindsAreOut c → CoreOut c
+rescinds_out c order h = record { order = order; sent = λ k. by k (at c.own.entries k) refl }
+  where
+    by_phase : (k : List ℕ) (e : Entry) (p : Phase) → e.phase ≡ p → at c.own.entries k ≡ Some e → phase_fits (is_among c.own.waits.out k e.create) p ≡ true
+    by_phase k e Held q f = refl
+    by_phase k e (Writing revoked) q f = refl
+    by_phase k e (Leaving false) q f = refl
+    by_phase k e (Leaving true) q f = h k e f q
+
+    by : (k : List ℕ) (o : Option Entry) → at c.own.entries k ≡ o → entry_fits c.own.waits.out k o ≡ true
+    by k None f = refl
+    by k (Some e) f = by_phase k e e.phase refl f

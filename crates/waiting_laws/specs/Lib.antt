@@ -1,3 +1,4 @@
 pub mod Calls
 pub mod Waiting
 pub mod Laws
+pub mod Sound

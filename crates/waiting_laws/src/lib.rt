@@ -1,7 +1,8 @@
-//! Laws of what requests and watches wait for, of one proxy and over every prefix of a script: none waits for nothing.
+//! Laws of what requests and watches of one proxy wait for, and of what its state keeps for it: none waits for nothing.
 #![tactic(auto)]
 
-ghost use Rattle.waiting_laws.specs.Laws.{RequestsWait, WatchesWait, ScriptsLeaveNoneIdle};
+ghost use Rattle.waiting_laws.specs.Laws.{RequestsWait, WatchesWait};
+ghost use Rattle.waiting_laws.specs.Sound.{StartsSound, StepsStaySound, ClockWorkStaysSound, SoundIsNotIdle};
 
 /// Each request of a proxy without a reply waits for something, and so does each of its watches that wasn't cancelled.
 pub fn none_is_idle()
@@ -9,7 +10,11 @@ pub fn none_is_idle()
     ensures watches { WatchesWait }
 {}
 
-/// Behind each prefix of a script no request and no watch of any proxy waits for nothing.
-pub fn scripts_leave_none_idle()
-    ensures { ScriptsLeaveNoneIdle }
+/// A proxy is sound at its start, each of its steps keeps it so, whatever the event and the outcome, and so does its clock work; and of
+/// one that is sound no request and no watch waits for nothing.
+pub fn proxies_stay_sound()
+    ensures starts { StartsSound }
+    ensures steps { StepsStaySound }
+    ensures clock { ClockWorkStaysSound }
+    ensures idle { SoundIsNotIdle }
 {}

@@ -94,7 +94,7 @@ queue_with got q i =
     ∙ ap (λ (l : List Event). got ++ (queued_events q ++ l)) (append-nil (item_events i))
     ∙ sym (append_assoc got (queued_events q) (item_events i))
 
-none_more : (q : List WatchItem) (i : WatchItem) → item_events i ≡ [] → queued_events (q ++ i ∷ []) ≡ queued_events q
+pub none_more : (q : List WatchItem) (i : WatchItem) → item_events i ≡ [] → queued_events (q ++ i ∷ []) ≡ queued_events q
 none_more q i e = queued_events-append q (i ∷ []) ∙ ap (λ (l : List Event). queued_events q ++ (l ++ [])) e ∙ append-nil (queued_events q)
 
 -- the watch with other items of the same events
@@ -146,7 +146,7 @@ all_shown h ask own es s =
     let kept = All-filter (is_for ask own) (IsShown h true) es s in
     All-map (IsShown h ask.prev_kv) (shown_event ask.prev_kv) (chosen ask own es) (λ k d l. shown_one h ask.prev_kv _ (kept k d l))
 
-no_more : (ask : WatchAsk) (own : ℕ) (es : List Event) → length (shown_events ask (chosen ask own es)) ≤ length es
+pub no_more : (ask : WatchAsk) (own : ℕ) (es : List Event) → length (shown_events ask (chosen ask own es)) ≤ length es
 no_more ask own es =
     let a = length-map (chosen ask own es) (shown_event ask.prev_kv) in
     let b = length-filter (is_for ask own) es in

@@ -250,7 +250,7 @@ first_is P (s ∷ ss) o p h = first_is P ss (earlier o s s.phase) p.1 (chosen_fi
 begun_harmless : (t : Stream) → t.stream.created ≡ false → IsHarmless (begun t)
 begun_harmless t e = record { standing = e; due = λ d. absurd (cc) }
 
-sent_leaves : (b : Broadcasts) (s : Stream) (p : StreamPhase) → s.phase ≡ p → stream_at s.number b.streams ≡ Some s → StandAlone b.streams → StandAlone (sent b s p).0.streams
+pub sent_leaves : (b : Broadcasts) (s : Stream) (p : StreamPhase) → s.phase ≡ p → stream_at s.number b.streams ≡ Some s → StandAlone b.streams → StandAlone (sent b s p).0.streams
 sent_leaves b s (phase.Closing since) e f a = alone_from b.streams _ (from_without s.number b.streams) a
 sent_leaves b s phase.Begun e f a = a
 sent_leaves b s (phase.Due since) e f a =

@@ -1,0 +1,16 @@
+pub mod Clear
+pub mod Apart
+pub mod Untouched
+pub mod Waiting
+pub mod Jobs
+pub mod Awaiting
+pub mod Named
+pub mod Steps
+pub mod Folds
+pub mod Telling
+pub mod NewTold
+pub mod WaitTold
+pub mod Openings
+pub mod StreamTold
+pub mod StreamTurns
+pub mod Worlds

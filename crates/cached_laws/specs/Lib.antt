@@ -1,0 +1,7 @@
+pub mod Untouched
+pub mod Awaited
+pub mod Laws
+pub mod Folds
+pub mod Streams
+pub mod NewKeys
+pub mod Reads

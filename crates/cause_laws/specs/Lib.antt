@@ -1,0 +1,3 @@
+pub mod Timeouts
+pub mod Causes
+pub mod Laws

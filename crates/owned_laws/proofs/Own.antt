@@ -1,0 +1,425 @@
+-- What stands at one key of a proxy's ownership, as writes and entries go on: while no write is over the key and no revoking word comes for
+-- it, an acquire of it stays unspoiled, and a held entry stays as it is.
+use Rattle.std.proofs.Common.{◌≡◌, ℕ, ◌+◌, ◌==◌, Bool, true, false, cond, not, ◌&&◌, ◌||◌, List, [], ◌∷◌, ◌++◌, map, Option, None, Some, is_some, refl, sym, ◌∙◌, ap, subst}
+use Rattle.std.specs.List.{list_any}
+use Rattle.std.specs.Option.{option_map}
+use Rattle.etcd_types.specs.declared.answer.Answer.{Answer}
+use Rattle.etcd_types.specs.declared.answer.Answer.TheVariants as answer
+use Rattle.etcd_types.specs.declared.request.Request.{Request}
+use Rattle.etcd_types.specs.declared.watch.Event.{Event}
+use Rattle.etcd_types.specs.declared.watch.Change.{Change}
+use Rattle.etcd_types.specs.declared.watch.Change.TheVariants as change
+use Rattle.etcd_types.specs.Keys.{same}
+use Rattle.etcd_types.proofs.KeyOrder.{same-equal}
+use Rattle.proxy_model.specs.declared.lease.Entry.{Entry}
+use Rattle.proxy_model.specs.declared.lease.Phase.{Phase}
+use Rattle.proxy_model.specs.declared.ownership.Owner.{Owner}
+use Rattle.proxy_model.specs.declared.ownership.Written.{Written}
+use Rattle.proxy_model.specs.declared.ownership.Written.TheVariants.{Wrote, Blocked}
+use Rattle.proxy_model.specs.Foreign.{revoke_word}
+use Rattle.proxy_model.specs.Guarded.{written}
+use Rattle.proxy_model.specs.Keyed.{Keyed, at, with_at, changed_at}
+use Rattle.proxy_model.specs.LeaseTable.{given_up, is_writing, is_writing_phase}
+use Rattle.proxy_model.specs.SeveralKeys.{written_ranges}
+use Rattle.proxy_model.specs.Leaving.{guard_held}
+use Rattle.proxy_model.proofs.KeyedLaws.{at-with_at}
+use Rattle.wait_model.specs.declared.sending.Sending.TheVariants as sending
+use Rattle.wait_model.specs.declared.write.Write.{Write}
+use Rattle.wait_model.specs.declared.write.WriteStage.{WriteStage}
+use Rattle.wait_model.specs.declared.write.WriteStage.TheVariants.{Sends}
+use Rattle.wait_model.specs.declared.wait.WaitJob.{WaitJob}
+use Rattle.wait_model.specs.declared.wait.WaitJob.TheVariants as job
+use Rattle.wait_model.specs.declared.due.DueCall.{DueCall}
+use Rattle.wait_model.specs.Asked.{new_write, submitted, acquire_spoiled}
+use Rattle.wait_model.specs.Covers.{covers, covered, shares, is_by_keys, is_single, leased}
+use Rattle.wait_model.specs.DueOrder.{first_call, first_rescind}
+use Rattle.wait_model.specs.Edits.{each, without}
+use Rattle.wait_model.specs.Endings.{given_back, revoke_back, revoke_answered, answered_job, without_out, answered, lost_job, lost, forgotten_by, forgotten}
+use Rattle.wait_model.specs.ForeignOwnership.{by_key, is_own, owned_left, finding, stage_gone}
+use Rattle.wait_model.specs.GuardedAnswers.{left_entries, Ending, ended_by, staged_by, owns, owns_at, change_owned, kept_entries, is_shown, is_gone, unwrote_entries, other_owners, failed, done_if, write_answered, write_lost}
+use Rattle.wait_model.specs.Leaving.{rescinded, if_read, rescind_answered}
+use Rattle.wait_model.specs.LeasingStream.{resynced, all_given_up}
+use Rattle.wait_model.specs.Notices.{revoked_turn, put_noticed, deleted_phase, deleted_turn, owned_key, noticed, all_noticed}
+use Rattle.wait_model.specs.Passes.{goes, turn, passed, proceeded}
+use Rattle.wait_model.specs.Phases.{own_entry, is_of, begun, let_go, phase_sent, rescind_sent}
+use Rattle.wait_model.specs.SessionEnd.{stage_ended, session_ended}
+use Rattle.wait_model.specs.SeveralKeys.{any_covered, given_up_over, spoiled_over, by_ranges}
+use Rattle.wait_model.specs.Sent.{JobSent, revoke_job, write_job, is_revoke, call_of, call_sent, job_sent_after, job_sent}
+use Rattle.wait_model.specs.SingleKeys.{Turn, let_go_leased, begun_over, any_key, keys_begun, by_keys}
+use Rattle.wait_model.specs.Stages.{staged, gone_on, is_waiting, is_owner, is_due, stage_on}
+use Rattle.wait_model.specs.State.{Ownership}
+use Rattle.wait_model.specs.Writes.{first_by, with_first, without_first, sends, asks, has_ticket, job_of}
+use Rattle.wait_model.proofs.Tables.{at-each, at-without}
+use Rattle.owned_laws.specs.Watched.{NoneOver, Spares, AllSpare}
+use Rattle.owned_laws.proofs.Modes.{Mode}
+
+either : {A : Type 0} (P : A → Type 0) (b : Bool) (x y : A) → P x → P y → P (cond b x y)
+either P true x y h i = h
+either P false x y h i = i
+
+or_none : (a b : Bool) → a || b ≡ false → (a ≡ false) × (b ≡ false)
+or_none true b h = absurd (cc)
+or_none false b h = (refl, h)
+
+both_none : (a b : Bool) → a ≡ false → b ≡ false → a || b ≡ false
+both_none true b h i = h
+both_none false b h i = i
+
+and_false : (b : Bool) → b && false ≡ false
+and_false true = refl
+and_false false = refl
+
+-- at another key
+pub at_other : {A : Type 0} (k j : List ℕ) (o : Option A) (xs : Keyed A) → same j k ≡ false → at (with_at xs j o) k ≡ at xs k
+at_other k j o xs n = at-with_at xs j k o ∙ ap (λ (b : Bool). cond b o (at xs k)) n
+
+-- ---- writes, none of which is over the key
+
+module _ (k : List ℕ) where
+  none_append : (ws vs : List Write) → NoneOver k ws → NoneOver k vs → NoneOver k (ws ++ vs)
+  none_append [] vs h i = i
+  none_append (w ∷ ws) vs h i = let p = or_none (covers w k) (list_any (λ w. covers w k) ws) h in both_none (covers w k) (list_any (λ w. covers w k) (ws ++ vs)) p.0 (none_append ws vs p.1 i)
+
+  none_first : (p : Write → Bool) (s : WriteStage) (ws : List Write) → NoneOver k ws → NoneOver k (with_first p s ws)
+  none_first p s [] h = h
+  none_first p s (w ∷ ws) h =
+      let q = or_none (covers w k) (list_any (λ w. covers w k) ws) h in
+      either (NoneOver k) (p w) (staged w s ∷ ws) (w ∷ with_first p s ws) h (both_none (covers w k) (list_any (λ w. covers w k) (with_first p s ws)) q.0 (none_first p s ws q.1))
+
+  none_rest : (p : Write → Bool) (ws : List Write) → NoneOver k ws → NoneOver k (without_first p ws)
+  none_rest p [] h = h
+  none_rest p (w ∷ ws) h =
+      let q = or_none (covers w k) (list_any (λ w. covers w k) ws) h in
+      either (NoneOver k) (p w) ws (w ∷ without_first p ws) q.1 (both_none (covers w k) (list_any (λ w. covers w k) (without_first p ws)) q.0 (none_rest p ws q.1))
+
+  none_each : (g : Write → WriteStage) (ws : List Write) → NoneOver k ws → NoneOver k (map (λ w. staged w (g w)) ws)
+  none_each g [] h = h
+  none_each g (w ∷ ws) h = let q = or_none (covers w k) (list_any (λ w. covers w k) ws) h in both_none (covers w k) (list_any (λ w. covers w k) (map (λ w. staged w (g w)) ws)) q.0 (none_each g ws q.1)
+
+module _ (M : Mode) where
+  abbrev k : List ℕ
+  k = M.key
+
+  abbrev e : Entry
+  e = M.entry
+
+  abbrev w : Bool
+  w = M.over
+
+  abbrev h : Bool
+  h = M.hold
+
+  abbrev Over : List Write → Type 0
+  Over ws = w ≡ true → NoneOver k ws
+
+  abbrev Mark : Keyed Bool → Type 0
+  Mark ss = M.mark ≡ true → at ss k ≡ Some false
+
+  abbrev Stays : Keyed Entry → Type 0
+  Stays es = h ≡ true → at es k ≡ Some e
+
+  pub record OwnSo (own : Ownership) : Type 0 where
+    pub outs : M.Outs own.waits.out
+    pub over : Over own.waits.writes
+    pub mark : Mark own.waits.spoiled
+    pub entry : Stays own.entries
+
+  -- ---- entries
+
+  stays_each : (f : List ℕ → Entry → Entry) (es : Keyed Entry) → (h ≡ true → f k e ≡ e) → Stays es → Stays (each f es)
+  stays_each f es g i = λ y. at-each f es k ∙ ap (option_map (f k)) (i y) ∙ ap (λ (x : Entry). Some x) (g y)
+
+  stays_other : (j : List ℕ) (o : Option Entry) (es : Keyed Entry) → same j k ≡ false → Stays es → Stays (with_at es j o)
+  stays_other j o es n i = λ y. at_other k j o es n ∙ i y
+
+  -- a change at one key that leaves this entry
+  stays_turned : (j : List ℕ) (f : Option Entry → Option Entry) (es : Keyed Entry) → (h ≡ true → same j k ≡ true → f (Some e) ≡ Some e) → Stays es → Stays (with_at es j (f (at es j)))
+  stays_turned j f es g i = λ y. at-with_at es j k (f (at es j)) ∙ by y (same j k) refl
+    where
+      by : (y : h ≡ true) (b : Bool) → same j k ≡ b → cond b (f (at es j)) (at es k) ≡ Some e
+      by y true s = ap (λ (l : List ℕ). f (at es l)) (same-equal j k s) ∙ ap f (i y) ∙ g y s
+      by y false s = i y
+
+  owned_stays : (x : Write) (f : List ℕ → Entry → Entry) (es : Keyed Entry) → Stays es → Stays (change_owned x f es)
+  owned_stays x f es i =
+      stays_each _ es (λ y. ap (λ (p : Phase). cond (owns x k && is_writing_phase p) (f k e) e) M.held ∙ ap (λ (b : Bool). cond b (f k e) e) (and_false (owns x k))) i
+
+  owns_stays : (x : Write) (es : Keyed Entry) → Stays es → Stays (without (owns_at x es) es)
+  owns_stays x es i = λ y.
+      at-without (owns_at x es) es k
+      ∙ ap (λ (o : Option Entry). cond (owns x k && is_writing o) None o) (i y)
+      ∙ ap (λ (p : Phase). cond (owns x k && is_writing_phase p) None (Some e)) M.held
+      ∙ ap (λ (b : Bool). cond b None (Some e)) (and_false (owns x k))
+
+  kept_stays : (x : Write) (os : List Owner) (es : Keyed Entry) → Stays es → Stays (kept_entries x os es)
+  kept_stays x os es i =
+      owned_stays x _ (without (is_gone x es os) es)
+      (λ y.
+      at-without (is_gone x es os) es k
+      ∙ ap (λ (o : Option Entry). cond (owns x k && is_writing o && not (is_shown es os k)) None o) (i y)
+      ∙ ap (λ (p : Phase). cond (owns x k && is_writing_phase p && not (is_shown es os k)) None (Some e)) M.held
+      ∙ ap (λ (b : Bool). cond (b && not (is_shown es os k)) None (Some e)) (and_false (owns x k)))
+
+  not_own : (session : Option ℕ) (es : Keyed Entry) (o : List ℕ × Owner) → Stays es → h ≡ true → is_own session es o ≡ true → same o.0 k ≡ false
+  not_own session es o i y t = by (same o.0 k) refl
+    where
+      second : (a b : Bool) → a && b ≡ true → b ≡ true
+      second true b f = f
+      second false b f = absurd (cc)
+
+      by : (b : Bool) → same o.0 k ≡ b → b ≡ false
+      by true s =
+          absurd (let f : false ≡ true = sym (ap (λ (x : Option Entry). not (is_some x)) (ap (at es) (same-equal o.0 k s) ∙ i y)) ∙ second (Rattle.wait_model.specs.Phases.is_session session o.1.lease) (not (is_some (at es o.0))) t in cc)
+      by false s = refl
+
+  left_stays : (session : Option ℕ) (os : Keyed Owner) (es : Keyed Entry) → Stays es → Stays (owned_left session os es)
+  left_stays session [] es i = i
+  left_stays session (o ∷ os) es i = left_stays session os (cond (is_own session es o) (with_at es o.0 (Some (own_entry o.1.create))) es) (by (is_own session es o) refl)
+    where
+      by : (b : Bool) → is_own session es o ≡ b → Stays (cond b (with_at es o.0 (Some (own_entry o.1.create))) es)
+      by true t = λ y. stays_other o.0 (Some (own_entry o.1.create)) es (not_own session es o i y t) i y
+      by false t = i
+
+  -- ---- a pass
+
+  abbrev Passes : Write → Type 0
+  Passes x = w ≡ true → covers x k ≡ false
+
+  abbrev TurnSo : Turn → Type 0
+  TurnSo t = Stays t.entries × (Mark t.spoiled × Passes t.write)
+
+  keys_so : (step : ℕ) (es : Keyed Entry) (ss : Keyed Bool) (x : Write) → Stays es → Mark ss → Passes x → TurnSo (keys_begun step es ss x)
+  keys_so step es ss x i m c =
+      either TurnSo (any_key x (λ k. Rattle.wait_model.specs.Phases.is_leaving (at es k))) (record { entries = es; spoiled = ss; write = x }) (record { entries = each (begun_over x) es; spoiled = ss; write = gone_on step (any_key x (λ k. is_some (at es k))) x }) (i, (m, c))
+      (stays_each (begun_over x) es (λ y. ap (λ (b : Bool). cond b (begun e) e) (c (M.holding y))) i, (m, c))
+
+  by_keys_so : (step : ℕ) (es : Keyed Entry) (ss : Keyed Bool) (x : Write) → Stays es → Mark ss → Passes x → TurnSo (by_keys step es ss x)
+  by_keys_so step es ss x i m c =
+      either TurnSo (any_key x (λ k. is_some (at ss k))) (record { entries = es; spoiled = ss; write = x }) (keys_begun step (each (let_go_leased x) es) ss x) (i, (m, c))
+      (keys_so step (each (let_go_leased x) es) ss x (stays_each (let_go_leased x) es (λ y. ap (λ (b : Bool). cond (b && leased x.request k) (let_go e) e) (c (M.holding y))) i) m c)
+
+  by_ranges_so : (step : ℕ) (es : Keyed Entry) (ss : Keyed Bool) (x : Write) → Stays es → Mark ss → Passes x → TurnSo (by_ranges step es ss x)
+  by_ranges_so step es ss x i m c = (
+    stays_each (given_up_over x) es (λ y. ap (λ (b : Bool). cond b (given_up e) e) (c (M.holding y))) i,
+    (
+      λ y. at-each (spoiled_over x) ss k ∙ ap (option_map (spoiled_over x k)) (m y) ∙ ap (λ (b : Bool). Some (b || false)) (c (M.marked y)),
+      either Passes (any_covered x (each (given_up_over x) es) || any_covered x (each (spoiled_over x) ss)) x (gone_on step false x) c c,
+    ),
+  )
+
+  turn_so : (step : ℕ) (earlier : List Write) (es : Keyed Entry) (ss : Keyed Bool) (x : Write) → Stays es → Mark ss → Passes x → TurnSo (turn step earlier es ss x)
+  turn_so step earlier es ss x i m c =
+      let v = staged x (stage_on x.stage) in
+      either TurnSo (is_waiting v.stage && not (list_any (shares x) earlier)) (goes step es ss v) (record { entries = es; spoiled = ss; write = v })
+      (either TurnSo (is_by_keys v) (by_keys step es ss v) (by_ranges step es ss v) (by_keys_so step es ss v i m c) (by_ranges_so step es ss v i m c)) (i, (m, c))
+
+  first_over : (x : Write) (ws : List Write) → Over (x ∷ ws) → Passes x
+  first_over x ws o = λ y. (or_none (covers x k) (list_any (λ v. covers v k) ws) (o y)).0
+
+  rest_over : (x : Write) (ws : List Write) → Over (x ∷ ws) → Over ws
+  rest_over x ws o = λ y. (or_none (covers x k) (list_any (λ v. covers v k) ws) (o y)).1
+
+  passed_so : (step : ℕ) (earlier : List Write) (es : Keyed Entry) (ss : Keyed Bool) (ws : List Write) → Stays es → Mark ss → Over ws
+      → let p = passed step earlier es ss ws in Stays p.entries × (Mark p.spoiled × Over p.writes)
+  unfolding passed
+  passed_so step earlier es ss [] i m o = (i, (m, o))
+  passed_so step earlier es ss (x ∷ ws) i m o =
+      let t = turn step earlier es ss x in
+      let b = turn_so step earlier es ss x i m (first_over x ws o) in
+      let r = passed_so step (t.write ∷ earlier) t.entries t.spoiled ws b.0 b.1.0 (rest_over x ws o) in
+      (r.0, (r.1.0, λ y. both_none (covers t.write k) (list_any (λ v. covers v k) (passed step (t.write ∷ earlier) t.entries t.spoiled ws).writes) (b.1.1 y) (r.1.1 y)))
+
+  pub pass_so : (own : Ownership) → OwnSo own → OwnSo (proceeded own)
+  pass_so own t =
+      let r = passed_so own.waits.step [] own.entries own.waits.spoiled own.waits.writes t.entry t.mark t.over in
+      record { outs = t.outs; over = r.1.1; mark = r.1.0; entry = r.0 }
+
+  -- ---- answers
+
+  abbrev pub EndSo : Option Ending → Type 0
+  EndSo None = Unit {0}
+  EndSo (Some x) = OwnSo x.own
+
+  read_so : (o : Option Bool) (own : Ownership) → OwnSo own → EndSo (if_read o own)
+  read_so None own t = tt
+  read_so (Some b) own t = t
+
+  rescind_so : (a : Answer) (own : Ownership) → OwnSo own → EndSo (rescind_answered a own)
+  rescind_so (answer.Done reply) own t = read_so (guard_held reply.body) own t
+  rescind_so (answer.Refused r) own t = t
+
+  rescinded_so : (j : List ℕ) (create now : ℕ) (own : Ownership) → (h ≡ true → same j k ≡ true → (e.create == create) ≡ false) → OwnSo own → OwnSo (rescinded j create now own)
+  rescinded_so j create now own f t = by (is_of create (at own.entries j)) refl
+    where
+      is_this : h ≡ true → same j k ≡ true → is_of create (at own.entries j) ≡ true → (e.create == create) ≡ true
+      is_this y s g = sym (ap (is_of create) (ap (at own.entries) (same-equal j k s) ∙ t.entry y)) ∙ g
+
+      none : h ≡ true → is_of create (at own.entries j) ≡ true → same j k ≡ false
+      none y g = by_key (same j k) refl
+        where
+          by_key : (b : Bool) → same j k ≡ b → b ≡ false
+          by_key true s = absurd (let x : true ≡ false = sym (is_this y s g) ∙ f y s in cc)
+          by_key false s = refl
+
+      by : (b : Bool) → is_of create (at own.entries j) ≡ b → OwnSo (cond b (record { entries = with_at own.entries j None; waits = record own.waits { quiet = with_at own.waits.quiet j (Some (Rattle.proxy_model.specs.Limits.capped (now + Rattle.wait_model.specs.Leaving.rest))) } }) own)
+      by true g = record { outs = t.outs; over = t.over; mark = t.mark; entry = λ y. stays_other j None own.entries (none y g) t.entry y }
+      by false g = t
+
+  over_first : (p : Write → Bool) (s : WriteStage) (ws : List Write) → Over ws → Over (with_first p s ws)
+  over_first p s ws o = λ y. none_first k p s ws (o y)
+
+  over_rest : (p : Write → Bool) (ws : List Write) → Over ws → Over (without_first p ws)
+  over_rest p ws o = λ y. none_rest k p ws (o y)
+
+  back_so : (p : Write → Bool) (call : ℕ) (x : Write) (o : Option Bool) (own : Ownership) → OwnSo own → EndSo (revoke_back p call x o own)
+  back_so p call x None own t = tt
+  back_so p call x (Some b) own t = record { outs = t.outs; over = over_first p _ own.waits.writes t.over; mark = t.mark; entry = t.entry }
+
+  ended_so : (own : Ownership) (es : Keyed Entry) (p : Write → Bool) → Stays es → OwnSo own → OwnSo (ended_by own es p)
+  ended_so own es p i t = record { outs = t.outs; over = over_rest p own.waits.writes t.over; mark = t.mark; entry = i }
+
+  revoke_so : (p : Write → Bool) (call : ℕ) (o : Option Write) (a : Answer) (own : Ownership) → OwnSo own → EndSo (revoke_answered p call o a own)
+  revoke_so p call None a own t = t
+  revoke_so p call (Some x) (answer.Done reply) own t = back_so p call x (guard_held reply.body) own t
+  revoke_so p call (Some x) (answer.Refused r) own t = ended_so own own.entries p t.entry t
+
+  failed_so : (session : Option ℕ) (p : Write → Bool) (x : Write) (os : List Owner) (own : Ownership) → OwnSo own → OwnSo (failed session p x os own)
+  failed_so session p x os own t =
+      either OwnSo (is_owner x.stage && is_single x.request)
+      (staged_by own (without (owns_at x own.entries) own.entries) p (Sends false (sending.Due own.waits.step)))
+      (finding session p (by_key [] (other_owners x own.entries os)) own (kept_entries x os own.entries))
+      (record { outs = t.outs; over = over_first p _ own.waits.writes t.over; mark = t.mark; entry = owns_stays x own.entries t.entry })
+      (record { outs = t.outs; over = over_first p _ own.waits.writes t.over; mark = t.mark; entry = left_stays session (by_key [] (other_owners x own.entries os)) (kept_entries x os own.entries) (kept_stays x os own.entries t.entry) })
+
+  done_so : (session : Option ℕ) (p : Write → Bool) (x : Write) (o : Option Written) (own : Ownership) → OwnSo own → EndSo (done_if session p x o own)
+  done_so session p x None own t = tt
+  done_so session p x (Some (Wrote reply)) own t = ended_so own _ p (owned_stays x _ own.entries t.entry) t
+  done_so session p x (Some (Blocked os)) own t = failed_so session p x os own t
+
+  write_so : (session : Option ℕ) (p : Write → Bool) (o : Option Write) (a : Answer) (own : Ownership) → OwnSo own → EndSo (write_answered session p o a own)
+  write_so session p None a own t = t
+  write_so session p (Some x) (answer.Done reply) own t = done_so session p x (written own.waits.prefix x.request reply) own t
+  write_so session p (Some x) (answer.Refused r) own t = ended_so own (unwrote_entries x own.entries) p (owned_stays x _ own.entries t.entry) t
+
+  job_so : (call : ℕ) (a : Answer) (session : Option ℕ) (now : ℕ) (o : Option WaitJob) (own : Ownership) → ((j : List ℕ) (create : ℕ) → o ≡ Some (job.Rescind j create) → h ≡ true → same j k ≡ true → (e.create == create) ≡ false) → OwnSo own
+      → EndSo (answered_job call a session now o own)
+  job_so call a session now None own f t = t
+  job_so call a session now (Some (job.Rescind j create)) own f t = rescind_so a (rescinded j create now own) (rescinded_so j create now own (f j create refl) t)
+  job_so call a session now (Some (job.Revoke j)) own f t = revoke_so (asks call) call (first_by (asks call) own.waits.writes) a own t
+  job_so call a session now (Some job.Write) own f t = write_so session (sends call) (first_by (sends call) own.waits.writes) a own t
+
+  less_so : (call : ℕ) (own : Ownership) → OwnSo own → OwnSo (without_out call own)
+  less_so call own t = record { outs = M.less call own.waits.out t.outs; over = t.over; mark = t.mark; entry = t.entry }
+
+  pub answered_so : (call : ℕ) (a : Answer) (session : Option ℕ) (now : ℕ) (own : Ownership) → OwnSo own → EndSo (answered call a session now own)
+  unfolding answered
+  answered_so call a session now own t = job_so call a session now (job_of call own.waits.out) (without_out call own) (λ j create f. M.apart own.waits.out call j create t.outs f) (less_so call own t)
+
+  -- ---- losses, and what is forgotten
+
+  loss_so : (p : Write → Bool) (o : Option Write) (own : Ownership) → OwnSo own → OwnSo (write_lost p o own).own
+  loss_so p None own t = t
+  loss_so p (Some x) own t = ended_so own _ p (owned_stays x _ own.entries t.entry) t
+
+  -- a rescind leaves a held entry as it is
+  still : (b : Bool) → rescind_sent b e ≡ e
+  still b = (λ i. record e { phase = phase_sent b (M.held i) }) ∙ (λ i. record e { phase = (sym M.held) i })
+
+  rescind_stays : (b : Bool) (j : List ℕ) (es : Keyed Entry) → Stays es → Stays (changed_at es j (rescind_sent b))
+  rescind_stays b j es i = stays_turned j (option_map (rescind_sent b)) es (λ y s. ap (λ (x : Entry). Some x) (still b)) i
+
+  lost_rescind_stays : (j : List ℕ) (create : ℕ) (es : Keyed Entry) → Stays es → Stays (changed_at es j (λ x. cond (x.create == create) (rescind_sent false x) x))
+  lost_rescind_stays j create es i = stays_turned j (option_map (λ x. cond (x.create == create) (rescind_sent false x) x)) es (λ y s. ap (λ (x : Entry). Some x) (either (λ (x : Entry). x ≡ e) (e.create == create) (rescind_sent false e) e (still false) refl)) i
+
+  lost_job_so : (call : ℕ) (o : Option WaitJob) (own : Ownership) → OwnSo own → OwnSo (lost_job call o own).own
+  lost_job_so call None own t = t
+  lost_job_so call (Some (job.Rescind j create)) own t = record { outs = t.outs; over = t.over; mark = t.mark; entry = lost_rescind_stays j create own.entries t.entry }
+  lost_job_so call (Some (job.Revoke j)) own t = loss_so (asks call) (first_by (asks call) own.waits.writes) own t
+  lost_job_so call (Some job.Write) own t = loss_so (sends call) (first_by (sends call) own.waits.writes) own t
+
+  pub lost_so : (call : ℕ) (own : Ownership) → OwnSo own → OwnSo (lost call own).own
+  unfolding lost
+  lost_so call own t = lost_job_so call (job_of call own.waits.out) (without_out call own) (less_so call own t)
+
+  forgotten_by_so : (p : Write → Bool) (o : Option Write) (own : Ownership) → OwnSo own → OwnSo (forgotten_by p o own)
+  forgotten_by_so p None own t = t
+  forgotten_by_so p (Some x) own t =
+      ended_so own (given_back x own.entries) p (either Stays (is_due x.stage) (unwrote_entries x own.entries) (left_entries x own.entries) (owned_stays x _ own.entries t.entry) (owned_stays x _ own.entries t.entry)) t
+
+  pub forgotten_so : (ticket : ℕ) (own : Ownership) → OwnSo own → OwnSo (forgotten ticket own)
+  unfolding forgotten
+  forgotten_so ticket own t = forgotten_by_so (has_ticket ticket) (first_by (has_ticket ticket) own.waits.writes) own t
+
+  -- at a session's end nothing is held
+  pub over_so : (own : Ownership) → (h ≡ true → ⊥) → OwnSo own → OwnSo (session_ended own)
+  over_so own n t = record { outs = t.outs; over = λ y. none_each k (λ x. stage_ended (is_single x.request) x.stage) own.waits.writes (t.over y); mark = t.mark; entry = λ y. absurd (n y) }
+
+  -- ---- notices
+
+  mark_other : (j : List ℕ) (f : Bool → Bool) (ss : Keyed Bool) → same j k ≡ false → Mark ss → Mark (changed_at ss j f)
+  mark_other j f ss n m = λ y. at_other k j (option_map f (at ss j)) ss n ∙ m y
+
+  put_so : (session : Option ℕ) (j : List ℕ) (create lease : ℕ) (own : Ownership) → (w ≡ true → same j k ≡ false) → OwnSo own → OwnSo (put_noticed session j create lease own)
+  put_so session j create lease own n t =
+      either OwnSo (is_some (at own.waits.spoiled j)) (acquire_spoiled j own) (record own { entries = with_at own.entries j (revoked_turn session create lease (at own.entries j)) })
+      (record { outs = t.outs; over = t.over; mark = λ y. mark_other j (λ s. true) own.waits.spoiled (n (M.marked y)) t.mark y; entry = t.entry })
+      (record { outs = t.outs; over = t.over; mark = t.mark; entry = λ y. stays_other j _ own.entries (n (M.holding y)) t.entry y })
+
+  notice_so : (session : Option ℕ) (x : Change) (own : Ownership) → Spares k w h e.create own.waits.prefix x → OwnSo own → OwnSo (noticed session x own)
+  notice_so session (change.Put kv) own s t = by (same kv.value revoke_word) refl
+    where
+      by : (b : Bool) → same kv.value revoke_word ≡ b → OwnSo (cond b (put_noticed session (owned_key own.waits.prefix kv.key) kv.create kv.lease own) own)
+      by true g = put_so session (owned_key own.waits.prefix kv.key) kv.create kv.lease own (λ y. s y g) t
+      by false g = t
+  notice_so session (change.Delete j revision) own s t =
+      let i = owned_key own.waits.prefix j in
+      record {
+        outs = t.outs;
+        over = λ y. none_each k (λ x. stage_gone (same i) x.stage) own.waits.writes (t.over y);
+        mark = t.mark;
+        entry = stays_turned i (deleted_turn revision) own.entries (λ y g. ap (λ (b : Bool). cond b (deleted_phase e e.phase) (Some e)) (s y g)) t.entry;
+      }
+
+  notice_prefix : (session : Option ℕ) (x : Change) (own : Ownership) → (noticed session x own).waits.prefix ≡ own.waits.prefix
+  notice_prefix session (change.Put kv) own =
+      either (λ (o : Ownership). o.waits.prefix ≡ own.waits.prefix) (same kv.value revoke_word) (put_noticed session (owned_key own.waits.prefix kv.key) kv.create kv.lease own) own
+      (either (λ (o : Ownership). o.waits.prefix ≡ own.waits.prefix) (is_some (at own.waits.spoiled (owned_key own.waits.prefix kv.key))) (acquire_spoiled (owned_key own.waits.prefix kv.key) own) (record own { entries = with_at own.entries (owned_key own.waits.prefix kv.key) (revoked_turn session kv.create kv.lease (at own.entries (owned_key own.waits.prefix kv.key))) }) refl refl) refl
+  notice_prefix session (change.Delete j revision) own = refl
+
+  pub message_so : (session : Option ℕ) (events : List Event) (own : Ownership) → AllSpare k w h e.create own.waits.prefix events → OwnSo own → OwnSo (all_noticed session events own)
+  message_so session [] own s t = t
+  message_so session (x ∷ xs) own s t =
+      message_so session xs (noticed session x.change own) (subst (λ (p : List ℕ). AllSpare k w h e.create p xs) (sym (notice_prefix session x.change own)) s.1) (notice_so session x.change own s.0 t)
+
+  pub resync_so : (own : Ownership) → OwnSo own → OwnSo (resynced own)
+  resync_so own t = record { outs = t.outs; over = λ y. none_each k (λ x. stage_gone (λ j. true) x.stage) own.waits.writes (t.over y); mark = t.mark; entry = t.entry }
+
+  pub compaction_so : (own : Ownership) → (w ≡ true → ⊥) → OwnSo own → OwnSo (all_given_up own)
+  compaction_so own n t = record { outs = t.outs; over = t.over; mark = λ y. absurd (n (M.marked y)); entry = λ y. absurd (n (M.holding y)) }
+
+  -- ---- a write is handed in, and a job is sent
+
+  pub submitted_so : (ticket : ℕ) (q : Request) (own : Ownership) → (w ≡ true → covered (written_ranges q) k ≡ false) → OwnSo own → OwnSo (submitted ticket q own)
+  submitted_so ticket q own c t = record { outs = t.outs; over = λ y. none_append k own.waits.writes (new_write ticket q ∷ []) (t.over y) (both_none (covered (written_ranges q) k) false (c y) refl); mark = t.mark; entry = t.entry }
+
+  abbrev pub SentSo : Option JobSent → Type 0
+  SentSo None = Unit {0}
+  SentSo (Some x) = M.Outs x.own.waits.out → OwnSo x.own
+
+  call_so : (call : ℕ) (d : DueCall) (o : Option Write) (own : Ownership) → OwnSo own → SentSo (call_of call d o own)
+  call_so call d None own t = tt
+  call_so call d (Some x) own t =
+      either (λ s. M.Outs s.own.waits.out → OwnSo s.own) (is_revoke d.place.kind) (revoke_job call d x own) (write_job call d x own)
+      (λ q. record { outs = q; over = over_first (has_ticket d.place.number) _ own.waits.writes t.over; mark = t.mark; entry = t.entry }) (λ q. record { outs = q; over = over_first (has_ticket d.place.number) _ own.waits.writes t.over; mark = t.mark; entry = t.entry })
+
+  calls_so : (call : ℕ) (o : Option DueCall) (own : Ownership) → OwnSo own → SentSo (call_sent call o own)
+  calls_so call None own t = tt
+  calls_so call (Some d) own t = call_so call d (first_by (has_ticket d.place.number) own.waits.writes) own t
+
+  sent_so : (call : ℕ) (o : Option (List ℕ × Entry)) (own : Ownership) → OwnSo own → SentSo (job_sent_after call o own)
+  sent_so call None own t = calls_so call (first_call own.waits.writes) own t
+  sent_so call (Some x) own t = λ q. record { outs = q; over = t.over; mark = t.mark; entry = rescind_stays true x.0 own.entries t.entry }
+
+  pub job_sent_so : (call : ℕ) (own : Ownership) → OwnSo own → SentSo (job_sent call own)
+  unfolding job_sent
+  job_sent_so call own t = sent_so call (first_rescind own.entries) own t

@@ -1,0 +1,4 @@
+pub mod Watched
+pub mod Owned
+pub mod Caches
+pub mod Worked

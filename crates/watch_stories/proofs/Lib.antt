@@ -1,0 +1,13 @@
+pub mod Items
+pub mod Facts
+pub mod Points
+pub mod Watches
+pub mod Told
+pub mod Touching
+pub mod Inverted
+pub mod Places
+pub mod Turns
+pub mod Steps
+pub mod Lines
+pub mod Worlds
+pub mod Scripts
