@@ -1,6 +1,6 @@
 -- What `grpc-proxy start` does with its options, and what it tells: the settings that they name are served, and else it is told why not.
 -- The command's name is that of etcd's grpc-proxy manual.
-use Rattle.std.specs.Prelude.{◌≡◌, ◌==◌, ◌&&◌, if◌then◌else◌, not, Bool, true, ℕ, ◌++◌, List, [], ◌∷◌, length, Option, None, Some, Ok, Err, String, codes, bytes_eq}
+use Rattle.std.specs.Prelude.{◌≡◌, ◌==◌, ◌&&◌, if◌then◌else◌, not, Bool, true, ℕ, ◌*◌, ◌++◌, List, [], ◌∷◌, length, Option, None, Some, Ok, Err, String, codes, bytes_eq}
 use Rattle.std.specs.List.{list_all}
 use Rattle.std.specs.String.{string_bytes}
 use Rattle.std.specs.declared.alloc.Global.{Global}
@@ -12,7 +12,7 @@ use Rattle.start_words.specs.declared.start_fault.StartFault.TheVariants.{Help, 
 use Rattle.start_words.specs.declared.wrong.Wrong.{Wrong}
 use Rattle.proxy_service.specs.Service.{Seen, Serves}
 use Rattle.proxy_service.specs.declared.ends.ServeEnd.{ServeEnd}
-use Rattle.proxy_service.specs.declared.ends.ServeEnd.TheVariants.{NoMemory, ListenerFault, SpawnerFault}
+use Rattle.proxy_service.specs.declared.ends.ServeEnd.TheVariants.{Stopped, NoMemory, ListenerFault, SpawnerFault}
 use Rattle.proxy_service.specs.declared.service.Service.{Service}
 use Rattle.etcd_proxy.specs.Run.{Prints, Tells}
 use Rattle.etcd_proxy.specs.Texts.{usage_text}
@@ -29,14 +29,17 @@ service_of s = record {
   hosts = s.endpoints;
   listen = s.listen;
   workers = s.workers;
+  message_limit = s.message_limit * 1048576;
 }
 
 abbrev pub status_of_end : ServeEnd → ℕ
+status_of_end Stopped = 0
 status_of_end NoMemory = 5
 status_of_end ListenerFault = 7
 status_of_end SpawnerFault = 8
 
 abbrev pub text_of_end : ServeEnd → List ℕ
+text_of_end Stopped = []
 text_of_end NoMemory = codes "no memory\n"
 text_of_end ListenerFault = codes "listener fault\n"
 text_of_end SpawnerFault = codes "spawner fault\n"

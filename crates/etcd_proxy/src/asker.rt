@@ -1,9 +1,13 @@
 // Who asks the members whether they answer, each in a thread of its own.
 
+use crate::revoke::Revoker;
 use etcd_types::code::{INVALID_ARGUMENT, PERMISSION_DENIED};
 use etcd_types::{Bytes, List, NoMemory};
 use member_asks::{AskFault, Standing, ask};
-use sockets::{Asked, Halt, LinkLimits, Members, SocketLink, line_time};
+use member_links::{Asked, Members, SocketLink};
+use socket_limits::{LinkLimits, line_time};
+use sockets::Halt;
+use state_file::Sessions;
 use std::alloc::Global;
 use std::net::{Net, TcpStream};
 use std::rt::Clock as Times;
@@ -16,6 +20,7 @@ use std::{io, thread};
 pub(crate) struct Shared {
     members: Arc<Members, Global>,
     limits: LinkLimits,
+    sessions: Arc<Sessions, Global>,
     // how far the cluster's history was at the newest, by the replies that came
     newest: Mutex<Option<Standing>>,
     halt: Arc<Halt, Global>,
@@ -26,11 +31,13 @@ impl Shared {
     pub(crate) fn new(
         members: Arc<Members, Global>,
         limits: LinkLimits,
+        sessions: Arc<Sessions, Global>,
         halt: Arc<Halt, Global>,
     ) -> Shared {
         Shared {
             members,
             limits,
+            sessions,
             newest: Mutex::new(None),
             halt,
         }
@@ -64,9 +71,8 @@ pub(crate) struct Asker<R: Drop> {
     rt: R,
     alloc: Global,
     shared: Arc<Shared, Global>,
-    link: SocketLink<R>,
-    number: u32,
-    host: Bytes,
+    // who ends sessions by calls to the same member, and has what is needed to ask it
+    revoker: Revoker<R>,
 }
 
 impl<R: Net<Stream = TcpStream> + Times + Wait + Eprint + Copy + Drop> Asker<R> {
@@ -74,11 +80,12 @@ impl<R: Net<Stream = TcpStream> + Times + Wait + Eprint + Copy + Drop> Asker<R> 
     // wrong, with the codes of an argument or of a permission.
     fn ask_once(&mut self) {
         let before = *self.shared.newest.lock(&self.rt);
+        let number = self.revoker.number;
         let told = ask(
             self.alloc,
-            &mut self.link,
-            self.host.as_slice(),
-            self.number,
+            &mut self.revoker.link,
+            self.revoker.host.as_slice(),
+            number,
         );
         let came = match told {
             Ok(_) => Asked::Well,
@@ -86,9 +93,10 @@ impl<R: Net<Stream = TcpStream> + Times + Wait + Eprint + Copy + Drop> Asker<R> 
             Err(AskFault::Refused(_) | AskFault::Lost) => Asked::InVain,
             Err(AskFault::NoMemory) => return,
         };
-        self.shared.members.asked(&self.rt, self.number, came);
+        self.shared.members.asked(&self.rt, number, came);
         if let Ok(standing) = told {
             self.compare(before, standing);
+            self.revoker.end_all();
         }
     }
 
@@ -110,7 +118,7 @@ impl<R: Net<Stream = TcpStream> + Times + Wait + Eprint + Copy + Drop> Asker<R> 
     fn halt(&self, before: &Standing, standing: &Standing) {
         if !self.shared.halt.is_due() {
             let when = line_time(&self.rt);
-            let number = self.number;
+            let number = self.revoker.number;
             let (cluster, revision, term) = (standing.cluster, standing.revision, standing.term);
             let (old, seen, former) = (before.cluster, before.revision, before.term);
             let _ = eprintln!(self.rt;
@@ -128,9 +136,33 @@ impl<R: Net<Stream = TcpStream> + Times + Wait + Eprint + Copy + Drop> Work for 
         let rt = asker.rt;
         for _ in rt.forever() {
             asker.ask_once();
-            asker.shared.members.rest(&rt, asker.number);
+            asker.shared.members.rest(&rt, asker.revoker.number);
         }
     }
+}
+
+/// Who ends sessions by calls to each of these hosts, that of member 1 first.
+pub(crate) fn revokers_of<R: Copy + Drop>(
+    rt: R,
+    alloc: Global,
+    hosts: &List<Bytes>,
+    shared: &Shared,
+) -> Result<Vec<Revoker<R>>, NoMemory> {
+    let mut revokers = Vec::new(alloc);
+    let mut number: u32 = 0;
+    for host in hosts.as_slice() {
+        number = number.saturating_add(1);
+        let members = Arc::try_clone(&shared.members)?;
+        revokers.push(Revoker {
+            rt,
+            alloc,
+            sessions: Arc::try_clone(&shared.sessions)?,
+            link: SocketLink::new(rt, members, shared.limits),
+            number,
+            host: host.copy(alloc)?,
+        })?;
+    }
+    Ok(revokers)
 }
 
 /// Who asks each of these hosts, that of member 1 first.
@@ -138,21 +170,15 @@ pub(crate) fn askers_of<R: Copy + Drop>(
     rt: R,
     alloc: Global,
     hosts: &List<Bytes>,
-    shared: Shared,
+    shared: &Arc<Shared, Global>,
 ) -> Result<Vec<Asker<R>>, NoMemory> {
-    let shared = Arc::new(alloc, shared)?;
     let mut askers = Vec::new(alloc);
-    let mut number: u32 = 0;
-    for host in hosts.as_slice() {
-        number = number.saturating_add(1);
-        let members = Arc::try_clone(&shared.members)?;
+    for revoker in revokers_of(rt, alloc, hosts, shared)? {
         askers.push(Asker {
             rt,
             alloc,
-            shared: Arc::try_clone(&shared)?,
-            link: SocketLink::new(rt, members, shared.limits),
-            number,
-            host: host.copy(alloc)?,
+            shared: Arc::try_clone(shared)?,
+            revoker,
         })?;
     }
     Ok(askers)

@@ -3,6 +3,7 @@ ghost use Rattle.std.specs.Io.KnownBytes.{Appends};
 ghost use Rattle.outside.specs.Faults.{Rose};
 ghost use Rattle.outside.specs.Streams.{WritesFront};
 ghost use Rattle.replay_generated.specs.declared.summary.Summary.{Summary as Counts};
+ghost use Rattle.replay_input.specs.Reads.{ReadsInTurn};
 ghost use Rattle.etcd_proxy.specs.Generated.{Generates, IsSummaryOf, summary_text};
 ghost use Rattle.etcd_proxy.specs.Run.{Runs, Tells, Prints, IsWholeScript, status_of, text_of_status, refused_text};
 ghost use Rattle.etcd_proxy.specs.Texts.{usage_text, help_text, version_text};
@@ -66,6 +67,9 @@ pub fn run_ending<S: Source, K: Sink, E: Sink>(
         → Runs (S.left input.old) (S.left input.new) (K.written output.old) (K.written output.new)
         (E.written errors.old) (E.written errors.new) (E.faults errors.old) (E.faults errors.new) result }
 
+    // It is read in pieces, each only where no line of the bytes before it is refused.
+    ensures in_turn { command_of words.now ≡ Some Command.Replay → ReadsInTurn S.reads S.left input.old input.new }
+
     // A script within the limits whose lines can all be taken is never refused: nothing but a stream that fails or want of memory keeps
     // it from its end.
     ensures complete { command_of words.now ≡ Some Command.Replay → IsWholeScript (S.left input.old) → (result ≢ 1) × (result ≢ 6) }
@@ -118,6 +122,7 @@ fn replay<S: Source, K: Sink, E: Sink>(
 ) -> u8
     ensures runs { Runs (S.left input.old) (S.left input.new) (K.written output.old) (K.written output.new)
         (E.written errors.old) (E.written errors.new) (E.faults errors.old) (E.faults errors.new) result }
+    ensures in_turn { ReadsInTurn S.reads S.left input.old input.new }
     ensures complete { IsWholeScript (S.left input.old) → (result ≢ 1) × (result ≢ 6) }
     ensures no_usage { result ≢ 2 }
     ensures read_fault { result ≡ 3 → Rose (S.faults input.old) (S.faults input.new) }

@@ -3,42 +3,110 @@
 #![tactic(auto)]
 
 mod asker;
+mod door;
 mod ending;
+mod revoke;
 mod run;
 mod start;
+mod stop;
 mod system;
 mod told;
 mod words;
 
-use crate::asker::{Asker, askers_of, begin_all};
+use crate::asker::{Asker, askers_of, begin_all, revokers_of};
+use crate::door::door_of;
+use crate::stop::{Ender, Leaving};
 use crate::system::System;
 use crate::words::{NoWords, options_of};
 use etcd_types::NoMemory;
 use outside::{Reading, Writing};
-use part_threads::{Nothing, Server};
+use part_threads::{Nothing, spawner_of};
 use sockets::{Halt, SocketHost};
-use start_words::read_start;
+use start_words::{StartSettings, read_start};
+use state_file::Sessions;
 use std::alloc::Global;
+use std::fs::{File, Files};
 use std::net::{Net, TcpStream};
 use std::process::ExitCode;
 use std::rt::Clock as Times;
 use std::sync::{Arc, Wait};
-use std::{env, io};
+use std::{env, io, str};
 
-/// What the parts of the server that these words ask for meet outside, and who asks the members whether they answer: calls and askings go to
-/// the members that the words name. Nothing where the words ask for no server, or where memory is wanting for it.
-fn system_of<R: Net<Stream = TcpStream> + Times + Wait + Copy + Drop>(
+/// What the parts of a server meet outside, who asks the members whether they answer, and what is done at a stop: calls and askings go to
+/// the members that the words name.
+#[derive(Drop)]
+struct Outfit<R: Drop> {
+    system: System<R>,
+    askers: Vec<Asker<R>>,
+    leaving: Leaving<R>,
+    /// Whether it stops at the end of the standard input.
+    stops: bool,
+}
+
+/// The outfit of a server with these settings.
+fn make_outfit<R: Net<Stream = TcpStream> + Times + Wait + Copy + Drop>(
+    rt: R,
+    alloc: Global,
+    settings: &StartSettings,
+    sessions: &Arc<Sessions, Global>,
+    halt: &Arc<Halt, Global>,
+) -> Result<Outfit<R>, NoMemory> {
+    let endpoints = &settings.endpoints;
+    let (ttl, workers) = (settings.session_ttl, settings.workers);
+    let system = System::new(rt, alloc, endpoints, ttl, workers, sessions, halt)?;
+    let shared = Arc::new(alloc, system.asked()?)?;
+    let leaving = Leaving {
+        rt,
+        halt: Arc::try_clone(halt)?,
+        clock: system.further_clock()?,
+        sessions: Arc::try_clone(sessions)?,
+        revokers: revokers_of(rt, alloc, endpoints, &shared)?,
+    };
+    let askers = askers_of(rt, alloc, endpoints, &shared)?;
+    Ok(Outfit {
+        system,
+        askers,
+        leaving,
+        stops: settings.stop_at_end,
+    })
+}
+
+/// Keeps sessions in the file that the settings name, where they name one.
+fn open_state<R: Files<File = File> + Wait>(rt: &R, sessions: &Sessions, settings: &StartSettings) {
+    if !settings.state_file.is_empty() {
+        sessions.open(
+            rt,
+            str::from_utf8(settings.state_file.as_slice()).unwrap_or(""),
+        );
+    }
+}
+
+/// The outfit of the server that these words ask for. Nothing where they ask for none, or where memory is wanting for it.
+fn outfit_of<R: Net<Stream = TcpStream> + Times + Wait + Files<File = File> + Copy + Drop>(
     rt: R,
     alloc: Global,
     words: &[String],
+    sessions: &Arc<Sessions, Global>,
     halt: &Arc<Halt, Global>,
-) -> Option<(System<R>, Vec<Asker<R>>)> {
+) -> Option<Outfit<R>> {
     let settings = read_start(alloc, options_of(words)?).ok()?;
-    let ttl = settings.session_ttl;
-    let system = System::new(rt, alloc, &settings.endpoints, ttl, settings.workers).ok()?;
-    let shared = system.asked(Arc::try_clone(halt).ok()?).ok()?;
-    let askers = askers_of(rt, alloc, &settings.endpoints, shared).ok()?;
-    Some((system, askers))
+    open_state(&rt, sessions, &settings);
+    make_outfit(rt, alloc, &settings, sessions, halt).ok()
+}
+
+/// Who has the server stop at the end of this input, where it is to stop then.
+fn enders_of<R: Drop, I: Drop>(
+    rt: R,
+    alloc: Global,
+    outfit: &Outfit<R>,
+    input: I,
+) -> Result<Vec<Ender<R, I>>, NoMemory> {
+    let mut enders = Vec::new(alloc);
+    if outfit.stops {
+        let halt = Arc::try_clone(&outfit.leaving.halt)?;
+        enders.push(Ender { rt, input, halt })?;
+    }
+    Ok(enders)
 }
 
 fn main(rt: HostRuntime) -> ExitCode {
@@ -58,40 +126,73 @@ fn main(rt: HostRuntime) -> ExitCode {
     }
     let mut input = Reading::new(rt.stdin());
     let mut output = Writing::new(rt.stdout());
-    let Ok(halt) = Arc::new(rt.alloc(), Halt::new()) else {
+    let words = words.as_slice();
+    let (Ok(halt), Ok(sessions), Ok(door)) = (
+        Arc::new(rt.alloc(), Halt::new()),
+        Arc::new(rt.alloc(), Sessions::new(rt.alloc())),
+        door_of(rt.alloc()),
+    ) else {
         return ExitCode::from(ending::tell_no_words(NoWords::NoMemory, &mut errors));
     };
-    let words = words.as_slice();
-    let server = match system_of(rt, rt.alloc(), words, &halt) {
-        Some((system, askers)) => match begin_all(&rt, askers) {
-            Ok(()) => Server::new(rt, rt.alloc(), system),
+    // Words that serve nobody start no thread. A server that nothing can start a part for ends as one whose first worker can't be started.
+    let server = match outfit_of(rt, rt.alloc(), words, &sessions, &halt) {
+        Some(outfit) => match enders_of(rt, rt.alloc(), &outfit, rt.stdin()) {
+            Ok(enders) => {
+                let Outfit {
+                    system,
+                    askers,
+                    leaving,
+                    ..
+                } = outfit;
+                match (begin_all(&rt, askers), begin_all(&rt, enders)) {
+                    (Ok(()), Ok(())) => match spawner_of(rt, rt.alloc(), system) {
+                        Some(spawner) => Some((spawner, leaving)),
+                        None => None,
+                    },
+                    _ => None,
+                }
+            }
             Err(NoMemory) => None,
         },
         None => None,
     };
-    let mut host = SocketHost::new(rt).until(halt);
-    // Words that serve nobody start no thread. A server that nothing can start a part for ends as one whose first worker can't be started.
-    let status = match server {
-        Some(mut server) => run::run(
-            &rt,
-            rt.alloc(),
-            words,
-            &mut input,
-            &mut output,
-            &mut errors,
-            &mut host,
-            &mut server,
-        ),
-        None => run::run(
-            &rt,
-            rt.alloc(),
-            words,
-            &mut input,
-            &mut output,
-            &mut errors,
-            &mut host,
-            &mut Nothing::new(),
-        ),
-    };
-    ExitCode::from(status)
+    let mut host = SocketHost::new(rt)
+        .until(halt)
+        .keeping(sessions)
+        .through(door);
+    match server {
+        Some((mut spawner, leaving)) => {
+            let status = run::run(
+                &rt,
+                rt.alloc(),
+                words,
+                &mut input,
+                &mut output,
+                &mut errors,
+                &mut host,
+                &mut spawner,
+            );
+            // a server has this status where it was to stop
+            if status == 0 {
+                let (revokers, revoking) = leaving.finish();
+                if begin_all(&rt, revokers).is_ok() {
+                    revoking.wait();
+                }
+            }
+            ExitCode::from(status)
+        }
+        None => {
+            let status = run::run(
+                &rt,
+                rt.alloc(),
+                words,
+                &mut input,
+                &mut output,
+                &mut errors,
+                &mut host,
+                &mut Nothing::new(),
+            );
+            ExitCode::from(status)
+        }
+    }
 }

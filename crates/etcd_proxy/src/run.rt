@@ -3,6 +3,7 @@ ghost use Rattle.std.specs.String.{string_bytes};
 ghost use Rattle.std.specs.declared.alloc.Global.{Global as Heap};
 ghost use Rattle.outside.specs.Faults.{Rose};
 ghost use Rattle.proxy_service.specs.Service.{seen};
+ghost use Rattle.replay_input.specs.Reads.{ReadsInTurn};
 ghost use Rattle.etcd_proxy.specs.Generated.{Generates};
 ghost use Rattle.etcd_proxy.specs.Run.{Runs, Tells, Prints, IsWholeScript};
 ghost use Rattle.etcd_proxy.specs.Start.{Starts, moment, options_of};
@@ -58,6 +59,9 @@ pub fn run<R: Wait, S: Source, K: Sink, E: Sink, H: Host, P: Spawner<Pass = Plac
     ensures replays { command_of words.now ≡ Some Command.Replay
         → Runs (S.left input.old) (S.left input.new) (K.written output.old) (K.written output.new)
         (E.written errors.old) (E.written errors.new) (E.faults errors.old) (E.faults errors.new) result }
+
+    // It is read in pieces, each only where no line of the bytes before it is refused.
+    ensures in_turn { command_of words.now ≡ Some Command.Replay → ReadsInTurn S.reads S.left input.old input.new }
 
     // A script within the limits whose lines can all be taken is never refused: nothing but a stream that fails or want of memory keeps
     // it from its end.

@@ -17,6 +17,9 @@ use start_words::{StartFault, StartSettings, read_start, serving_line, wrong_lin
 use std::alloc::Global;
 use std::sync::Wait;
 
+/// So many bytes have a MiB.
+const MIB: usize = 1_048_576;
+
 /// Serves as the options say, and answers the exit status.
 pub(crate) fn start<R: Wait, K: Sink, E: Sink, H: Host, P: Spawner<Pass = Place, Conn = H::Conn>>(
     rt: &R,
@@ -76,6 +79,9 @@ fn service_of(settings: StartSettings) -> Service
         leasing,
         workers,
         session_ttl,
+        message_limit,
+        state_file: _,
+        stop_at_end: _,
     } = settings;
     Service {
         core: Settings {
@@ -87,6 +93,7 @@ fn service_of(settings: StartSettings) -> Service
         hosts: endpoints,
         listen,
         workers: workers as u32,
+        message_limit: message_limit as usize * MIB,
     }
 }
 
@@ -96,6 +103,10 @@ fn end_with<E: Sink>(errors: &mut E, end: ServeEnd) -> u8
     ensures tells { Tells (E.written errors.old) (E.written errors.new) (E.faults errors.old) (E.faults errors.new) (text_of_end end) }
 {
     match end {
+        ServeEnd::Stopped => {
+            tell(errors, b"");
+            0
+        }
         ServeEnd::NoMemory => want(errors),
         ServeEnd::ListenerFault => {
             tell(errors, b"listener fault\n");

@@ -4,10 +4,10 @@ use Rattle.etcd_types.specs.declared.request.Request.{Request}
 use Rattle.etcd_types.specs.declared.answer.Answer.{Answer}
 use Rattle.outside.specs.Calls.{LinkCall}
 use Rattle.outside.specs.declared.link.CallKind.TheVariants as kind
-use Rattle.work_model.specs.Calls.{IsCalled}
-use Rattle.work_model.specs.declared.fault.CallFault.{CallFault}
-use Rattle.work_model.specs.declared.fault.CallFault.TheVariants as fault
-use Rattle.work_model.proofs.Hears.{not_called}
+use Rattle.server_model.specs.Calls.{IsCalled}
+use Rattle.server_model.specs.declared.fault.CallFault.{CallFault}
+use Rattle.server_model.specs.declared.fault.CallFault.TheVariants as fault
+use Rattle.server_model.proofs.Hears.{not_called}
 use Rattle.member_asks.specs.Asking.{Asks, asking, told_by}
 use Rattle.member_asks.specs.declared.call.AskFault.{AskFault}
 use Rattle.member_asks.specs.declared.call.AskFault.TheVariants as ask

@@ -8,9 +8,9 @@ use Rattle.etcd_types.specs.declared.answer.Answer.TheVariants.{Done, Refused}
 use Rattle.outside.specs.Calls.{LinkCall}
 use Rattle.outside.specs.declared.link.CallKind.TheVariants as kind
 use Rattle.proxy_model.specs.Asks.{unsorted}
-use Rattle.work_model.specs.Calls.{IsCalled}
-use Rattle.work_model.specs.declared.fault.CallFault.{CallFault}
-use Rattle.work_model.specs.declared.fault.CallFault.TheVariants as fault
+use Rattle.server_model.specs.Calls.{IsCalled}
+use Rattle.server_model.specs.declared.fault.CallFault.{CallFault}
+use Rattle.server_model.specs.declared.fault.CallFault.TheVariants as fault
 use Rattle.member_asks.specs.declared.call.AskFault.{AskFault}
 use Rattle.member_asks.specs.declared.call.AskFault.TheVariants as ask
 use Rattle.member_asks.specs.declared.standing.Standing.{Standing}

@@ -39,7 +39,7 @@ abbrev pub is_done : {T E : Type 0} → Result T E → Bool
 is_done (Ok x) = true
 is_done (Err e) = false
 
--- a call on a host: the address that it is to listen on, or a connection that it accepted
+-- a call on a host: the address that it is to listen on, or a connection that it accepted, or none, where it was told to stop
 pub data HostCall (C : Type 0) : Type 0 where
   Listened : List ℕ → Result (Unit {0}) Failed → HostCall C
-  Accepted : Result C Failed → HostCall C
+  Accepted : Result (Option C) Failed → HostCall C

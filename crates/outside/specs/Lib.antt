@@ -6,3 +6,4 @@ pub mod Marks
 pub mod Memory
 pub mod Notes
 pub mod Streams
+pub mod Reads

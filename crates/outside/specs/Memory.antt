@@ -1,7 +1,8 @@
 -- What the forms over memory hold, and what their calls do. Counts end at the last number of 64 bits, where they stay.
-use Rattle.std.specs.Prelude.{◌≡◌, ◌==◌, ℕ, Bool, true, false, min, List, ◌++◌, drop, take, length, map, Option, None, Some}
+use Rattle.std.specs.Prelude.{◌≡◌, ◌==◌, ℕ, Bool, true, false, min, List, [], ◌∷◌, ◌++◌, drop, take, length, map, Option, None, Some, Result, Ok, Err}
 use Rattle.std.specs.List.{list_any}
 use Rattle.outside.specs.Faults.{one_more}
+use Rattle.outside.specs.declared.source.Failed.{Failed}
 use Rattle.outside.specs.Calls.{LinkCall, Handed, HostCall}
 
 -- a source over memory: what wasn't read yet, how much a call gives at most, which calls fail (numbered from 1), how often
@@ -37,6 +38,11 @@ gave s count = record s { left = drop count s.left; calls = one_more s.calls }
 -- a source after a read that failed
 abbrev pub gave_none : Supply → Supply
 gave_none s = record s { calls = one_more s.calls; faults = one_more s.faults }
+
+-- a source's reads: each gives as much as it has, as the room takes and as one piece may have, or fails
+abbrev pub Supplies : Supply → ℕ → Result (List ℕ) Failed → Supply → Type 0
+Supplies old size (Ok piece) new = new ≡ gave old (given_to old size)
+Supplies old size (Err why) new = new ≡ gave_none old
 
 -- a sink after it took so many bytes of a piece
 abbrev pub took : Store → List ℕ → ℕ → Store
@@ -78,11 +84,17 @@ pub record SpawnerState (P : Type 0) : Type 0 where
   pub calls : ℕ
   pub faults : ℕ
 
--- a host over memory: the connections that it still accepts, in order; the calls that were made, where it tells them; which
--- calls fail (numbered from 1), how often it was called, and how often it has failed
+-- a host over memory: the connections that it still accepts, in order; whether it stops once none is left; the calls that were
+-- made, where it tells them; which calls fail (numbered from 1), how often it was called, and how often it has failed
 pub record HostState (C : Type 0) : Type 0 where
   pub waiting : List C
+  pub stops : Bool
   pub made : Option (List (HostCall C))
   pub failing : List ℕ
   pub calls : ℕ
   pub faults : ℕ
+
+-- what an accept leaves: all connections but the first, which came; or none came, since none was left and it stops then
+abbrev pub Accepts : {C : Type 0} → HostState C → HostState C → Option C → Type 0
+Accepts old new (Some conn) = old.waiting ≡ conn ∷ new.waiting
+Accepts old new None = (old.stops ≡ true) × (old.waiting ≡ []) × (new.waiting ≡ [])

@@ -20,8 +20,8 @@ pub trait Host {
         ensures made { Adds (made self.old) (made self.new) (Listened address.now result ∷ []) }
         ensures cause { HasCause (faults self.old) (faults self.new) result };
 
-    /// Waits for the next connection. It is `Failed` only where no further one can come.
-    fn accept(&mut self) -> Result<Self::Conn, Failed>
+    /// Waits for the next connection. There is none where it was told to stop, and it is `Failed` only where no further one can come.
+    fn accept(&mut self) -> Result<Option<Self::Conn>, Failed>
         ensures made { Adds (made self.old) (made self.new) (Accepted result ∷ []) }
         ensures cause { HasCause (faults self.old) (faults self.new) result };
 }

@@ -20,6 +20,7 @@ mod memory_spawner;
 mod parts;
 mod seeded_draw;
 mod sink;
+mod slept;
 mod source;
 mod streams;
 mod system_clock;

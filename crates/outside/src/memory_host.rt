@@ -1,7 +1,7 @@
-ghost use Rattle.std.specs.Prelude.{◌≡◌, true, IsErr, OnOk, OnErr, IfOk, [], ◌∷◌, Some};
+ghost use Rattle.std.specs.Prelude.{◌≡◌, true, false, IsErr, OnOk, OnErr, IfOk, [], ◌∷◌, Some};
 ghost use Rattle.outside.specs.Calls.{Adds, Listened, Accepted};
 ghost use Rattle.outside.specs.Faults.{HasCause, one_more};
-ghost use Rattle.outside.specs.Memory.{is_failing};
+ghost use Rattle.outside.specs.Memory.{is_failing, Accepts};
 ghost use Rattle.outside.specs.Notes.{host_call};
 
 use crate::host::Host;
@@ -18,14 +18,15 @@ pub enum HostNote<C> {
         address: Bytes,
         answer: Result<(), Failed>,
     },
-    Accepted(Snapshot<Result<C, Failed>>),
+    Accepted(Snapshot<Result<Option<C>, Failed>>),
 }
 
-/// A host over memory, which accepts the connections that it was given, the first one first, and fails at chosen calls and
-/// once none is left. It tells its calls for as long as it finds memory to note them.
+/// A host over memory, which accepts the connections that it was given, the first one first, and fails at chosen calls. Once none is
+/// left it fails too, or stops where it is told to. It tells its calls for as long as it finds memory to note them.
 #[derive(Drop)]
 pub struct MemHost<C> {
     waiting: Vec<C>,
+    stops: bool,
     notes: Vec<HostNote<C>>,
     tells: bool,
     calls: u64,
@@ -39,21 +40,32 @@ impl<C> Model for MemHost<C> {
 
     ghost Value = { HostState C };
 
-    ghost view = { λ h. record { waiting = h.waiting.items; made = noted call_of h.tells h.notes.items; failing = h.failing.items; calls = h.calls; faults = h.faults } };
+    ghost view = { λ h. record { waiting = h.waiting.items; stops = h.stops; made = noted call_of h.tells h.notes.items; failing = h.failing.items; calls = h.calls; faults = h.faults } };
 }
 
 impl<C: Drop> MemHost<C> {
     /// A host that accepts these connections, and whose calls with a number in `failing`, from 1 on, fail.
     pub fn new(alloc: Global, waiting: Vec<C>, failing: Vec<u64>) -> MemHost<C>
-        ensures { result ≡ record { waiting = waiting.items; made = Some []; failing = failing.items; calls = 0; faults = 0 } }
+        ensures { result ≡ record { waiting = waiting.items; stops = false; made = Some []; failing = failing.items; calls = 0; faults = 0 } }
     {
         MemHost {
             waiting,
+            stops: false,
             notes: Vec::new(alloc),
             tells: true,
             calls: 0,
             failing,
             faults: 0,
+        }
+    }
+
+    /// The same host, which stops once no connection is left.
+    pub fn stopping(self) -> MemHost<C>
+        ensures { result ≡ record self { stops = true } }
+    {
+        MemHost {
+            stops: true,
+            ..self
         }
     }
 
@@ -103,19 +115,23 @@ impl<C: Drop> Host for MemHost<C> {
         answer
     }
 
-    fn accept(&mut self) -> Result<C, Failed>
+    fn accept(&mut self) -> Result<Option<C>, Failed>
         ensures made { Adds self.old.made self.new.made (Accepted result ∷ []) }
         ensures cause { HasCause self.old.faults self.new.faults result }
         ensures chosen { is_failing self.old.failing self.old.calls ≡ true → IsErr result }
-        ensures first { IfOk result (λ conn. self.old.waiting ≡ conn ∷ self.new.waiting) }
+        ensures came { IfOk result (Accepts self.old self.new) }
         ensures stays { OnErr result (self.new.waiting ≡ self.old.waiting) }
-        ensures calls { (self.new.failing ≡ self.old.failing) × (self.new.calls ≡ one_more self.old.calls) }
+        ensures kept { (self.new.failing ≡ self.old.failing) × (self.new.stops ≡ self.old.stops) }
+        ensures calls { self.new.calls ≡ one_more self.old.calls }
     {
-        let answer = if self.is_chosen() || self.waiting.is_empty() {
+        let is_chosen = self.is_chosen();
+        let answer = if !is_chosen && !self.waiting.is_empty() {
+            Ok(Some(self.waiting.remove(0)))
+        } else if !is_chosen && self.stops {
+            Ok(None)
+        } else {
             self.faults = self.faults.saturating_add(1);
             Err(Failed)
-        } else {
-            Ok(self.waiting.remove(0))
         };
         self.note(HostNote::Accepted(Snapshot::of(&answer)));
         answer

@@ -2,7 +2,8 @@ ghost use Rattle.std.specs.Prelude.{◌≡◌, ◌↔◌, true, max, length, IsO
 ghost use Rattle.std.specs.Io.{ReadsAtMost};
 ghost use Rattle.std.specs.Io.KnownBytes.{ReadConsumes};
 ghost use Rattle.outside.specs.Faults.{HasCause};
-ghost use Rattle.outside.specs.Memory.{is_failing, given_to, gave, gave_none};
+ghost use Rattle.outside.specs.Memory.{is_failing, given_to, gave, gave_none, Supplies};
+ghost use Rattle.outside.specs.Reads.{came};
 
 use crate::marks::ReadMark;
 use crate::source::{Failed, Source};
@@ -55,9 +56,12 @@ impl Source for MemSource {
 
     ghost faults = { λ s. s.faults };
 
+    ghost reads = { λ old size came new. Supplies old size came new };
+
     fn read(&mut self, room: &mut [u8]) -> Result<usize, Failed>
         ensures bound { ReadsAtMost result room.new }
         ensures bytes { ReadConsumes (Some self.old.left) (Some self.new.left) result room.new }
+        ensures made { Supplies self.old (length room.old) (came result room.new) self.new }
         ensures cause { HasCause self.old.faults self.new.faults result }
         ensures chosen { IsErr result ↔ (is_failing self.old.failing self.old.calls ≡ true) }
         ensures failed { OnErr result (self.new ≡ gave_none self.old) }

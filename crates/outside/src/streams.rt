@@ -39,6 +39,8 @@ impl<R: Read + Drop> Source for Reading<R> {
 
     ghost faults = { λ s. s.faults };
 
+    ghost reads = { λ old size came new. Unit {0} };
+
     fn read(&mut self, room: &mut [u8]) -> Result<usize, Failed> {
         for _ in 0..TRIES {
             match self.reader.read(room) {

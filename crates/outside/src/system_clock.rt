@@ -1,6 +1,7 @@
 ghost use Rattle.std.specs.Prelude.{◌≡◌, ℕ, ◌≤◌, IfOk};
 
 use crate::clock::Clock;
+use crate::slept::Slept;
 use etcd_types::NoMemory;
 use std::alloc::Global;
 use std::marker::Model;
@@ -8,19 +9,22 @@ use std::rt::Clock as Times;
 use std::sync::atomic::AtomicU64;
 use std::sync::atomic::Ordering::SeqCst;
 use std::sync::{Arc, Wait};
+use std::thread;
 use std::time::Duration;
-use std::{io, thread};
 
 // How many milliseconds to pause where the system tells no time.
 const PAUSE: u64 = 100;
 
-// What the clocks of a process share: where the system's two clocks stood at the start, where they told it; how many
-// milliseconds the wall clock has gained on the other at most; and the greatest reading.
-#[derive(Debug, Drop)]
+// How far a leap goes, in milliseconds: some 35 years.
+const LEAP: u64 = 1 << 40;
+
+// What the clocks of a process share: where the system's two clocks stood at the start, where they told it; how long the machine
+// slept since; and the greatest reading.
+#[derive(Drop)]
 struct Shared {
     monotonic: Option<Duration>,
     wall: Option<Duration>,
-    gained: AtomicU64,
+    slept: Slept,
     greatest: AtomicU64,
 }
 
@@ -28,11 +32,11 @@ struct Shared {
 /// first one, and all of them together read one that never falls.
 ///
 /// It goes on while the machine sleeps, as the leases of the store do. The system's monotonic clock stands then, and its
-/// wall clock doesn't; but the wall clock may be set. So a reading is the monotonic one plus what the wall clock has
-/// gained on it at most since the start: it is never below either of the two, and where the wall clock is set forward
-/// and back again, it still goes on. Where the system refuses one of the two, the other counts; where it refuses both,
-/// the clock pauses and reads again.
-#[derive(Debug, Drop)]
+/// wall clock doesn't; but the wall clock may be set. So a reading is the monotonic one plus what the wall clock gained on it,
+/// each time that this was more than a second from one reading of the process to the next: neither a wall clock that was set back
+/// before nor one that was set forward and back again hides a sleep. Where the system refuses one of the two, the other counts;
+/// where it refuses both, the clock pauses and reads again.
+#[derive(Drop)]
 pub struct SystemClock<R> {
     rt: R,
     shared: Arc<Shared, Global>,
@@ -57,7 +61,7 @@ impl<R: Times + Wait + Drop> SystemClock<R> {
         let shared = Shared {
             monotonic,
             wall,
-            gained: AtomicU64::new(0),
+            slept: Slept::new(monotonic, wall),
             greatest: AtomicU64::new(0),
         };
         let shared = Arc::new(alloc, shared)?;
@@ -82,6 +86,15 @@ impl<R: Times + Wait + Drop> SystemClock<R> {
         })
     }
 
+    /// All clocks of the process read a time from now on that is behind whatever was to last up to some later moment: 2^40 milliseconds
+    /// more than the greatest reading. They stand there until the system's time comes so far.
+    pub fn leap(&self) {
+        let _ = self
+            .shared
+            .greatest
+            .fetch_update(SeqCst, SeqCst, |held| Some(held.saturating_add(LEAP)));
+    }
+
     /// How many readings the system refused this clock, or 2^64 - 1 where that is more.
     pub fn faults(&self) -> u64
         ensures { result ≡ self.now.faults }
@@ -96,12 +109,12 @@ impl<R: Times + Wait> Clock for SystemClock<R> {
     fn now(&mut self) -> u64 {
         for _ in self.rt.forever() {
             // in this order, so that time between the two is not taken for a gain
-            let wall = since(self.shared.wall, self.rt.since_1970());
-            let monotonic = since(self.shared.monotonic, self.rt.monotonic());
+            let wall = self.rt.since_1970().ok();
+            let monotonic = self.rt.monotonic().ok();
             if monotonic.is_none() || wall.is_none() {
                 self.faults = self.faults.saturating_add(1);
             }
-            if let Some(time) = self.shared.reading(monotonic, wall) {
+            if let Some(time) = self.shared.reading(&self.rt, monotonic, wall) {
                 self.last = self.last.max(time);
                 return self.last;
             }
@@ -117,15 +130,18 @@ impl<R: Times + Wait> Clock for SystemClock<R> {
 
 impl Shared {
     // What the time is by these two, and by all earlier readings of the process. There is none where both are refused.
-    fn reading(&self, monotonic: Option<u64>, wall: Option<u64>) -> Option<u64> {
-        let time = match (monotonic, wall) {
-            (Some(monotonic), Some(wall)) => {
-                let gained = raise(&self.gained, wall.saturating_sub(monotonic));
-                monotonic.saturating_add(gained)
+    fn reading<R: Times + Wait>(
+        &self,
+        rt: &R,
+        monotonic: Option<Duration>,
+        wall: Option<Duration>,
+    ) -> Option<u64> {
+        let time = match (since(self.monotonic, monotonic), monotonic, wall) {
+            (Some(passed), Some(monotonic), Some(wall)) => {
+                passed.saturating_add(self.slept.by(rt, monotonic, wall))
             }
-            (Some(monotonic), None) => monotonic.saturating_add(self.gained.load(SeqCst)),
-            (None, Some(wall)) => wall,
-            (None, None) => return None,
+            (Some(passed), _, _) => passed.saturating_add(self.slept.sum()),
+            (None, _, wall) => since(self.wall, wall)?,
         };
         Some(raise(&self.greatest, time))
     }
@@ -145,8 +161,8 @@ fn started<R: Times + Wait>(rt: &R) -> (Option<Duration>, Option<Duration>) {
 }
 
 // How many milliseconds passed since the start, where both were told.
-fn since(start: Option<Duration>, time: io::Result<Duration>) -> Option<u64> {
-    let passed = time.ok()?.saturating_sub(start?);
+fn since(start: Option<Duration>, time: Option<Duration>) -> Option<u64> {
+    let passed = time?.saturating_sub(start?);
     Some(u64::try_from(passed.as_millis()).unwrap_or(u64::MAX))
 }
 
@@ -169,6 +185,17 @@ mod tests {
     use std::sync::atomic::Ordering::SeqCst;
     use std::test::Fail;
     use std::time::Duration;
+
+    #[test]
+    fn all_clocks_of_a_process_leap(rt: HostRuntime) -> Result<(), Fail> {
+        let mut first = SystemClock::new(rt.alloc(), &rt)?;
+        let mut second = first.copy(&rt)?;
+        let before = second.now();
+        first.leap();
+        assert!(rt; second.now() >= before.saturating_add(1 << 40));
+        assert!(rt; first.now() >= before.saturating_add(1 << 40));
+        Ok(())
+    }
 
     // A system whose clocks read what they are set to, in milliseconds, and refuse where that is 0. A sleep of it sets
     // the first one.
@@ -224,16 +251,19 @@ mod tests {
         // what the two clocks of the system are set to, and what is read then
         let rows = [
             (1010, 5010, 10),
-            // the machine slept
-            (1011, 5100, 100),
-            // the wall clock was set back, refused, and set forward
-            (1020, 4000, 109),
-            (1030, 0, 119),
-            (1040, 6000, 1000),
-            (1050, 5050, 1010),
+            // the wall clock gained a second, and then more than one: the machine slept
+            (1011, 6011, 11),
+            (1012, 7013, 1013),
+            // the wall clock was set back, and then the machine slept
+            (1020, 1020, 1021),
+            (1030, 3030, 3031),
+            // the wall clock is refused, and then the machine slept
+            (1040, 0, 3041),
+            (1050, 4550, 4551),
             // the other one is refused, and then both
-            (0, 5900, 1010),
-            (0, 0, 1050),
+            (0, 5900, 4551),
+            (0, 9900, 4900),
+            (0, 0, 4900),
         ];
         for (monotonic, wall, time) in rows {
             system.monotonic.store(monotonic, SeqCst);

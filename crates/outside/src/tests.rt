@@ -179,9 +179,11 @@ fn a_host_over_memory_accepts_in_turn(rt: HostRuntime) -> Result<(), Fail> {
     let alloc = rt.alloc();
     let address = Bytes::from_slice(alloc, b"h:1")?;
     let mut host = MemHost::new(alloc, vec![in alloc; 5u64, 6]?, vec![in alloc; 3]?);
-    assert!(rt; host.listen(&address).is_ok() && host.accept() == Ok(5));
-    assert!(rt; host.accept() == Err(Failed) && host.accept() == Ok(6));
+    assert!(rt; host.listen(&address).is_ok() && host.accept() == Ok(Some(5)));
+    assert!(rt; host.accept() == Err(Failed) && host.accept() == Ok(Some(6)));
     assert!(rt; host.accept() == Err(Failed));
+    let mut host = host.stopping();
+    assert!(rt; host.accept() == Ok(None));
     Ok(())
 }
 

@@ -33,6 +33,7 @@ impl Admits<Pass<Core>> for Hub<Core> {
 pub struct CarriedOf<H: Admits<P>, P> {
     hub: Arc<H, Global>,
     hosts: Arc<List<Bytes>, Global>,
+    message_limit: usize,
     pass: P,
     ghost admitted: { H.admits (arc_value hub) (arc_value hosts) pass } by { H.only (arc_value hub) (arc_value hosts) pass },
 }
@@ -42,12 +43,32 @@ pub(crate) type Carried = CarriedOf<Hub<Core>, Pass<Core>>;
 
 impl Carried {
     pub(crate) fn pack(place: Place) -> Carried {
-        let Place { hub, hosts, pass } = place;
-        CarriedOf { hub, hosts, pass }
+        let Place {
+            hub,
+            hosts,
+            message_limit,
+            pass,
+        } = place;
+        CarriedOf {
+            hub,
+            hosts,
+            message_limit,
+            pass,
+        }
     }
 
     pub(crate) fn unpack(self) -> Place {
-        let CarriedOf { hub, hosts, pass } = self;
-        Place { hub, hosts, pass }
+        let CarriedOf {
+            hub,
+            hosts,
+            message_limit,
+            pass,
+        } = self;
+        Place {
+            hub,
+            hosts,
+            message_limit,
+            pass,
+        }
     }
 }

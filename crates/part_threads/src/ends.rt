@@ -30,6 +30,9 @@ pub trait Ends: Drop {
     /// Words for any other part.
     fn draw(&self) -> Option<Self::Draw>;
 
+    /// Whether some member answered when it was asked last, or wasn't asked yet.
+    fn one_answers(&self) -> bool;
+
     /// The two ends of an accepted connection.
     fn open(&self, connection: Self::Conn) -> Result<(Self::Source, Self::Sink), NoMemory>;
 

@@ -12,32 +12,43 @@ use std::{io, thread};
 /// Between two lines on the standard error are at least so many milliseconds.
 const LINES: u64 = 1_000;
 
-/// What a thread does with a `P`.
-pub(crate) trait Work<R, P>: Drop {
-    fn work(self, rt: &R, with: P);
+/// What a thread does with a `P` and a `Q`.
+pub(crate) trait Work<R, P, Q>: Drop {
+    fn work(self, rt: &R, with: P, load: Q);
 }
 
-/// Where what a thread works with is laid, and its work.
+/// What makes the work of one thread after another.
+pub(crate) trait Equips<W>: Drop {
+    /// The work of a thread, of the ticker's where `ticks`, or nothing where some of it can't be had.
+    fn equip(&self, ticks: bool) -> Option<W>;
+}
+
+/// Where what a thread works with is laid.
 #[derive(Drop)]
-pub(crate) struct Desk<P, W> {
+pub(crate) struct Desk<P, Q> {
     pub(crate) with: Arc<Handover<P>, Global>,
-    pub(crate) work: Arc<Handover<W>, Global>,
+    pub(crate) load: Arc<Handover<Q>, Global>,
 }
 
-/// A thread that does the work which is laid for it. It is made before anything is handed over, so that what finds no thread isn't lost.
+/// A thread that does this work with what is laid for it. It is made before anything is handed over, so that what finds no thread isn't
+/// lost.
 fn thread_for<
     R: Threads + Wait + Copy + Send + 'static,
     P: Drop + Send + 'static,
-    W: Work<R, P> + Send + 'static,
->(rt: R, alloc: Global) -> io::Result<Desk<P, W>> {
-    let (Ok((with, others)), Ok((work, works))) = (
+    Q: Drop + Send + 'static,
+    W: Work<R, P, Q> + Send + 'static,
+>(rt: R, alloc: Global, work: W) -> io::Result<Desk<P, Q>> {
+    let (Ok((with, others)), Ok((load, loads))) = (
         Handover::<P>::new(alloc),
-        Handover::<W>::new(alloc),
+        Handover::<Q>::new(alloc),
     ) else {
         return Err(io::Error::from(ErrorKind::OutOfMemory));
     };
-    thread::spawn(&rt, move || works.take(&rt).work(&rt, others.take(&rt)))?;
-    Ok(Desk { with, work })
+    thread::spawn(
+        &rt,
+        move || work.work(&rt, others.take(&rt), loads.take(&rt)),
+    )?;
+    Ok(Desk { with, load })
 }
 
 /// Says on the standard error why no thread was made. The line begins with its time (RFC 3339), the start of 1970 where the system
@@ -56,19 +67,30 @@ fn is_over<R: Times>(rt: &R, then: Option<Duration>) -> bool {
 }
 
 /// Who waits for a thread, and is told of its desk.
-type Ask<P, W> = Arc<Handover<Option<Desk<P, W>>>, Global>;
+#[derive(Drop)]
+pub(crate) struct Ask<P, Q> {
+    /// Whether the thread is the ticker's.
+    ticks: bool,
+    desk: Arc<Handover<Option<Desk<P, Q>>>, Global>,
+}
 
 /// Makes a thread for each who asks. Of several failures in a row the first is told, where none was within a second.
 fn make_threads<
     R: Threads + Wait + Times + Eprint + Copy + Send + 'static,
     P: Drop + Send + 'static,
-    W: Work<R, P> + Send + 'static,
->(rt: R, alloc: Global, asked: Arc<Handover<Ask<P, W>>, Global>) {
+    Q: Drop + Send + 'static,
+    W: Work<R, P, Q> + Send + 'static,
+    M: Equips<W>,
+>(rt: R, alloc: Global, equipment: M, asked: Arc<Handover<Ask<P, Q>>, Global>) {
     let mut is_told = false;
     let mut last = None;
     for _ in rt.forever() {
-        let ask = asked.take(&rt);
-        let made = thread_for::<R, P, W>(rt, alloc);
+        let Ask { ticks, desk } = asked.take(&rt);
+        let Some(work) = equipment.equip(ticks) else {
+            desk.lay(&rt, None);
+            continue;
+        };
+        let made = thread_for::<R, P, Q, W>(rt, alloc, work);
         if let Err(error) = &made {
             if !is_told && is_over(&rt, last) {
                 tell(&rt, error);
@@ -76,24 +98,29 @@ fn make_threads<
             }
         }
         is_told = made.is_err();
-        ask.lay(&rt, made.ok());
+        desk.lay(&rt, made.ok());
     }
 }
 
 /// What makes threads, in a thread of its own: a spawner of parts asks it for one.
 #[derive(Drop)]
-pub(crate) struct Maker<P, W> {
-    asked: Arc<Handover<Ask<P, W>>, Global>,
+pub(crate) struct Maker<P, Q> {
+    asked: Arc<Handover<Ask<P, Q>>, Global>,
 }
 
-/// A maker that has made none, or nothing where no thread can be made for it, which is told.
+/// A maker of threads with this equipment that has made none, or nothing where no thread can be made for it, which is told.
 pub(crate) fn begin_making<
     R: Threads + Wait + Times + Eprint + Copy + Send + 'static,
     P: Drop + Send + 'static,
-    W: Work<R, P> + Send + 'static,
->(rt: R, alloc: Global) -> Option<Maker<P, W>> {
-    let (ours, theirs) = Handover::<Ask<P, W>>::new(alloc).ok()?;
-    match thread::spawn(&rt, move || make_threads::<R, P, W>(rt, alloc, theirs)) {
+    Q: Drop + Send + 'static,
+    W: Work<R, P, Q> + Send + 'static,
+    M: Equips<W> + Send + 'static,
+>(rt: R, alloc: Global, equipment: M) -> Option<Maker<P, Q>> {
+    let (ours, theirs) = Handover::<Ask<P, Q>>::new(alloc).ok()?;
+    match thread::spawn(
+        &rt,
+        move || make_threads::<R, P, Q, W, M>(rt, alloc, equipment, theirs),
+    ) {
         Ok(_) => Some(Maker { asked: ours }),
         Err(error) => {
             tell(&rt, &io::Error::from(error));
@@ -102,16 +129,20 @@ pub(crate) fn begin_making<
     }
 }
 
-impl<P: Drop, W: Drop> Maker<P, W> {
-    pub(crate) fn another(&self) -> Result<Maker<P, W>, NoMemory> {
+impl<P: Drop, Q: Drop> Maker<P, Q> {
+    pub(crate) fn another(&self) -> Result<Maker<P, Q>, NoMemory> {
         let asked = Arc::try_clone(&self.asked)?;
         Ok(Maker { asked })
     }
 
-    /// The desk of a new thread, or nothing where none can be made.
-    pub(crate) fn desk<R: Wait>(&self, rt: &R, alloc: Global) -> Option<Desk<P, W>> {
-        let (ours, theirs) = Handover::<Option<Desk<P, W>>>::new(alloc).ok()?;
-        self.asked.lay(rt, theirs);
+    /// The desk of a new thread, the ticker's where `ticks`, or nothing where none can be made.
+    pub(crate) fn desk<R: Wait>(&self, rt: &R, alloc: Global, ticks: bool) -> Option<Desk<P, Q>> {
+        let (ours, theirs) = Handover::<Option<Desk<P, Q>>>::new(alloc).ok()?;
+        let ask = Ask {
+            ticks,
+            desk: theirs,
+        };
+        self.asked.lay(rt, ask);
         ours.take(rt)
     }
 }

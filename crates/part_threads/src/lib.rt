@@ -8,9 +8,11 @@ mod handover;
 mod job;
 mod load;
 mod open;
+mod outfit;
+mod probes;
 mod threaded;
 
 pub use ends::Ends;
 pub use further::Nothing;
 pub use open::CONNECTIONS;
-pub use threaded::{Followers, Server, Threaded};
+pub use threaded::{Server, Threaded, spawner_of};

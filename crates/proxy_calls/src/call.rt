@@ -1,13 +1,13 @@
 ghost use Rattle.std.specs.Prelude.{◌≡◌, IfOk};
-ghost use Rattle.work_model.specs.Calls.{IsCalled, call_of, kept_call_of, lost_on};
+ghost use Rattle.server_model.specs.Calls.{IsCalled, call_of, kept_call_of, lost_on};
 
 use crate::hear::hear;
 use api_request::encode_request;
 use etcd_types::{Answer, Bytes, NoMemory, Request};
 use http_wire::{write_call, write_kept_call};
 use outside::{CallKind, Link, LinkFault};
+use server_model::CallFault;
 use std::alloc::Global;
-use work_model::CallFault;
 
 /// The bytes of a request's call to a host, which asks for the connection's end behind its answer.
 pub fn call_bytes(alloc: Global, host: &[u8], request: &Request) -> Result<Bytes, NoMemory>

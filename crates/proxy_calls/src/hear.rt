@@ -1,6 +1,6 @@
 ghost use Rattle.std.specs.Prelude.{◌≡◌};
 ghost use Rattle.core_model.specs.Heard.{is_known};
-ghost use Rattle.work_model.specs.Calls.{Heard, Says, end_of, lost_by, tells};
+ghost use Rattle.server_model.specs.Calls.{Heard, Says, end_of, lost_by, tells};
 
 use api_reply::decode_reply;
 use etcd_types::code::{
@@ -11,8 +11,8 @@ use etcd_types::{Answer, Request};
 use http_wire::{AnswerHead, Framing, Wire, WireFault};
 use json_model::NotReply;
 use outside::{AnswerEnd, CALL_LIMIT, Source};
+use server_model::CallFault;
 use std::alloc::Global;
-use work_model::CallFault;
 
 /// Whether a refusal with this code says that nothing was done.
 fn is_known(code: u32) -> bool

@@ -1,6 +1,6 @@
 ghost use Rattle.std.specs.Prelude.{◌≡◌};
 ghost use Rattle.std.specs.List.{list_all};
-ghost use Rattle.work_model.specs.Kinds.{kind_of, range_kind, grant_kind, txn_kind, reads_one, is_read};
+ghost use Rattle.server_model.specs.CallKinds.{kind_of, range_kind, grant_kind, txn_kind, reads_one, is_read};
 
 use etcd_types::{KeyRange, List, Op, Request, TxnAsk};
 use outside::CallKind;

@@ -1,5 +1,5 @@
 //! Calls of a proxy to the members of its cluster: one request, one call on the link, and what its answer says. What that is stands in
-//! `work_model`.
+//! `server_model`.
 #![tactic(auto)]
 
 mod call;
@@ -8,4 +8,4 @@ mod kinds;
 
 pub use call::{call_bytes, make_call};
 pub use kinds::kind_of;
-pub use work_model::CallFault;
+pub use server_model::CallFault;

@@ -10,7 +10,7 @@ use Rattle.core_model.specs.State.{Core}
 use Rattle.core_laws.specs.Outcomes.{may_have}
 use Rattle.proxy_core.specs.Faults.{IsFaultOf, IsAnswerTo, CoreSteps}
 use Rattle.proxy_core.proofs.Faults.{answers_fit}
-use Rattle.serve_model.specs.Steps.{FitsOutcome, FitsFault, FitsAnswer}
+use Rattle.server_model.specs.Steps.{FitsOutcome, FitsFault, FitsAnswer}
 
 outcome_fits : (e : CoreEvent) (o : Outcome) → may_have e o ≡ true → FitsOutcome e o
 outcome_fits (Ask ticket request word) (outcome.Replied answer) h = tt

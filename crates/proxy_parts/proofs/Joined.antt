@@ -5,12 +5,14 @@ use Rattle.turn_hub.specs.History.{Begins, Runs}
 use Rattle.turn_hub.specs.Known.{Home, Known, made, opening_of, base_of}
 use Rattle.turn_hub.specs.Views.{longer}
 use Rattle.core_model.specs.State.{Core}
-use Rattle.serve_model.specs.declared.ends.SessionEnd.{SessionEnd}
-use Rattle.serve_model.specs.Steps.{Step, NoEvent}
-use Rattle.serve_model.specs.Complete.{Completes}
-use Rattle.serve_model.specs.Dialog.{Dialog}
-use Rattle.serve_model.specs.Numbers.{LastNumbered}
-use Rattle.serve_model.proofs.Behind.{dialog_behind, numbered_behind, completes_behind}
+use Rattle.http_wire.specs.declared.message.Head.{Head}
+use Rattle.http_talk.specs.declared.ready.Ready.{Ready}
+use Rattle.server_model.specs.declared.ends.SessionEnd.{SessionEnd}
+use Rattle.server_model.specs.Steps.{Step, NoEvent}
+use Rattle.server_model.specs.Complete.{Completes}
+use Rattle.server_model.specs.Dialog.{Dialog}
+use Rattle.server_model.specs.Numbers.{LastNumbered}
+use Rattle.server_model.proofs.Behind.{dialog_behind, numbered_behind, completes_behind}
 use Rattle.proxy_core.specs.Faults.{CoreSteps}
 use Rattle.proxy_parts.specs.Passes.{is_at_limit, IsSound, Grows}
 use Rattle.proxy_parts.proofs.Passes.{longer_one}
@@ -69,11 +71,11 @@ module _ (old apart first last new : Known (Opening Core) Step) (j : Joins old a
   none_first : made first ≡ []
   none_first = j.begun ∙ ap (λ (k : Known (Opening Core) Step). made k) j.split
 
-  pub joined_dialog : (left written written' : Option (List ℕ)) (end : SessionEnd) → Dialog NoEvent (IsTrue (is_at_limit last)) left (Some (made first)) (Some (made last)) written written' end
-      → Dialog NoEvent (IsTrue (is_at_limit new)) left (Some (made old)) (Some (made new)) written written' end
-  joined_dialog left written written' end d =
-      subst (λ (b : Bool). Dialog NoEvent (IsTrue b) left (Some (made old)) (Some (made new)) written written' end) limit_last
-      (dialog_behind (made old) (made first) (made last) (made new) none_first j.made_both NoEvent (IsTrue (is_at_limit last)) left written written' end d)
+  pub joined_dialog : (gives : Head → List ℕ → Option Ready → Type 0) (left written written' : Option (List ℕ)) (end : SessionEnd) → Dialog gives NoEvent (IsTrue (is_at_limit last)) left (Some (made first)) (Some (made last)) written written' end
+      → Dialog gives NoEvent (IsTrue (is_at_limit new)) left (Some (made old)) (Some (made new)) written written' end
+  joined_dialog gives left written written' end d =
+      subst (λ (b : Bool). Dialog gives NoEvent (IsTrue b) left (Some (made old)) (Some (made new)) written written' end) limit_last
+      (dialog_behind (made old) (made first) (made last) (made new) none_first j.made_both gives NoEvent (IsTrue (is_at_limit last)) left written written' end d)
 
   pub joined_numbers : (end : SessionEnd) (limit from : ℕ) (given given' : Option (List ℕ)) → LastNumbered end limit from given given' (Some (made first)) (Some (made last))
       → LastNumbered end limit from given given' (Some (made old)) (Some (made new))

@@ -12,14 +12,14 @@ use Rattle.core_model.specs.declared.event.CoreEvent.{CoreEvent}
 use Rattle.core_model.specs.declared.event.Outcome.{Outcome}
 use Rattle.core_model.specs.declared.event.StepFault.{StepFault}
 use Rattle.core_model.specs.State.{Core}
-use Rattle.serve_model.specs.declared.fault.TurnFault.TheVariants as turn
-use Rattle.serve_model.specs.Steps.{Step, MadeBy, Rested, NoEvent}
+use Rattle.server_model.specs.declared.fault.TurnFault.TheVariants as turn
+use Rattle.server_model.specs.Steps.{Step, MadeBy, Rested, NoEvent}
 use Rattle.proxy_core.specs.Faults.{CoreSteps}
 use Rattle.outside.specs.Calls.{LinkCall, Handed}
 use Rattle.outside.specs.declared.parts.Part.{Part}
-use Rattle.work_model.specs.Working.{Ledger, ledger}
-use Rattle.part_model.specs.Rounds.{IsSpent}
-use Rattle.part_model.proofs.Rounded.{spent_later}
+use Rattle.server_model.specs.Working.{Ledger, ledger}
+use Rattle.server_model.specs.Rounds.{IsSpent}
+use Rattle.server_model.proofs.Rounded.{spent_later}
 use Rattle.proxy_parts.specs.Passes.{is_at_limit, IsSound, Grows}
 
 module _ {M : Type 0} (steps : M → CoreEvent → ℕ → Result Outcome StepFault → M → Type 0) where

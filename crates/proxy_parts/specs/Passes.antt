@@ -5,7 +5,7 @@ use Rattle.turn_hub.specs.Known.{Known, base_of}
 use Rattle.turn_hub.specs.Steps.{IsAllowed}
 use Rattle.turn_hub.specs.declared.view.Opening.{Opening}
 use Rattle.core_model.specs.State.{Core}
-use Rattle.serve_model.specs.Steps.{Step}
+use Rattle.server_model.specs.Steps.{Step}
 use Rattle.proxy_core.specs.Faults.{CoreSteps}
 
 -- the hub has made its last step, and the pass has seen it

@@ -1,13 +1,13 @@
 ghost use Rattle.std.specs.Prelude.{◌≡◌, [], Some};
 ghost use Rattle.turn_hub.specs.Known.{made};
-ghost use Rattle.serve_model.specs.Steps.{NoEvent};
+ghost use Rattle.server_model.specs.Steps.{NoEvent};
 ghost use Rattle.proxy_parts.specs.Passes.{Grows, is_at_limit};
 
 use core_model::{CoreEvent, Outcome};
 use outside::Clock;
 use proxy_core::Core;
 use proxy_server::Turn;
-use serve_model::TurnFault;
+use server_model::TurnFault;
 use std::snapshot::Snapshot;
 use std::sync::Wait;
 use turn_hub::{Hub, HubFault, Pass};

@@ -1,7 +1,7 @@
 ghost use Rattle.std.specs.Prelude.{◌≡◌, [], Some, length};
 ghost use Rattle.std.specs.Arc.{arc_value};
 ghost use Rattle.turn_hub.specs.Known.{made, opening_of};
-ghost use Rattle.serve_model.specs.Steps.{NoEvent};
+ghost use Rattle.server_model.specs.Steps.{NoEvent};
 ghost use Rattle.proxy_parts.specs.Passes.{Grows, is_at_limit};
 
 use crate::place::Place;
@@ -12,7 +12,7 @@ use outside::Clock;
 use proxy_core::Core;
 use proxy_server::Turn;
 use proxy_workers::Seats;
-use serve_model::TurnFault;
+use server_model::TurnFault;
 use std::alloc::Global;
 use std::sync::{Arc, Wait};
 use turn_hub::{Hub, Pass};
@@ -23,6 +23,7 @@ pub struct Seating<'a, R: Wait> {
     seated: Seated<'a, R>,
     hub: &'a Arc<Hub<Core>, Global>,
     hosts: &'a Arc<List<Bytes>, Global>,
+    message_limit: usize,
     ghost mine: { seated.hub.now ≡ arc_value hub.now },
     ghost numbered: { (opening_of (arc_value hub.now)).settings.members ≡ length (arc_value hosts.now) },
 }
@@ -33,6 +34,7 @@ impl<'a, R: Wait> Seating<'a, R> {
         rt: &'a R,
         hub: &'a Arc<Hub<Core>, Global>,
         hosts: &'a Arc<List<Bytes>, Global>,
+        message_limit: usize,
         pass: Pass<Core>,
     ) -> Seating<'a, R>
         requires mine { pass.hub ≡ arc_value hub.now }
@@ -40,12 +42,18 @@ impl<'a, R: Wait> Seating<'a, R> {
             (arc_value hosts.now) }
         ensures hub { result.seated.pass.hub ≡ pass.hub }
         ensures hosts { result.hosts.now ≡ hosts.now }
+        ensures message_limit { result.message_limit ≡ message_limit }
         ensures made { made result.seated.pass ≡ made pass }
         ensures begun { result.seated.begun.value ≡ pass }
         ensures grows { Grows pass result.seated.pass }
     {
         let seated = Seated::new(rt, hub, pass);
-        Seating { seated, hub, hosts }
+        Seating {
+            seated,
+            hub,
+            hosts,
+            message_limit,
+        }
     }
 
     /// Gives the pass back.
@@ -57,11 +65,11 @@ impl<'a, R: Wait> Seating<'a, R> {
 }
 
 impl<'a, R: Wait> Turn for Seating<'a, R> {
-    type Home = (Pass<Core>, List<Bytes>);
+    type Home = (Pass<Core>, List<Bytes>, usize);
 
     ghost use Rattle.std.specs.Prelude.{[]};
 
-    ghost home = { λ s. (record s.seated.pass { seen = []; own = [] }, arc_value s.hosts.now) };
+    ghost home = { λ s. (record s.seated.pass { seen = []; own = [] }, arc_value s.hosts.now, s.message_limit) };
 
     ghost made = { λ s. Some (made s.seated.pass) };
 
@@ -90,7 +98,13 @@ impl<'a, R: Wait> Seats for Seating<'a, R> {
     fn another(&mut self) -> Result<Place, NoMemory> {
         let hub = Arc::try_clone(self.hub)?;
         let hosts = Arc::try_clone(self.hosts)?;
+        let message_limit = self.message_limit;
         let pass = self.seated.split();
-        Ok(Place { hub, hosts, pass })
+        Ok(Place {
+            hub,
+            hosts,
+            message_limit,
+            pass,
+        })
     }
 }

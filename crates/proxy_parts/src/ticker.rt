@@ -1,10 +1,10 @@
 ghost use Rattle.std.specs.Prelude.{◌≡◌, IsTrue};
-ghost use Rattle.part_model.specs.Ticking.{OneTick, Ticking};
+ghost use Rattle.server_model.specs.Ticking.{OneTick, Ticking};
 
 use core_model::CoreEvent;
 use outside::{Clock, Draw};
 use proxy_server::Turn;
-use serve_model::TurnFault;
+use server_model::TurnFault;
 use std::sync::Wait;
 
 /// The ticker rests so many milliseconds between two ticks.

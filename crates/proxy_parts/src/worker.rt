@@ -1,6 +1,6 @@
 ghost use Rattle.std.specs.Prelude.{◌≡◌, IsTrue};
-ghost use Rattle.work_model.specs.Working.{IsAt, ledger};
-ghost use Rattle.part_model.specs.Rounds.{IsSpent};
+ghost use Rattle.server_model.specs.Working.{IsAt, ledger};
+ghost use Rattle.server_model.specs.Rounds.{IsSpent};
 
 use etcd_types::{Bytes, List};
 use outside::{Clock, Link, Spawner};

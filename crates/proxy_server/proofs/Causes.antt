@@ -1,9 +1,9 @@
 -- Ends that don't come from where they would need a cause.
 use Rattle.std.proofs.Common.{◌≡◌, ℕ, ◌≤◌, subst, arith}
-use Rattle.serve_model.specs.declared.ends.SessionEnd.{SessionEnd}
-use Rattle.serve_model.specs.declared.ends.SessionEnd.TheVariants as end
-use Rattle.serve_model.specs.Dialog.{Breaking}
-use Rattle.serve_model.specs.Numbers.{IsElse}
+use Rattle.server_model.specs.declared.ends.SessionEnd.{SessionEnd}
+use Rattle.server_model.specs.declared.ends.SessionEnd.TheVariants as end
+use Rattle.server_model.specs.Dialog.{Breaking}
+use Rattle.server_model.specs.Numbers.{IsElse}
 use Rattle.outside.specs.Faults.{Rose}
 use Rattle.proxy_server.specs.Causes.{IsOfSteps, IsOfTakes, IsOfAsking}
 

@@ -1,7 +1,7 @@
 -- Which ends of a connection come from where.
 use Rattle.std.specs.Prelude.{⊤}
-use Rattle.serve_model.specs.declared.ends.SessionEnd.{SessionEnd}
-use Rattle.serve_model.specs.declared.ends.SessionEnd.TheVariants.{TicketTaken, Worn, NoMemory, WriteFault, ReadFault}
+use Rattle.server_model.specs.declared.ends.SessionEnd.{SessionEnd}
+use Rattle.server_model.specs.declared.ends.SessionEnd.TheVariants.{TicketTaken, Worn, NoMemory, WriteFault, ReadFault}
 
 -- an end because of a step
 abbrev pub IsOfSteps : SessionEnd → Type 0

@@ -1,19 +1,19 @@
 ghost use Rattle.std.specs.Prelude.{◌≡◌, ◌≤◌, [], IfErr, IsTrue};
 ghost use Rattle.std.specs.Io.KnownBytes.{Keeps};
 ghost use Rattle.outside.specs.Faults.{Rose};
-ghost use Rattle.serve_model.specs.Dialog.{is_worn, is_in_use};
-ghost use Rattle.serve_model.specs.Numbers.{Asked, AsksOne};
-ghost use Rattle.serve_model.specs.Parts.{Asks, Left, IsOfTicket};
+ghost use Rattle.server_model.specs.Dialog.{is_worn, is_in_use};
+ghost use Rattle.server_model.specs.Numbers.{Asked, AsksOne};
+ghost use Rattle.server_model.specs.Exchanges.{Asks, Left, IsOfTicket};
 ghost use Rattle.proxy_server.specs.Causes.{IsOfAsking};
 
 use crate::ends::{end_by, end_of};
 use crate::follow::follow;
-use crate::tell::tell;
 use crate::turn::Turn;
 use core_model::{CoreEvent, Outcome, StepFault};
 use etcd_types::Request;
+use http_talk::tell;
 use outside::{Clock, Sink, Source};
-use serve_model::{Attempt, SessionEnd, Stop, TurnFault};
+use server_model::{Attempt, SessionEnd, Stop, TurnFault};
 use std::alloc::Global;
 use std::sync::Wait;
 

@@ -1,12 +1,13 @@
 ghost use Rattle.std.specs.Prelude.{◌≡◌};
-ghost use Rattle.serve_model.specs.Dialog.{Breaking, IsUntold, end_of};
-ghost use Rattle.serve_model.specs.Numbers.{IsElse};
-ghost use Rattle.serve_model.specs.Parts.{IsOfWriting, end_by};
+ghost use Rattle.server_model.specs.Dialog.{Breaking, IsUntold, end_of};
+ghost use Rattle.server_model.specs.Numbers.{IsElse};
+ghost use Rattle.http_talk.specs.Telling.{IsOfWriting};
+ghost use Rattle.server_model.specs.Exchanges.{end_by};
 ghost use Rattle.proxy_server.specs.Causes.{IsOfSteps, IsOfTakes, IsOfAsking};
 
 use core_model::StepFault;
 use http_wire::WireFault;
-use serve_model::{SessionEnd, TurnFault};
+use server_model::{SessionEnd, TurnFault};
 
 /// How a connection ends by this fault of its wire.
 pub(crate) fn end_by(fault: WireFault) -> SessionEnd

@@ -2,19 +2,22 @@ ghost use Rattle.std.specs.Prelude.{◌≡◌, ◌≤◌, ◌<◌, ◌+◌, None
 ghost use Rattle.std.specs.Io.KnownBytes.{Keeps};
 ghost use Rattle.outside.specs.Faults.{Rose};
 ghost use Rattle.http_wire.specs.Connections.{bytes_ahead};
-ghost use Rattle.serve_model.specs.Dialog.{Turned, Breaking, asked_of};
-ghost use Rattle.serve_model.specs.Numbers.{NumberedSo, NumberedBy};
-ghost use Rattle.serve_model.specs.Parts.{Asks, Responds};
+ghost use Rattle.http_talk.specs.Requests.{asked_of};
+ghost use Rattle.json_model.specs.declared.extra.Reading.TheVariants.{Client as OfClient};
+ghost use Rattle.server_model.specs.Dialog.{Turned, Breaking};
+ghost use Rattle.server_model.specs.Numbers.{NumberedSo, NumberedBy};
+ghost use Rattle.server_model.specs.Exchanges.{Asks, Replies};
 
 use crate::ask::ask;
-use crate::ends::end_by;
+use crate::direct::answer_directly;
 use crate::receive::receive;
-use crate::refused::{asked, refuse_request};
 use crate::turn::Turn;
 use etcd_types::{NoMemory, Request};
+use http_talk::{Answers, asked};
 use http_wire::Wire;
+use json_model::Reading;
 use outside::{Clock, Draw, ReadMark, RequestKind, Sink, Source, TicketRange};
-use serve_model::{Attempt, Received, SessionEnd};
+use server_model::{Attempt, Received, SessionEnd};
 use std::alloc::Global;
 use std::sync::Wait;
 
@@ -79,9 +82,10 @@ fn respond<R: Wait, T: Turn, S: Source, K: Sink, C: Clock, D: Draw>(
     }
 }
 
-/// Answers a request that was read. Where a ticket is in use, it asks again with the next one.
+/// Answers a request that was read. Where a ticket is in use, it asks again with the next one. One that the mapping refuses is answered
+/// with no step.
 #[inline(never)]
-fn answer<R: Wait, T: Turn, S: Source, K: Sink, C: Clock, D: Draw>(
+fn answer<R: Wait, T: Turn, S: Source, K: Sink, C: Clock, D: Draw, A: Answers>(
     rt: &R,
     alloc: Global,
     turn: &mut T,
@@ -90,10 +94,12 @@ fn answer<R: Wait, T: Turn, S: Source, K: Sink, C: Clock, D: Draw>(
     sink: &mut K,
     tickets: &mut TicketRange,
     draw: &mut D,
+    answers: &mut A,
     received: &Received,
 ) -> Option<SessionEnd>
     ensures home { T.home turn.new ≡ T.home turn.old }
     ensures allowed { T.allowed turn.old → T.allowed turn.new }
+    ensures known { A.known answers.new ≡ A.known answers.old }
     ensures limit { tickets.new.end ≡ tickets.old.end }
     ensures breaking { IfSome result Breaking }
     ensures read_cause { IfSome result (λ end. end ≡ SessionEnd.ReadFault
@@ -105,12 +111,13 @@ fn answer<R: Wait, T: Turn, S: Source, K: Sink, C: Clock, D: Draw>(
     ensures ahead { Keeps (S.left source.old) (S.left source.new) }
     ensures numbered { NumberedSo tickets.old.end tickets.old.next tickets.new.next
         (D.given draw.old) (D.given draw.new) (T.made turn.old) (T.made turn.new) result }
-    ensures responds { Responds T.rests (IsTrue (T.worn turn.new)) received.now.head.method
-        (asked_of received.now.head received.now.body) (T.made turn.old) (T.made turn.new)
-        (K.written sink.old) (K.written sink.new) result }
+    ensures replies { Replies T.rests (IsTrue (T.worn turn.new))
+        (A.gives (A.known answers.old) received.now.head received.now.body)
+        received.now.head.method (asked_of OfClient received.now.head received.now.body)
+        (T.made turn.old) (T.made turn.new) (K.written sink.old) (K.written sink.new) result }
 {
     'tries: loop {
-        match asked(alloc, received) {
+        match asked(alloc, Reading::Client, received) {
             Ok(Ok(request)) => match respond(
                 rt, alloc, turn, clock, source, sink, tickets, draw, request,
             ) {
@@ -120,9 +127,9 @@ fn answer<R: Wait, T: Turn, S: Source, K: Sink, C: Clock, D: Draw>(
             },
             Ok(Err(refused)) => {
                 name_kind(source, RequestKind::Other);
-                match refuse_request(alloc, sink, &received.head.method, &refused) {
-                    Ok(()) => return None,
-                    Err(fault) => return Some(end_by(fault)),
+                match answer_directly(alloc, sink, answers, received, &refused) {
+                    None => return None,
+                    Some(end) => return Some(end),
                 }
             }
             Err(NoMemory) => return Some(SessionEnd::NoMemory),
@@ -131,7 +138,7 @@ fn answer<R: Wait, T: Turn, S: Source, K: Sink, C: Clock, D: Draw>(
 }
 
 /// Reads the next request and answers it. None where the connection goes on.
-pub(crate) fn exchange<R: Wait, T: Turn, S: Source, K: Sink, C: Clock, D: Draw>(
+pub(crate) fn exchange<R: Wait, T: Turn, S: Source, K: Sink, C: Clock, D: Draw, A: Answers>(
     rt: &R,
     alloc: Global,
     wire: &mut Wire,
@@ -141,10 +148,12 @@ pub(crate) fn exchange<R: Wait, T: Turn, S: Source, K: Sink, C: Clock, D: Draw>(
     sink: &mut K,
     tickets: &mut TicketRange,
     draw: &mut D,
+    answers: &mut A,
 ) -> Option<SessionEnd>
     requires sound { wire.old.fault ≡ None }
     ensures home { T.home turn.new ≡ T.home turn.old }
     ensures allowed { T.allowed turn.old → T.allowed turn.new }
+    ensures known { A.known answers.new ≡ A.known answers.old }
     ensures limit { tickets.new.end ≡ tickets.old.end }
     ensures sound { IfNone result (wire.new.fault ≡ None) }
     ensures read_cause { IfSome result (λ end. end ≡ SessionEnd.ReadFault
@@ -155,7 +164,7 @@ pub(crate) fn exchange<R: Wait, T: Turn, S: Source, K: Sink, C: Clock, D: Draw>(
     ensures writes { K.faults sink.old ≤ K.faults sink.new }
     ensures numbered { NumberedSo tickets.old.end tickets.old.next tickets.new.next
         (D.given draw.old) (D.given draw.new) (T.made turn.old) (T.made turn.new) result }
-    ensures turned { Turned T.rests (IsTrue (T.worn turn.new))
+    ensures turned { Turned (A.gives (A.known answers.old)) T.rests (IsTrue (T.worn turn.new))
         (bytes_ahead (S.left source.old) wire.old) (bytes_ahead (S.left source.new) wire.new)
         (T.made turn.old) (T.made turn.new) (K.written sink.old) (K.written sink.new) result }
 {
@@ -164,7 +173,7 @@ pub(crate) fn exchange<R: Wait, T: Turn, S: Source, K: Sink, C: Clock, D: Draw>(
         Err(end) => return Some(end),
     };
     match answer(
-        rt, alloc, turn, clock, source, sink, tickets, draw, &received,
+        rt, alloc, turn, clock, source, sink, tickets, draw, answers, &received,
     ) {
         Some(end) => Some(end),
         None => {

@@ -1,16 +1,16 @@
 ghost use Rattle.std.specs.Prelude.{◌≡◌, ◌≤◌, [], IfErr, IsTrue};
 ghost use Rattle.std.specs.Io.KnownBytes.{Keeps};
 ghost use Rattle.outside.specs.Faults.{Rose};
-ghost use Rattle.serve_model.specs.Numbers.{Asked};
-ghost use Rattle.serve_model.specs.Parts.{Follows, end_in};
-ghost use Rattle.serve_model.specs.Steps.{Rested, IsOfRest};
+ghost use Rattle.server_model.specs.Numbers.{Asked};
+ghost use Rattle.server_model.specs.Exchanges.{Follows, end_in};
+ghost use Rattle.server_model.specs.Steps.{Rested, IsOfRest};
 ghost use Rattle.proxy_server.specs.Causes.{IsOfAsking};
 
 use crate::ends::end_of;
 use crate::take::take;
 use crate::turn::Turn;
 use outside::{Clock, Failed, Sink, Source};
-use serve_model::{SessionEnd, Stop, Taken};
+use server_model::{SessionEnd, Stop, Taken};
 use std::alloc::Global;
 use std::sync::Wait;
 

@@ -1,61 +1,16 @@
-ghost use Rattle.std.specs.Prelude.{◌≡◌, ◌≤◌, None, OnOk, IfErr, IsErrOf, MatchBool};
+ghost use Rattle.std.specs.Prelude.{◌≡◌, ◌≤◌, None, OnOk, IfErr};
 ghost use Rattle.outside.specs.Faults.{Rose};
-ghost use Rattle.std.specs.Io.KnownBytes.{Keeps};
-ghost use Rattle.outside.specs.Streams.{WritesFront};
-ghost use Rattle.http_wire.specs.Bodies.{is_of_bytes};
-ghost use Rattle.http_wire.specs.Written.{Writes};
-ghost use Rattle.http_wire.specs.Connections.{bytes_ahead, IsOfReading};
-ghost use Rattle.serve_model.specs.Dialog as spec;
-ghost use Rattle.serve_model.specs.Numbers.{IsElse};
-ghost use Rattle.serve_model.specs.Parts.{Received as Gets};
+ghost use Rattle.http_wire.specs.Connections.{bytes_ahead};
+ghost use Rattle.server_model.specs.Numbers.{IsElse};
+ghost use Rattle.server_model.specs.Exchanges.{Received as Gets};
 
 use crate::ends::end_by;
-use crate::refused::refuse;
-use http_wire::{Head, Wire, WireFault, write_continue};
+use http_wire::Wire;
 use outside::{Sink, Source};
-use serve_model::{Received, Refused, SessionEnd};
+use server_model::{Received, SessionEnd};
 use std::alloc::Global;
 
-/// Whether the fault is one of the client's bytes.
-fn is_of_bytes(fault: WireFault) -> bool
-    ensures { result ≡ is_of_bytes fault }
-{
-    match fault {
-        WireFault::ReadFault | WireFault::NoMemory => false,
-        _ => true,
-    }
-}
-
-/// Tells the client of a fault of its bytes.
-#[tactic(auto, using(serve_model::proofs::Said::front_by))]
-fn refuse_bytes<K: Sink>(alloc: Global, sink: &mut K, fault: WireFault)
-    ensures kept { K.faults sink.old ≤ K.faults sink.new }
-    ensures told { MatchBool (is_of_bytes fault) (WritesFront (K.written sink.old)
-        (K.written sink.new) (spec.refusal (Refused.Bytes)))
-        (Keeps (K.written sink.old) (K.written sink.new)) }
-{
-    if is_of_bytes(fault) {
-        let _ = refuse(alloc, sink, &Refused::Bytes);
-    }
-}
-
-/// Tells the client to go on, where it waits for that.
-#[tactic(auto, unfolding(serve_model::specs::Dialog::go_on_of))]
-fn encourage<K: Sink>(sink: &mut K, head: &Head) -> Result<(), WireFault>
-    ensures kept { K.faults sink.old ≤ K.faults sink.new }
-    ensures cause { IsErrOf result WireFault.WriteFault
-        → Rose (K.faults sink.old) (K.faults sink.new) }
-    ensures written { Writes (K.written sink.old) (K.written sink.new)
-        (spec.go_on_of head.now) result }
-{
-    if head.expects {
-        write_continue(sink)
-    } else {
-        Ok(())
-    }
-}
-
-/// Reads the next request.
+/// Reads the next request, or says how the connection ends where none was read whole.
 #[inline(never)]
 pub(crate) fn receive<S: Source, K: Sink>(
     alloc: Global,
@@ -76,23 +31,9 @@ pub(crate) fn receive<S: Source, K: Sink>(
         (bytes_ahead (S.left source.new) wire.new) (K.written sink.old)
         (K.written sink.new) result }
 {
-    let head = match wire.read_head(source) {
-        Ok(Some(head)) => head,
-        Ok(None) => return Err(SessionEnd::Closed),
-        Err(fault) => {
-            refuse_bytes(alloc, sink, fault);
-            return Err(end_by(fault));
-        }
-    };
-    match encourage(sink, &head) {
-        Ok(()) => {}
-        Err(fault) => return Err(end_by(fault)),
-    }
-    match wire.read_body(source, &head) {
-        Ok(body) => Ok(Received { head, body }),
-        Err(fault) => {
-            refuse_bytes(alloc, sink, fault);
-            Err(end_by(fault))
-        }
+    match http_talk::receive(alloc, wire, source, sink) {
+        Ok(Some(received)) => Ok(received),
+        Ok(None) => Err(SessionEnd::Closed),
+        Err(fault) => Err(end_by(fault)),
     }
 }

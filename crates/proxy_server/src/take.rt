@@ -1,34 +1,29 @@
 ghost use Rattle.std.specs.Prelude.{◌≡◌, ◌≤◌, [], IfErr, IsTrue};
 ghost use Rattle.outside.specs.Faults.{Rose};
-ghost use Rattle.serve_model.specs.Numbers.{Asked};
-ghost use Rattle.serve_model.specs.Parts.{Takes, PassesOn, end_in};
+ghost use Rattle.server_model.specs.Numbers.{Asked};
+ghost use Rattle.server_model.specs.Exchanges.{Takes, PassesOn, end_in};
 ghost use Rattle.proxy_server.specs.Causes.{IsOfTakes, IsOfAsking};
 
 use crate::ends::{end_by, end_of};
-use crate::tell::{is_cancel, tell, tell_item};
 use crate::turn::Turn;
 use core_model::{CoreEvent, Outcome};
-use etcd_types::WatchItem;
+use http_talk::{is_cancel, tell, tell_item};
 use outside::{Clock, Sink};
-use serve_model::{SessionEnd, Stop, Taken};
+use server_model::{SessionEnd, Stop, Taken};
 use std::alloc::Global;
+use told_items::Told;
 
 /// Passes a message of a watch on to the client.
-fn pass_on<K: Sink>(
-    alloc: Global,
-    sink: &mut K,
-    begun: bool,
-    item: &WatchItem,
-) -> Result<Taken, Stop>
+fn pass_on<K: Sink>(alloc: Global, sink: &mut K, begun: bool, told: &Told) -> Result<Taken, Stop>
     ensures cause { IfErr result (λ why. end_in why ≡ SessionEnd.WriteFault
         → Rose (K.faults sink.old) (K.faults sink.new)) }
     ensures kept { K.faults sink.old ≤ K.faults sink.new }
     ensures end { IfErr result (λ why. IsOfTakes (end_in why)) }
     ensures asking { IfErr result (λ why. IsOfAsking (end_in why)) }
-    ensures passes { PassesOn begun item.now (K.written sink.old) (K.written sink.new) result }
+    ensures passes { PassesOn begun told.now (K.written sink.old) (K.written sink.new) result }
 {
-    let last = is_cancel(item);
-    match tell_item(alloc, sink, begun, item) {
+    let last = is_cancel(told.item());
+    match tell_item(alloc, sink, begun, told) {
         Ok(()) => {
             if last {
                 Ok(Taken::Last)
@@ -73,7 +68,7 @@ pub(crate) fn take<T: Turn, K: Sink, C: Clock>(
             Ok(()) => Ok(Taken::Last),
             Err(fault) => Err(Stop::Answered(end_by(fault))),
         },
-        Ok(Outcome::Item(item)) => pass_on(alloc, sink, begun, &item),
+        Ok(Outcome::Item(told)) => pass_on(alloc, sink, begun, &told),
         Ok(Outcome::Waiting | Outcome::Noted | Outcome::Job(_)) => unreachable!(),
         Err(fault) => Err(Stop::Unanswered(end_of(fault))),
     }

@@ -1,11 +1,11 @@
 ghost use Rattle.std.specs.Prelude.{◌≡◌, Bool, List, Option, IfErr, IsTrue};
 ghost use Rattle.core_model.specs.declared.event.CoreEvent.{CoreEvent};
-ghost use Rattle.serve_model.specs.Steps.{Step, MadeBy, Rested, Fits, IsOfRest, is_late};
-ghost use Rattle.serve_model.specs.declared.fault.TurnFault.TheVariants.{Worn};
+ghost use Rattle.server_model.specs.Steps.{Step, MadeBy, Rested, Fits, IsOfRest, is_late};
+ghost use Rattle.server_model.specs.declared.fault.TurnFault.TheVariants.{Worn};
 
 use core_model::{CoreEvent, Outcome};
 use outside::Clock;
-use serve_model::TurnFault;
+use server_model::TurnFault;
 
 /// What stands behind a connection: a machine that is stepped, by this connection and maybe by others.
 pub trait Turn {

@@ -19,6 +19,7 @@ starts_heard _ _ _ (way.unstarted front part rest) e = cc
 starts_heard _ _ _ (way.unplaced front part rest) e = cc
 
 tends_started : {H C : Type 0} (home : H) (calls : List (HostCall C)) (parts : List (Handed (Part H C))) (end : ServeEnd) → Tends home calls parts end → end ≡ SpawnerFault → ⊥
+tends_started home _ _ _ (way.stopped clients) e = cc
 tends_started home _ _ _ (way.closed clients why) e = cc
 tends_started home _ _ _ (way.unplaced clients last) e = cc
 

@@ -8,9 +8,9 @@ use Rattle.outside.specs.declared.parts.Part.TheVariants.{Connection}
 use Rattle.outside.specs.declared.parts.TicketRange.{TicketRange}
 use Rattle.outside.specs.declared.source.Failed.{Failed}
 use Rattle.proxy_service.specs.declared.ends.ServeEnd.{ServeEnd}
-use Rattle.proxy_service.specs.declared.ends.ServeEnd.TheVariants.{NoMemory, ListenerFault}
+use Rattle.proxy_service.specs.declared.ends.ServeEnd.TheVariants.{Stopped, NoMemory, ListenerFault}
 use Rattle.proxy_service.specs.Parts.{at_home, Client, accepts, tickets_of, connection, connections}
-use Rattle.proxy_service.specs.Serving.{Tends, closed, unplaced}
+use Rattle.proxy_service.specs.Serving.{Tends, stopped, closed, unplaced}
 use Rattle.proxy_service.specs.Told.{Hands, TendsOne, IsTendedOne, IsTending, IsTended}
 use Rattle.proxy_service.specs.Told as one
 use Rattle.proxy_service.proofs.Hands.{adds_then, adds_none, hands_none, hands_then, hands_one}
@@ -37,14 +37,14 @@ connections_more {H} {C} home n (c ∷ cs) client =
     ap (λ (l : List (Handed (Part H C))). connection home n c ∷ l)
     (connections_more home (n + 1) cs client ∙ ap (λ (m : ℕ). connections home (n + 1) cs ++ (connection home m client ∷ [])) e)
 
-accepts_more : {C : Type 0} (clients : List (Client C)) (client : Client C) → accepts (clients ++ (client ∷ [])) ≡ accepts clients ++ (Accepted (Ok client.connection) ∷ [])
-accepts_more {C} clients client = map-append (λ (c : Client C). Accepted (Ok c.connection)) clients (client ∷ [])
+accepts_more : {C : Type 0} (clients : List (Client C)) (client : Client C) → accepts (clients ++ (client ∷ [])) ≡ accepts clients ++ (Accepted (Ok (Some client.connection)) ∷ [])
+accepts_more {C} clients client = map-append (λ (c : Client C). Accepted (Ok (Some c.connection))) clients (client ∷ [])
 
 -- ---- one client
 
 module _ {P H C : Type 0} (home_of : P → H) (home : H) where
   pub one_closed : (number : ℕ) (a b : Option (List (HostCall C))) (h : Option (List (Handed (Part P C)))) (n m : ℕ) (why : Failed)
-      → Adds a b (Accepted (Err why) ∷ []) → HasCause {T = C} n m (Err why) → IsTendedOne home_of home number a b h h n m (Err ListenerFault)
+      → Adds a b (Accepted (Err why) ∷ []) → HasCause {T = Option C} n m (Err why) → IsTendedOne home_of home number a b h h n m (Err ListenerFault)
   one_closed number a b h n m why t cause = record {
     calls = Accepted (Err why) ∷ [];
     parts = [];
@@ -55,26 +55,38 @@ module _ {P H C : Type 0} (home_of : P → H) (home : H) where
     caused = λ e. cause.rose;
   }
 
-  pub one_unplaced : (number : ℕ) (a b : Option (List (HostCall C))) (h : Option (List (Handed (Part P C)))) (n m : ℕ) (last : C)
-      → Adds a b (Accepted (Ok last) ∷ []) → HasCause {E = Failed} n m (Ok last) → IsTendedOne home_of home number a b h h n m (Err NoMemory)
-  one_unplaced number a b h n m last t cause = record {
-    calls = Accepted (Ok last) ∷ [];
+  pub one_stopped : (number : ℕ) (a b : Option (List (HostCall C))) (h : Option (List (Handed (Part P C)))) (n m : ℕ)
+      → (came : Option C) → came ≡ None → Adds a b (Accepted (Ok came) ∷ []) → HasCause {T = Option C} {E = Failed} n m (Ok came) → IsTendedOne home_of home number a b h h n m (Err Stopped)
+  one_stopped number a b h n m came is t cause = record {
+    calls = Accepted (Ok None) ∷ [];
     parts = [];
-    tends = one.unplaced last;
-    asks = t;
+    tends = one.stopped;
+    asks = subst (λ (x : Option C). Adds a b (Accepted (Ok x) ∷ [])) is t;
     hands = hands_none home_of h;
     kept = cause.kept;
     caused = λ e. cc;
   }
 
-  pub one_served : (number : ℕ) (a b : Option (List (HostCall C))) (h k : Option (List (Handed (Part P C)))) (n m : ℕ) (client : C) (place : P) (tickets : TicketRange) (started : Bool)
-      → Adds a b (Accepted (Ok client) ∷ []) → HasCause {E = Failed} n m (Ok client) → home_of place ≡ home → tickets ≡ tickets_of number
+  pub one_unplaced : (number : ℕ) (a b : Option (List (HostCall C))) (h : Option (List (Handed (Part P C)))) (n m : ℕ) (came : Option C) (last : C) → came ≡ Some last
+      → Adds a b (Accepted (Ok came) ∷ []) → HasCause {T = Option C} {E = Failed} n m (Ok came) → IsTendedOne home_of home number a b h h n m (Err NoMemory)
+  one_unplaced number a b h n m came last is t cause = record {
+    calls = Accepted (Ok (Some last)) ∷ [];
+    parts = [];
+    tends = one.unplaced last;
+    asks = subst (λ (x : Option C). Adds a b (Accepted (Ok x) ∷ [])) is t;
+    hands = hands_none home_of h;
+    kept = cause.kept;
+    caused = λ e. cc;
+  }
+
+  pub one_served : (number : ℕ) (a b : Option (List (HostCall C))) (h k : Option (List (Handed (Part P C)))) (n m : ℕ) (came : Option C) (client : C) (place : P) (tickets : TicketRange) (started : Bool)
+      → came ≡ Some client → Adds a b (Accepted (Ok came) ∷ []) → HasCause {T = Option C} {E = Failed} n m (Ok came) → home_of place ≡ home → tickets ≡ tickets_of number
       → Adds h k (record { part = Connection place client tickets; started = started } ∷ []) → IsTendedOne home_of home number a b h k n m (Ok tt)
-  one_served number a b h k n m client place tickets started t cause at numbered u = record {
-    calls = Accepted (Ok client) ∷ [];
+  one_served number a b h k n m came client place tickets started is t cause at numbered u = record {
+    calls = Accepted (Ok (Some client)) ∷ [];
     parts = connection home number (record { connection = client; started = started }) ∷ [];
     tends = one.served (record { connection = client; started = started });
-    asks = t;
+    asks = subst (λ (x : Option C). Adds a b (Accepted (Ok x) ∷ [])) is t;
     hands = hands_one home_of (Connection place client tickets) (Connection home client (tickets_of number)) started h k (λ i. Connection (at i) client (numbered i)) u;
     kept = cause.kept;
     caused = λ e. cc;
@@ -96,13 +108,14 @@ module _ {P H C : Type 0} (home_of : P → H) (home : H) where
       record {
         clients = s.clients ++ (client ∷ []);
         numbered = omega (arith, few, count);
-        asks = subst (Adds a c) (sym (accepts_more s.clients client)) (adds_then a b c (accepts s.clients) (Accepted (Ok client.connection) ∷ []) s.asks t);
+        asks = subst (Adds a c) (sym (accepts_more s.clients client)) (adds_then a b c (accepts s.clients) (Accepted (Ok (Some client.connection)) ∷ []) s.asks t);
         hands = subst (Hands home_of h k)
             (ap (λ (p : Handed (Part H C)). connections home 0 s.clients ++ (p ∷ [])) (at ∙ ap (λ (q : ℕ). connection home q client) (let z : length s.clients ≡ 0 + length s.clients = omega arith in z))
             ∙ sym (connections_more home 0 s.clients client))
             (hands_then home_of h i k (connections home 0 s.clients) (connection home number client ∷ []) s.hands u);
         kept = let kept = s.kept in omega (arith, kept, le);
       }
+  more_by number a b c h i k n m l s _ _ _ one.stopped e t u le = cc
   more_by number a b c h i k n m l s _ _ _ (one.closed why) e t u le = cc
   more_by number a b c h i k n m l s _ _ _ (one.unplaced last) e t u le = cc
 
@@ -115,6 +128,16 @@ module _ {P H C : Type 0} (home_of : P → H) (home : H) where
       → (calls : List (HostCall C)) (parts : List (Handed (Part H C))) (r : Result (Unit {0}) ServeEnd) → TendsOne home number calls parts r → r ≡ Err end
       → Adds b c calls → Hands home_of i k parts → m ≤ l → (end ≡ ListenerFault → Rose m l) → IsTended home_of home a c h k n l end
   last_by number a b c h i k n m l end s _ _ _ (one.served client) e t u le rose = cc
+  last_by number a b c h i k n m l end s _ _ _ one.stopped e t u le rose =
+      let is : Stopped ≡ end = cc in record {
+        calls = accepts s.clients ++ (Accepted (Ok None) ∷ []);
+        parts = connections home 0 s.clients;
+        tends = subst (Tends home (accepts s.clients ++ (Accepted (Ok None) ∷ [])) (connections home 0 s.clients)) is (stopped s.clients);
+        asks = adds_then a b c (accepts s.clients) (Accepted (Ok None) ∷ []) s.asks t;
+        hands = subst (Hands home_of h k) (append-nil (connections home 0 s.clients)) (hands_then home_of h i k (connections home 0 s.clients) [] s.hands u);
+        kept = let kept = s.kept in omega (arith, kept, le);
+        caused = λ x. let kept = s.kept in let r = rose x in omega (arith, kept, le, r);
+      }
   last_by number a b c h i k n m l end s _ _ _ (one.closed why) e t u le rose =
       let is : ListenerFault ≡ end = cc in record {
         calls = accepts s.clients ++ (Accepted (Err why) ∷ []);
@@ -127,10 +150,10 @@ module _ {P H C : Type 0} (home_of : P → H) (home : H) where
       }
   last_by number a b c h i k n m l end s _ _ _ (one.unplaced last) e t u le rose =
       let is : NoMemory ≡ end = cc in record {
-        calls = accepts s.clients ++ (Accepted (Ok last) ∷ []);
+        calls = accepts s.clients ++ (Accepted (Ok (Some last)) ∷ []);
         parts = connections home 0 s.clients;
-        tends = subst (Tends home (accepts s.clients ++ (Accepted (Ok last) ∷ [])) (connections home 0 s.clients)) is (unplaced s.clients last);
-        asks = adds_then a b c (accepts s.clients) (Accepted (Ok last) ∷ []) s.asks t;
+        tends = subst (Tends home (accepts s.clients ++ (Accepted (Ok (Some last)) ∷ [])) (connections home 0 s.clients)) is (unplaced s.clients last);
+        asks = adds_then a b c (accepts s.clients) (Accepted (Ok (Some last)) ∷ []) s.asks t;
         hands = subst (Hands home_of h k) (append-nil (connections home 0 s.clients)) (hands_then home_of h i k (connections home 0 s.clients) [] s.hands u);
         kept = let kept = s.kept in omega (arith, kept, le);
         caused = λ x. let kept = s.kept in let r = rose x in omega (arith, kept, le, r);

@@ -1,5 +1,5 @@
--- Parts as they are handed over, each seen by the home of its place: which hub it steps, and which hosts it knows.
-use Rattle.std.specs.Prelude.{◌≡◌, ℕ, ◌+◌, ◌*◌, ◌^◌, min, Bool, true, false, List, [], ◌∷◌, ◌++◌, map, replicate, Result, Ok}
+-- Parts as they are handed over, each seen by the home of its place: which hub it steps, which hosts it knows, and its limit of a message.
+use Rattle.std.specs.Prelude.{◌≡◌, ℕ, ◌+◌, ◌*◌, ◌^◌, min, Bool, true, false, List, [], ◌∷◌, ◌++◌, map, replicate, Option, Some, Result, Ok}
 use Rattle.outside.specs.Calls.{Handed, HostCall, Accepted}
 use Rattle.outside.specs.declared.parts.Part.{Part}
 use Rattle.outside.specs.declared.parts.Part.TheVariants.{Worker, Ticker, Connection, Follower}
@@ -37,7 +37,7 @@ pub record Client (C : Type 0) : Type 0 where
   pub started : Bool
 
 abbrev pub accepts : {C : Type 0} → List (Client C) → List (HostCall C)
-accepts clients = map (λ c. Accepted (Ok c.connection)) clients
+accepts clients = map (λ c. Accepted (Ok (Some c.connection))) clients
 
 -- the tickets of the connection of this number, the first one's 0: 2^32 for each of the first 2^31 connections, and none for the others
 abbrev pub tickets_of : ℕ → TicketRange

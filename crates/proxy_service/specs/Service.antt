@@ -1,11 +1,11 @@
--- What a server does outside, from its start to its end: by `Goes`, all its parts at one hub whose core was fresh, and with its hosts.
+-- What a server does outside, from its start to its end: by `Goes`, all its parts at one hub whose core was fresh, and with its hosts and its limit of a message.
 use Rattle.std.specs.Prelude.{◌≡◌, ℕ, List, Option, ◌⊎◌}
 use Rattle.outside.specs.Calls.{HostCall, Handed}
 use Rattle.outside.specs.declared.parts.Part.{Part}
 use Rattle.turn_hub.specs.Known.{Known, opening_of}
 use Rattle.turn_hub.specs.declared.view.Opening.{Opening}
 use Rattle.core_model.specs.State.{Core, first_core}
-use Rattle.serve_model.specs.Steps.{Step}
+use Rattle.server_model.specs.Steps.{Step}
 use Rattle.proxy_parts.specs.Homes.{home_of}
 use Rattle.proxy_parts.specs.declared.place.Place.{Place}
 use Rattle.proxy_service.specs.declared.ends.ServeEnd.{ServeEnd}
@@ -24,14 +24,15 @@ abbrev pub seen : {C : Type 0} → Option (List (HostCall C)) → ℕ → Option
 seen made host_faults handed spawner_faults =
     record { made = made; host_faults = host_faults; handed = handed; spawner_faults = spawner_faults }
 
--- a hub and hosts
+-- a hub, hosts, and how many bytes a message of a watch may have
 abbrev pub Home : Type 0
-Home = Known (Opening Core) Step × List (List ℕ)
+Home = Known (Opening Core) Step × List (List ℕ) × ℕ
 
--- the hub's core was fresh, and the hosts are those of the members
+-- the hub's core was fresh, the hosts are those of the members, and the limit is the service's own
 pub record IsHome (service : Service) (home : Home) : Type 0 where
   pub fresh : opening_of home.0.hub ≡ first_core service.core
   pub hosts : home.1 ≡ service.hosts
+  pub message_limit : home.2 ≡ service.message_limit
 
 -- it went at this home
 pub record Went {C : Type 0} (service : Service) (before after : Seen C) (end : ServeEnd) : Type 0 where

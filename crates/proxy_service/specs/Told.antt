@@ -1,11 +1,11 @@
 -- What a host and a spawner tell of a server between two moments, and how often each of them has failed.
-use Rattle.std.specs.Prelude.{◌≡◌, ℕ, ◌≤◌, ◌^◌, min, List, [], ◌∷◌, map, length, Option, Result, Ok, Err}
+use Rattle.std.specs.Prelude.{◌≡◌, ℕ, ◌≤◌, ◌^◌, min, List, [], ◌∷◌, map, length, Option, None, Some, Result, Ok, Err}
 use Rattle.outside.specs.Calls.{Adds, Handed, HostCall, Accepted}
 use Rattle.outside.specs.Faults.{Rose}
 use Rattle.outside.specs.declared.parts.Part.{Part}
 use Rattle.outside.specs.declared.source.Failed.{Failed}
 use Rattle.proxy_service.specs.declared.ends.ServeEnd.{ServeEnd}
-use Rattle.proxy_service.specs.declared.ends.ServeEnd.TheVariants.{NoMemory, ListenerFault, SpawnerFault}
+use Rattle.proxy_service.specs.declared.ends.ServeEnd.TheVariants.{Stopped, NoMemory, ListenerFault, SpawnerFault}
 use Rattle.proxy_service.specs.Parts.{handed_at, Client, accepts, connection, connections}
 use Rattle.proxy_service.specs.Serving.{Starts, Tends, Goes}
 
@@ -23,11 +23,12 @@ pub record IsStarted {P H C : Type 0} (home_of : P → H) (parts : List (Part H 
   pub kept : faults ≤ faults'
   pub caused : result ≡ Err SpawnerFault → Rose faults faults'
 
--- one client was served, or none came any more, or memory was wanting for its place
+-- one client was served, or the host was told to stop, or none came any more, or memory was wanting for its place
 pub data TendsOne {H C : Type 0} (home : H) (number : ℕ) : List (HostCall C) → List (Handed (Part H C)) → Result (Unit {0}) ServeEnd → Type 0 where
-  served : (client : Client C) → TendsOne home number (Accepted (Ok client.connection) ∷ []) (connection home number client ∷ []) (Ok tt)
+  served : (client : Client C) → TendsOne home number (Accepted (Ok (Some client.connection)) ∷ []) (connection home number client ∷ []) (Ok tt)
+  stopped : TendsOne home number (Accepted (Ok None) ∷ []) [] (Err Stopped)
   closed : (why : Failed) → TendsOne home number (Accepted (Err why) ∷ []) [] (Err ListenerFault)
-  unplaced : (last : C) → TendsOne home number (Accepted (Ok last) ∷ []) [] (Err NoMemory)
+  unplaced : (last : C) → TendsOne home number (Accepted (Ok (Some last)) ∷ []) [] (Err NoMemory)
 
 pub record IsTendedOne {P H C : Type 0} (home_of : P → H) (home : H) (number : ℕ) (made made' : Option (List (HostCall C))) (handed handed' : Option (List (Handed (Part P C)))) (faults faults' : ℕ) (result : Result (Unit {0}) ServeEnd) : Type 0 where
   pub calls : List (HostCall C)

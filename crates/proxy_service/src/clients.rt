@@ -4,7 +4,7 @@ ghost use Rattle.proxy_service.specs.Told.{IsTended, IsTendedOne};
 
 use crate::ends::ServeEnd;
 use crate::places::{NUMBERED, for_connection, tickets_of};
-use outside::{Host, Part, Spawner};
+use outside::{Failed, Host, Part, Spawner};
 use proxy_parts::Place;
 use std::sync::Wait;
 
@@ -25,18 +25,21 @@ fn serve_client<H: Host, P: Spawner<Pass = Place, Conn = H::Conn>>(
     ensures stays { home_of place.new ≡ home_of place.old }
     ensures tended { IsTendedOne home_of (home_of place.old) number (H.made host.old) (H.made host.new) (P.handed spawner.old) (P.handed spawner.new) (H.faults host.old) (H.faults host.new) result }
 {
-    let Ok(client) = host.accept() else {
-        return Err(ServeEnd::ListenerFault);
-    };
-    let tickets = tickets_of(number);
-    let Ok(seat) = for_connection(place, tickets) else {
-        return Err(ServeEnd::NoMemory);
-    };
-    let _ = spawner.start(Part::Connection(seat, client, tickets));
-    Ok(())
+    match host.accept() {
+        Ok(Some(client)) => {
+            let tickets = tickets_of(number);
+            let Ok(seat) = for_connection(place, tickets) else {
+                return Err(ServeEnd::NoMemory);
+            };
+            let _ = spawner.start(Part::Connection(seat, client, tickets));
+            Ok(())
+        }
+        Ok(None) => Err(ServeEnd::Stopped),
+        Err(Failed) => Err(ServeEnd::ListenerFault),
+    }
 }
 
-/// Serves one client after the other, each by a part of its own, until no further one can come.
+/// Serves one client after the other, each by a part of its own, until no further one can come or is wanted.
 pub(crate) fn serve_clients<R: Wait, H: Host, P: Spawner<Pass = Place, Conn = H::Conn>>(
     rt: &R,
     place: &mut Place,

@@ -4,6 +4,9 @@ use thiserror::Error;
 /// Why a server serves no further client.
 #[derive(Clone, Copy, Debug, PartialEq, Eq, Error)]
 pub enum ServeEnd {
+    /// The host was told to stop: no further client is wanted.
+    #[error("stopped")]
+    Stopped,
     /// Memory was wanting.
     #[error("no memory")]
     NoMemory,

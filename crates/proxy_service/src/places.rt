@@ -14,7 +14,7 @@ pub(crate) const NUMBERED: u64 = 1 << 31;
 /// So many tickets a connection has.
 const TICKETS: u64 = 1 << 32;
 
-/// A further place at the same hub, with the same hosts.
+/// A further place at the same hub, with the same hosts and the same limit of a message.
 pub(crate) fn beside(place: &mut Place) -> Result<Place, NoMemory>
     ensures stays { home_of place.new ≡ home_of place.old }
     ensures home { IfOk result (λ further. home_of further ≡ home_of place.old) }
@@ -22,7 +22,13 @@ pub(crate) fn beside(place: &mut Place) -> Result<Place, NoMemory>
     let hub = Arc::try_clone(&place.hub)?;
     let hosts = Arc::try_clone(&place.hosts)?;
     let pass = place.hub.split(&mut place.pass);
-    Ok(Place { hub, hosts, pass })
+    let message_limit = place.message_limit;
+    Ok(Place {
+        hub,
+        hosts,
+        message_limit,
+        pass,
+    })
 }
 
 /// A place for a worker, which rests among the others.

@@ -19,17 +19,28 @@ use std::sync::{Arc, Wait};
 use turn_hub::Hub;
 
 /// The first place at a hub of its own, whose core is fresh.
-fn first_place(alloc: Global, settings: Settings, hosts: List<Bytes>) -> Result<Place, NoMemory>
+fn first_place(
+    alloc: Global,
+    settings: Settings,
+    hosts: List<Bytes>,
+    message_limit: usize,
+) -> Result<Place, NoMemory>
     requires members { 1 ≤ settings.members }
     requires hosts { settings.members ≡ length hosts }
     ensures fresh { IfOk result (λ place. opening_of (home_of place).0.hub ≡ first_core settings) }
     ensures hosts { IfOk result (λ place. (home_of place).1 ≡ hosts) }
+    ensures message_limit { IfOk result (λ place. (home_of place).2 ≡ message_limit) }
 {
     let core = <Core as ProxyCore>::new(alloc, settings)?;
     let (hub, pass) = Hub::new(alloc, core)?;
     let hub = Arc::new(alloc, hub)?;
     let hosts = Arc::new(alloc, hosts)?;
-    Ok(Place { hub, hosts, pass })
+    Ok(Place {
+        hub,
+        hosts,
+        message_limit,
+        pass,
+    })
 }
 
 /// Serves clients until no further one can come: it listens, starts its workers and its ticker, and then a part for each client that it
@@ -51,8 +62,9 @@ pub fn serve<R: Wait, H: Host, P: Spawner<Pass = Place, Conn = H::Conn>>(
         hosts,
         listen,
         workers,
+        message_limit,
     } = service;
-    let Ok(mut place) = first_place(alloc, core, hosts) else {
+    let Ok(mut place) = first_place(alloc, core, hosts, message_limit) else {
         return ServeEnd::NoMemory;
     };
     if let Err(Failed) = host.listen(&listen) {

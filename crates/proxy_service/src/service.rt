@@ -12,4 +12,6 @@ pub struct Service {
     pub listen: Bytes,
     /// How many workers make calls.
     pub workers: u32,
+    /// How many bytes a message of a watch may have that a member sends.
+    pub message_limit: usize,
 }

@@ -1,13 +1,12 @@
 ghost use Rattle.std.specs.Prelude.{◌≡◌, IsTrue};
-ghost use Rattle.serve_model.specs.Dialog.{is_worn};
-ghost use Rattle.stream_model.specs.Parts.{Feeds, IsCut, is_for_memory, end_of};
+ghost use Rattle.server_model.specs.Dialog.{is_worn};
+ghost use Rattle.server_model.specs.StreamParts.{Feeds, IsCut, is_for_memory, end_of};
 
 use core_model::{CoreEvent, Outcome, StepFault};
 use etcd_types::WatchItem;
-use outside::{Clock, ReadMark, Source};
+use outside::{AnswerEnd, Clock, ReadMark, Source};
 use proxy_server::Turn;
-use serve_model::TurnFault;
-use stream_model::StreamEnd;
+use server_model::{StreamEnd, StreamStop, TurnFault};
 
 /// How long a stream that brought no event lasts at the least, in milliseconds: a core opens a stream that was cut again, and
 /// one that always ends at once would turn for ever.
@@ -42,6 +41,11 @@ pub(crate) fn linger<C: Clock>(clock: &mut C, eventful: bool) {
     if !eventful {
         clock.pause(PAUSE);
     }
+}
+
+/// Lets some time pass where a stream stops that brought no event, or a line that is too long to be read.
+pub(crate) fn linger_behind<C: Clock>(clock: &mut C, eventful: bool, stop: StreamStop) {
+    linger(clock, eventful && stop.read != AnswerEnd::TooLong);
 }
 
 /// Cuts the stream.

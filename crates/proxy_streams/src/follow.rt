@@ -1,16 +1,16 @@
 ghost use Rattle.std.specs.Prelude.{◌≡◌, IsTrue};
-ghost use Rattle.stream_model.specs.Following.{Following, is_cancel};
-ghost use Rattle.stream_model.specs.Parts.{IsFollowed};
+ghost use Rattle.server_model.specs.Following.{Following, is_cancel};
+ghost use Rattle.server_model.specs.StreamParts.{IsFollowed};
 
-use crate::feed::{cut, feed_from, linger};
+use crate::feed::{cut, feed_from, linger, linger_behind};
 use crate::next::{cut_at, next, open};
 use etcd_types::WatchItem;
 use http_wire::Wire;
 use outside::{CallKind, Clock, Follow, Link, LinkFault, Source};
 use proxy_server::Turn;
+use server_model::{StreamEnd, StreamStop};
 use std::alloc::Global;
 use std::sync::Wait;
-use stream_model::{Stop, StreamEnd};
 
 /// Whether a message brings events.
 fn has_events(item: &WatchItem) -> bool {
@@ -32,7 +32,7 @@ fn is_refusal(item: &WatchItem) -> bool {
     matches!(item, WatchItem::Canceled { compact: 0, .. })
 }
 
-/// Follows a stream that was begun, until it ends: reads the answer that its source gives, feeds each of its messages to the turn,
+/// Follows a stream that was begun, until it ends: reads the answer that its source gives, in lines of at most so many bytes, feeds each of its messages to the turn,
 /// and cuts the stream at the end, but where the core doesn't know it any more or no further step can be made. A message that cancels
 /// the watch is the last one: a member leaves such a stream open.
 fn follow_on<R: Wait, T: Turn, S: Source, C: Clock>(
@@ -41,12 +41,13 @@ fn follow_on<R: Wait, T: Turn, S: Source, C: Clock>(
     turn: &mut T,
     clock: &mut C,
     stream: u64,
+    most: usize,
     source: &mut S,
-) -> Stop
+) -> StreamStop
     ensures home { T.home turn.new ≡ T.home turn.old }
     ensures late { IsTrue (T.worn turn.old) → IsTrue (T.worn turn.new) }
     ensures allowed { T.allowed turn.old → T.allowed turn.new }
-    ensures following { Following (IsTrue (T.worn turn.new)) stream
+    ensures following { Following (IsTrue (T.worn turn.new)) most stream
         (S.left source.old) (S.faults source.old) (S.faults source.new)
         (T.made turn.old) (T.made turn.new) result.read result.end }
 {
@@ -59,17 +60,17 @@ fn follow_on<R: Wait, T: Turn, S: Source, C: Clock>(
         Err(stop) => {
             linger(clock, false);
             let end = cut(turn, clock, stream, stop.end);
-            return Stop { end, ..stop };
+            return StreamStop { end, ..stop };
         }
     };
     let mut eventful = false;
     'messages: for _ in rt.forever() {
-        let item = match next(alloc, &mut wire, source, &mut framing) {
+        let item = match next(alloc, &mut wire, source, &mut framing, most) {
             Ok(item) => item,
             Err(stop) => {
-                linger(clock, eventful);
+                linger_behind(clock, eventful, stop);
                 let end = cut(turn, clock, stream, stop.end);
-                return Stop { end, ..stop };
+                return StreamStop { end, ..stop };
             }
         };
         if is_refusal(&item) {
@@ -86,7 +87,7 @@ fn follow_on<R: Wait, T: Turn, S: Source, C: Clock>(
     unreachable!()
 }
 
-/// Begins the stream that is named on the link, follows it, and gives its answer back. Where it can't be begun, it is cut at once.
+/// Begins the stream that is named on the link, follows it, with lines of at most `most` bytes, and gives its answer back. Where it can't be begun, it is cut at once.
 pub fn follow_stream<R: Wait, T: Turn, L: Link, C: Clock>(
     rt: &R,
     alloc: Global,
@@ -94,11 +95,12 @@ pub fn follow_stream<R: Wait, T: Turn, L: Link, C: Clock>(
     clock: &mut C,
     link: &mut L,
     follow: &Follow,
+    most: usize,
 ) -> StreamEnd
     ensures home { T.home turn.new ≡ T.home turn.old }
     ensures late { IsTrue (T.worn turn.old) → IsTrue (T.worn turn.new) }
     ensures allowed { T.allowed turn.old → T.allowed turn.new }
-    ensures followed { IsFollowed (IsTrue (T.worn turn.new)) follow.now
+    ensures followed { IsFollowed (IsTrue (T.worn turn.new)) most follow.now
         (L.made link.old) (L.made link.new) (L.faults link.old) (L.faults link.new)
         (T.made turn.old) (T.made turn.new) result }
 {
@@ -106,7 +108,7 @@ pub fn follow_stream<R: Wait, T: Turn, L: Link, C: Clock>(
     match link.begin(follow.member, kind, follow.call.as_slice()) {
         Ok(answer) => {
             let mut source = answer;
-            let stop = follow_on(rt, alloc, turn, clock, follow.stream, &mut source);
+            let stop = follow_on(rt, alloc, turn, clock, follow.stream, most, &mut source);
             link.end(source, stop.read);
             stop.end
         }

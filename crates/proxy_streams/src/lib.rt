@@ -1,5 +1,5 @@
 //! Streams of members, followed: each message of a stream is fed to a turn as it comes. What following a stream is stands in
-//! `stream_model`.
+//! `server_model`.
 #![tactic(auto)]
 
 mod feed;
@@ -7,4 +7,4 @@ mod follow;
 mod next;
 
 pub use follow::follow_stream;
-pub use stream_model::StreamEnd;
+pub use server_model::StreamEnd;

@@ -1,15 +1,15 @@
-ghost use Rattle.std.specs.Prelude.{◌≡◌, ◌≤◌, None, IfOk};
+ghost use Rattle.std.specs.Prelude.{◌≡◌, ◌≤◌, ℕ, None, IfOk};
 ghost use Rattle.http_wire.specs.Connections.{bytes_ahead};
-ghost use Rattle.stream_model.specs.Parts.{Opens, Nexts, cut_at, stop_by};
-ghost use Rattle.stream_model.specs.Following.{end_by};
+ghost use Rattle.server_model.specs.StreamParts.{Opens, Nexts, cut_at, stop_by};
+ghost use Rattle.server_model.specs.Following.{end_by};
 
 use api_reply::decode_item;
 use etcd_types::WatchItem;
-use http_wire::{Framing, LINE_LIMIT, Wire, WireFault};
+use http_wire::{Framing, Wire, WireFault};
 use json_model::NotReply;
 use outside::{AnswerEnd, Source};
+use server_model::{StreamEnd, StreamStop};
 use std::alloc::Global;
-use stream_model::{Stop, StreamEnd};
 
 /// How following a stream ends by a fault of its wire.
 fn end_by(fault: WireFault) -> StreamEnd
@@ -22,12 +22,12 @@ fn end_by(fault: WireFault) -> StreamEnd
 }
 
 /// How a stream stops by a fault in its body: the answer counts as too long where a line passed the limit.
-fn stop_by(fault: WireFault) -> Stop
+fn stop_by(fault: WireFault) -> StreamStop
     ensures { result ≡ stop_by fault }
 {
     match fault {
         WireFault::NoMemory => cut_at(StreamEnd::NoMemory),
-        WireFault::BodyTooLong => Stop {
+        WireFault::BodyTooLong => StreamStop {
             end: StreamEnd::Cut,
             read: AnswerEnd::TooLong,
         },
@@ -41,21 +41,21 @@ fn stop_by(fault: WireFault) -> Stop
 }
 
 /// The end of a stream whose answer isn't read on.
-pub(crate) fn cut_at(end: StreamEnd) -> Stop
+pub(crate) fn cut_at(end: StreamEnd) -> StreamStop
     ensures { result ≡ cut_at end }
 {
-    Stop {
+    StreamStop {
         end,
         read: AnswerEnd::Broken,
     }
 }
 
-/// Reads the head of the answer, which has to have status 200.
-pub(crate) fn open<S: Source>(wire: &mut Wire, source: &mut S) -> Result<Framing, Stop>
+/// Reads the head of the answer, which has to have status 200. What is told of its end holds by any limit of lines.
+pub(crate) fn open<S: Source>(wire: &mut Wire, source: &mut S) -> Result<Framing, StreamStop>
     requires sound { wire.old.fault ≡ None }
     ensures sound { IfOk result (λ framing. wire.new.fault ≡ None) }
     ensures kept { S.faults source.old ≤ S.faults source.new }
-    ensures opens { Opens
+    ensures opens { (most : ℕ) → Opens most
         (bytes_ahead (S.left source.old) wire.old) (bytes_ahead (S.left source.new) wire.new)
         (S.faults source.old) (S.faults source.new) result }
 {
@@ -71,21 +71,22 @@ pub(crate) fn open<S: Source>(wire: &mut Wire, source: &mut S) -> Result<Framing
     }
 }
 
-/// Reads the next line, which has to be a message.
+/// Reads the next line, of at most so many bytes, which has to be a message.
 pub(crate) fn next<S: Source>(
     alloc: Global,
     wire: &mut Wire,
     source: &mut S,
     framing: &mut Framing,
-) -> Result<WatchItem, Stop>
+    most: usize,
+) -> Result<WatchItem, StreamStop>
     requires sound { wire.old.fault ≡ None }
     ensures sound { IfOk result (λ item. wire.new.fault ≡ None) }
     ensures kept { S.faults source.old ≤ S.faults source.new }
-    ensures nexts { Nexts framing.old framing.new
+    ensures nexts { Nexts most framing.old framing.new
         (bytes_ahead (S.left source.old) wire.old) (bytes_ahead (S.left source.new) wire.new)
         (S.faults source.old) (S.faults source.new) result }
 {
-    let line = match wire.next_line(source, framing, LINE_LIMIT) {
+    let line = match wire.next_line(source, framing, most) {
         Ok(Some(line)) => line,
         Ok(None) => return Err(cut_at(StreamEnd::Cut)),
         Err(fault) => return Err(stop_by(fault)),

@@ -6,11 +6,11 @@ use Rattle.outside.specs.declared.parts.Part.{Part}
 use Rattle.etcd_types.specs.declared.request.Request.{Request}
 use Rattle.core_model.specs.declared.event.CoreEvent.{CoreEvent}
 use Rattle.core_model.specs.declared.event.CoreEvent.TheVariants.{Cut}
-use Rattle.serve_model.specs.Steps.{Step}
-use Rattle.work_model.specs.declared.ends.WorkEnd.{WorkEnd}
-use Rattle.work_model.specs.Calls.{call_of}
-use Rattle.work_model.specs.Working.{IsAt, IsFed, IsHandedOver, follower}
-use Rattle.work_model.proofs.Works.{was_begun, was_refused}
+use Rattle.server_model.specs.Steps.{Step}
+use Rattle.server_model.specs.declared.ends.WorkEnd.{WorkEnd}
+use Rattle.server_model.specs.Calls.{call_of}
+use Rattle.server_model.specs.Working.{IsAt, IsFed, IsHandedOver, follower}
+use Rattle.server_model.proofs.Works.{was_begun, was_refused}
 use Rattle.proxy_workers.specs.Handed.{IsFollower}
 
 -- what was fed, from another name of what was told before

@@ -2,8 +2,8 @@
 use Rattle.std.specs.Prelude.{◌≡◌, ℕ, List}
 use Rattle.outside.specs.declared.parts.Part.{Part}
 use Rattle.etcd_types.specs.declared.request.Request.{Request}
-use Rattle.work_model.specs.Calls.{call_of}
-use Rattle.work_model.specs.Working.{IsAt, follower}
+use Rattle.server_model.specs.Calls.{call_of}
+use Rattle.server_model.specs.Working.{IsAt, follower}
 
 -- the stream of a request to a host, with a place at this home
 abbrev pub IsFollower : {P C H : Type 0} → (P → H) → H → List ℕ → ℕ → ℕ → Request → Part P C → Type 0

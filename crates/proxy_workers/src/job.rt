@@ -1,5 +1,5 @@
 ghost use Rattle.std.specs.Prelude.{◌≡◌, IfOk, IsTrue};
-ghost use Rattle.work_model.specs.Working.{IsAt, IsCallMade, IsDone, IsHandedOver, host_of, ledger, lost_end};
+ghost use Rattle.server_model.specs.Working.{IsAt, IsCallMade, IsDone, IsHandedOver, host_of, ledger, lost_end};
 ghost use Rattle.proxy_workers.specs.Handed.{IsFollower};
 
 use crate::seats::Seats;
@@ -9,8 +9,8 @@ use etcd_types::{Bytes, List, NoMemory, Request};
 use outside::{Clock, Follow, Link, Part, Spawner};
 use proxy_calls::{call_bytes, kind_of, make_call};
 use proxy_server::Turn;
+use server_model::{CallFault, WorkEnd};
 use std::alloc::Global;
-use work_model::{CallFault, WorkEnd};
 
 /// How long a worker pauses where nobody could be started to follow a stream, in milliseconds: a core begins a stream that was cut
 /// again at once, and would turn for ever.

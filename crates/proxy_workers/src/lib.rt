@@ -1,4 +1,4 @@
-//! Workers of a proxy: each draws what is due and makes it, one job after the other. What that is stands in `work_model`.
+//! Workers of a proxy: each draws what is due and makes it, one job after the other. What that is stands in `server_model`.
 #![tactic(auto)]
 
 mod job;
@@ -7,5 +7,5 @@ mod steps;
 mod turns;
 
 pub use seats::Seats;
+pub use server_model::WorkEnd;
 pub use turns::work;
-pub use work_model::WorkEnd;

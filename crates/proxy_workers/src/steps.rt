@@ -1,13 +1,12 @@
 ghost use Rattle.std.specs.Prelude.{◌≡◌, Err, IsTrue};
-ghost use Rattle.serve_model.specs.Dialog.{is_worn};
-ghost use Rattle.work_model.specs.Working.{IsFed, IsReported, is_full};
+ghost use Rattle.server_model.specs.Dialog.{is_worn};
+ghost use Rattle.server_model.specs.Working.{IsFed, IsReported, is_full};
 
 use core_model::{CoreEvent, StepFault};
 use etcd_types::Answer;
 use outside::Clock;
 use proxy_server::Turn;
-use serve_model::TurnFault;
-use work_model::WorkEnd;
+use server_model::{TurnFault, WorkEnd};
 
 /// Whether the turn makes no more steps.
 fn is_worn(fault: TurnFault) -> bool

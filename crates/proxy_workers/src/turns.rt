@@ -1,6 +1,6 @@
 ghost use Rattle.std.specs.Prelude.{◌≡◌, IsTrue};
-ghost use Rattle.serve_model.specs.Steps.{FitsOutcome};
-ghost use Rattle.work_model.specs.Working.{IsAt, IsDrawn, IsWorked, ended_by, ledger};
+ghost use Rattle.server_model.specs.Steps.{FitsOutcome};
+ghost use Rattle.server_model.specs.Working.{IsAt, IsDrawn, IsWorked, ended_by, ledger};
 
 use crate::job::do_job;
 use crate::seats::Seats;
@@ -8,10 +8,9 @@ use core_model::{CoreEvent, Job, Outcome, StepFault};
 use etcd_types::{Bytes, List};
 use outside::{Clock, Link, Spawner};
 use proxy_server::Turn;
-use serve_model::TurnFault;
+use server_model::{TurnFault, WorkEnd};
 use std::alloc::Global;
 use std::sync::Wait;
-use work_model::WorkEnd;
 
 /// How a worker's turns end by a fault of a step or of a rest.
 fn ended_by(fault: TurnFault) -> WorkEnd

@@ -5,9 +5,9 @@ use Rattle.core_model.specs.declared.event.CoreEvent.TheVariants.{Ask, Take, Wor
 use Rattle.core_model.specs.declared.event.Outcome.{Outcome}
 use Rattle.core_model.specs.declared.event.Outcome.TheVariants as outcome
 use Rattle.core_model.specs.declared.event.StepFault.TheVariants as step
-use Rattle.serve_model.specs.declared.fault.TurnFault.{TurnFault}
-use Rattle.serve_model.specs.declared.fault.TurnFault.TheVariants as turn
-use Rattle.serve_model.specs.Steps.{Step, FitsOutcome, Fits, IsOfRest, MadeBy, Rested}
+use Rattle.server_model.specs.declared.fault.TurnFault.{TurnFault}
+use Rattle.server_model.specs.declared.fault.TurnFault.TheVariants as turn
+use Rattle.server_model.specs.Steps.{Step, FitsOutcome, Fits, IsOfRest, MadeBy, Rested}
 use Rattle.turn_hub.specs.History.{entry_of}
 use Rattle.serve_trial.specs.Alone.{IsWork}
 use Rattle.serve_trial.specs.Outcomes.{IsAsked, IsTaken}

@@ -4,7 +4,7 @@ use Rattle.turn_hub.specs.History.{entry_of}
 use Rattle.core_model.specs.declared.event.CoreEvent.{CoreEvent}
 use Rattle.serve_trial.specs.declared.alone.Noted.{Noted}
 use Rattle.serve_trial.specs.declared.alone.Alone.{Alone}
-use Rattle.serve_model.specs.Steps.{Step, is_own}
+use Rattle.server_model.specs.Steps.{Step, is_own}
 
 -- its rest steps on anything but Ask, Take and Leave
 abbrev pub IsWork : CoreEvent → Type 0

@@ -1,12 +1,12 @@
 ghost use Rattle.std.specs.Prelude.{◌≡◌, true, [], Some};
-ghost use Rattle.serve_model.specs.Steps.{MadeBy, Fits};
+ghost use Rattle.server_model.specs.Steps.{MadeBy, Fits};
 ghost use Rattle.serve_trial.specs.Alone.{told, IsWork};
 
 use crate::small::Core;
 use core_model::{CoreEvent, Outcome, StepFault};
 use outside::{Clock, Machine};
 use proxy_server::Turn;
-use serve_model::TurnFault;
+use server_model::TurnFault;
 use std::alloc::Global;
 use std::snapshot::Snapshot;
 

@@ -3,9 +3,11 @@
 #![tactic(auto)]
 
 mod alone;
+mod healthy;
 mod small;
 
 pub use alone::Alone;
+pub use healthy::Healthy;
 pub use small::Core;
 
 #[cfg(test)]

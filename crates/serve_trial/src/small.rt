@@ -1,10 +1,11 @@
-ghost use Rattle.serve_model.specs.Steps.{FitsAnswer};
+ghost use Rattle.server_model.specs.Steps.{FitsAnswer};
 ghost use Rattle.serve_trial.specs.Outcomes.{IsAsked, IsTaken};
 
 use core_model::{CoreEvent, Outcome, StepFault};
 use etcd_types::{Answer, Bytes, Header, Refusal, Request, WatchItem};
 use outside::Machine;
 use std::alloc::Global;
+use told_items::Told;
 
 /// A stand-in for the proxy's core. It answers a put at once and everything else at a later step; a watch gets its first message
 /// and then its last. The tickets up to some number are in use.
@@ -73,7 +74,7 @@ impl Core {
         }
         self.rested = false;
         if self.watched {
-            Outcome::Item(self.message())
+            Outcome::Item(Told::alone(self.message()))
         } else {
             Outcome::Replied(self.refusal())
         }

@@ -106,6 +106,10 @@ impl<R: Times + Wait + RandomSource + Drop + Copy + Send + 'static> Ends for Tri
         SeededDraw::new(&self.rt).ok()
     }
 
+    fn one_answers(&self) -> bool {
+        true
+    }
+
     fn open(&self, client: u32) -> Result<(MemSource, TrialSink<R>), NoMemory> {
         let asked = Vec::from_slice(self.alloc, self.board.plan.asked())?;
         let mut failing = Vec::new(self.alloc);

@@ -18,7 +18,7 @@ use crate::settings::{clients, service};
 use crate::starts::{Fails, started};
 use etcd_types::NoMemory;
 use outside::{MemHost, Spawner};
-use part_threads::Server;
+use part_threads::spawner_of;
 use proxy_parts::Place;
 use proxy_service::serve;
 use std::alloc::Global;
@@ -95,7 +95,7 @@ fn ends_of<R: Wait + Times + Copy + Drop>(
     Ok((ends, board))
 }
 
-/// Shows how a server ends where each start of a part, and then each call of the host, fails.
+/// Shows how a server ends where each start of a part, and then each call of the host, fails, and where the host is told to stop.
 fn show_failing<R: Wait + Print>(rt: &R, alloc: Global) -> io::Result<()> {
     for number in 1..=5u64 {
         if let Ok((end, parts)) = started(rt, alloc, Fails::Start(number)) {
@@ -107,6 +107,9 @@ fn show_failing<R: Wait + Print>(rt: &R, alloc: Global) -> io::Result<()> {
             println!(rt; "call {number} fails: {end}, {parts} parts")?;
         }
     }
+    if let Ok((end, parts)) = started(rt, alloc, Fails::Nothing) {
+        println!(rt; "no call fails: {end}, {parts} parts")?;
+    }
     Ok(())
 }
 
@@ -116,7 +119,7 @@ fn main(rt: HostRuntime) -> io::Result<()> {
         let Ok((ends, board)) = ends_of(rt, alloc, plan) else {
             return println!(rt; "no memory");
         };
-        let Some(mut spawner) = Server::new(rt, alloc, ends) else {
+        let Some(mut spawner) = spawner_of(rt, alloc, ends) else {
             return println!(rt; "no memory or no thread");
         };
         if serve_clients(&rt, alloc, &board, &mut spawner).is_err() {

@@ -22,6 +22,7 @@ pub(crate) fn service(alloc: Global) -> Result<Service, NoMemory>
         hosts,
         listen: Bytes::from_slice(alloc, b"here:1")?,
         workers: 2,
+        message_limit: 8_388_608,
     })
 }
 

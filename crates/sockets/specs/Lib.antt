@@ -1,4 +1,1 @@
-pub mod Answers
-pub mod Limits
 pub mod Phases
-pub mod Sent

@@ -1,10 +1,12 @@
-ghost use Rattle.std.specs.Prelude.{◌≡◌, None};
+ghost use Rattle.std.specs.Prelude.{◌≡◌, ◌≤◌, None};
+ghost use Rattle.outside.specs.Faults.{Rose};
 
+use crate::door::{Client, Door};
 use crate::halt::Halt;
-use crate::lively::keep_lively;
-use crate::log::line_time;
 use etcd_types::Bytes;
 use outside::{Failed, Host};
+use socket_limits::{keep_lively, line_time};
+use state_file::Sessions;
 use std::alloc::Global;
 use std::io::ErrorKind;
 use std::marker::Model;
@@ -30,6 +32,10 @@ pub struct SocketHost<R: Drop> {
     left: u64,
     // by what it is told to accept no more, where anybody may tell it so
     halt: Option<Arc<Halt, Global>>,
+    // what lets connections in, where there may be so many alone
+    door: Option<Door>,
+    // the sessions of the process, where it is to keep any
+    sessions: Option<Arc<Sessions, Global>>,
     pub(crate) faults: u64,
 }
 
@@ -51,6 +57,8 @@ impl<R: Drop> SocketHost<R> {
             listener: None,
             left: MOST,
             halt: None,
+            door: None,
+            sessions: None,
             faults: 0,
         }
     }
@@ -62,12 +70,34 @@ impl<R: Drop> SocketHost<R> {
         SocketHost { left: most, ..self }
     }
 
+    /// The same host, which listens only where these are kept as was asked for.
+    pub fn keeping(self, sessions: Arc<Sessions, Global>) -> SocketHost<R>
+        ensures { result ≡ self }
+    {
+        SocketHost {
+            sessions: Some(sessions),
+            ..self
+        }
+    }
+
     /// The same host, which accepts no more once this is called.
     pub fn until(self, halt: Arc<Halt, Global>) -> SocketHost<R>
         ensures { result ≡ self }
     {
         SocketHost {
             halt: Some(halt),
+            ..self
+        }
+    }
+}
+
+impl<R: Drop> SocketHost<R> {
+    /// The same host, which lets in as many connections as there is room for.
+    pub fn through(self, door: Door) -> SocketHost<R>
+        ensures { result ≡ self }
+    {
+        SocketHost {
+            door: Some(door),
             ..self
         }
     }
@@ -108,6 +138,22 @@ impl<R: Net<Listener = TcpListener, Stream = TcpStream> + Wait + Times + Eprint 
         }
     }
 
+    // Whether sessions are kept as was asked for.
+    fn check(&self) -> io::Result<()> {
+        match &self.sessions {
+            Some(sessions) => sessions.check(&self.rt),
+            None => Ok(()),
+        }
+    }
+
+    // Whether it is told to stop.
+    fn stops(&self) -> bool {
+        match &self.halt {
+            Some(halt) => halt.stops(),
+            None => false,
+        }
+    }
+
     // Counts a further connection, where one may come.
     fn count(&mut self) -> io::Result<()>
         ensures { self.new.faults ≡ self.old.faults }
@@ -134,55 +180,101 @@ impl<R: Net<Listener = TcpListener, Stream = TcpStream> + Wait + Times + Eprint 
         Ok(stream)
     }
 
-    // The next connection, where a further one may come.
-    fn next(&mut self) -> io::Result<TcpStream>
+    // The same connection as a client, where there is room for it.
+    fn admitted(&self, stream: TcpStream) -> Option<Client> {
+        match &self.door {
+            Some(door) => door.admit(&self.rt, stream),
+            None => Some(Client::from(stream)),
+        }
+    }
+
+    // The next client for which there is room, or none where it is told to stop. Who connects then is refused.
+    fn client(&self) -> io::Result<Option<Client>> {
+        for _ in self.rt.forever() {
+            let stream = self.accepted()?;
+            if self.stops() {
+                return Ok(None);
+            }
+            if let Some(client) = self.admitted(stream) {
+                return Ok(Some(client));
+            }
+        }
+        unreachable!()
+    }
+
+    // Says how many connections there may be.
+    fn tell_room(&self) {
+        if let Some(door) = &self.door {
+            let when = line_time(&self.rt);
+            let most = door.most();
+            let _ = eprintln!(self.rt;
+                "{when:.3} INFO etcd_proxy: at most {most} connections are served at once"
+            );
+        }
+    }
+
+    // The next client, where a further one may come, or none where it is told to stop.
+    fn next(&mut self) -> io::Result<Option<Client>>
         ensures { self.new.faults ≡ self.old.faults }
     {
-        self.count()?;
-        self.accepted()
+        if !self.stops() {
+            self.count()?;
+            if let Some(client) = self.client()? {
+                return Ok(Some(client));
+            }
+        }
+        self.listener = None;
+        Ok(None)
+    }
+
+    // Counts a failure, and says why.
+    fn fail(&mut self, what: &str, whom: &str, error: &io::Error) -> Failed
+        ensures rose { Rose self.old.faults self.new.faults }
+        ensures kept { self.old.faults ≤ self.new.faults }
+    {
+        let when = line_time(&self.rt);
+        let _ = eprintln!(self.rt; "{when:.3} ERROR etcd_proxy: {what}{whom}: {error}");
+        self.faults = self.faults.saturating_add(1);
+        Failed
+    }
+
+    // Listens on an address.
+    fn hear(&mut self, address: &str) -> io::Result<()>
+        ensures { self.new.faults ≡ self.old.faults }
+    {
+        let listener = TcpListener::bind(&self.rt, address)?;
+        if let Some(halt) = &self.halt {
+            halt.listens(&self.rt, listener.local_addr().ok());
+        }
+        self.listener = Some(listener);
+        self.tell_room();
+        Ok(())
     }
 }
 
 impl<R: Net<Listener = TcpListener, Stream = TcpStream> + Wait + Times + Eprint + Drop> Host
     for SocketHost<R> {
-    type Conn = TcpStream;
+    type Conn = Client;
 
     ghost made = { λ h. None };
 
     ghost faults = { λ h. h.faults };
 
     fn listen(&mut self, address: &Bytes) -> Result<(), Failed> {
+        if let Err(error) = self.check() {
+            return Err(self.fail("can't keep sessions in the state file", "", &error));
+        }
         let address = str::from_utf8(address.as_slice()).unwrap_or("");
-        match TcpListener::bind(&self.rt, address) {
-            Ok(listener) => {
-                if let Some(halt) = &self.halt {
-                    halt.listens(&self.rt, listener.local_addr().ok());
-                }
-                self.listener = Some(listener);
-                Ok(())
-            }
-            Err(error) => {
-                let when = line_time(&self.rt);
-                let _ = eprintln!(self.rt;
-                    "{when:.3} ERROR etcd_proxy: can't listen on {address}: {error}"
-                );
-                self.faults = self.faults.saturating_add(1);
-                Err(Failed)
-            }
+        match self.hear(address) {
+            Ok(()) => Ok(()),
+            Err(error) => Err(self.fail("can't listen on ", address, &error)),
         }
     }
 
-    fn accept(&mut self) -> Result<TcpStream, Failed> {
+    fn accept(&mut self) -> Result<Option<Client>, Failed> {
         match self.next() {
-            Ok(stream) => Ok(stream),
-            Err(error) => {
-                let when = line_time(&self.rt);
-                let _ = eprintln!(self.rt;
-                    "{when:.3} ERROR etcd_proxy: no more connections are accepted: {error}"
-                );
-                self.faults = self.faults.saturating_add(1);
-                Err(Failed)
-            }
+            Ok(came) => Ok(came),
+            Err(error) => Err(self.fail("no more connections are accepted", "", &error)),
         }
     }
 }

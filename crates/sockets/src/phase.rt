@@ -1,8 +1,8 @@
 ghost use Rattle.std.specs.Prelude.{◌≡◌};
 ghost use Rattle.sockets.specs.Phases.{is_between, IsWithin};
 
-use crate::times::Until;
 use outside::ReadMark;
+use socket_limits::Until;
 
 /// What is read next of a client's connection.
 #[derive(Clone, Copy, Debug)]

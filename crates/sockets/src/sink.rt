@@ -1,8 +1,8 @@
 ghost use Rattle.std.specs.Prelude.{◌≡◌, None};
 
 use crate::connection::Shared;
-use crate::times::{TRIES, Until};
 use outside::{Failed, Sink, WriteMark};
+use socket_limits::{TRIES, Until};
 use std::alloc::Global;
 use std::io;
 use std::io::{ErrorKind, Write};
@@ -41,7 +41,7 @@ impl<R: Times + Drop> SocketSink<R> {
             self.shared.stream.set_write_timeout(Some(left))?;
             self.limit = left;
         }
-        let mut stream = &self.shared.stream;
+        let mut stream = &*self.shared.stream;
         stream.write(piece)
     }
 

@@ -3,10 +3,10 @@ ghost use Rattle.std.specs.Io.{ReadsAtMost};
 ghost use Rattle.sockets.specs.Phases.{is_between};
 
 use crate::connection::Shared;
+use crate::halt::{Halt, Served};
 use crate::phase::Phase;
-use crate::times::{TRIES, Until};
-use crate::transfer::glance;
 use outside::{Failed, ReadMark, RequestKind, Source};
+use socket_limits::{TRIES, Until, Upload, glance};
 use std::alloc::Global;
 use std::io::{ErrorKind, Read};
 use std::marker::Model;
@@ -16,12 +16,16 @@ use std::sync::{Arc, Wait};
 use std::time::Duration;
 use std::{io, thread};
 
-/// A request that has more bytes needs a permit.
+/// A first byte is waited for so many milliseconds at a time: where connections are to make room, one that rests has no more.
+const SLICE: u64 = 30_000;
+
+/// A request that has more bytes counts with those of others, and needs a permit once it came.
 const LARGE: u64 = 65_536;
 
-/// Where a connection's bytes come from. A read waits ten minutes for the first byte behind a request, then half a minute in all
-/// for the rest of a head, and as much in all for a body; where more than 64 KB come, it also waits for a permit. That a head or
-/// a body was read is said by marks. So the prefix of a request that came with an earlier one has ten minutes again.
+/// Where a connection's bytes come from. A read waits ten minutes for the first byte behind a request, or half a minute where
+/// connections are to make room; then half a minute in all for the rest of a head, and as much in all for a body. Where more than
+/// 64 KB come, it also waits for room for them. That a head or a body was read is said by marks. So the prefix of a request that came
+/// with an earlier one has ten minutes again.
 #[derive(Drop)]
 pub struct SocketSource<R: Drop> {
     pub(crate) rt: R,
@@ -33,9 +37,28 @@ pub struct SocketSource<R: Drop> {
     pub(crate) came: u64,
     /// Whether the last request is a watch.
     pub(crate) watches: bool,
+    /// How many milliseconds a first byte was waited for in vain.
+    pub(crate) rested: u64,
+    /// The request that comes, where it is large.
+    pub(crate) upload: Option<Arc<Upload, Global>>,
     /// The limit of time that the socket has for a read; zero where none was set.
     pub(crate) limit: Duration,
+    /// By what it is told to read no further request, where anybody may tell it so; and that one is being served.
+    pub(crate) halt: Option<Arc<Halt, Global>>,
+    pub(crate) served: Option<Served>,
     pub(crate) faults: u64,
+}
+
+impl<R: Drop> SocketSource<R> {
+    /// The same source, which ends before its next request once this is called for a stop.
+    pub fn until(self, halt: Arc<Halt, Global>) -> SocketSource<R>
+        ensures { result ≡ self }
+    {
+        SocketSource {
+            halt: Some(halt),
+            ..self
+        }
+    }
 }
 
 impl<R: Drop> Model for SocketSource<R> {
@@ -60,7 +83,7 @@ impl<R: Wait + Times + Drop> SocketSource<R> {
     {
         let limits = self.shared.limits;
         match self.phase {
-            Phase::Between => Ok(Duration::from_millis(limits.first_byte.max(1))),
+            Phase::Between => Ok(Duration::from_millis(limits.first_byte.min(SLICE).max(1))),
             Phase::Head(until) | Phase::Body(until) => until.left(&self.rt),
             Phase::Due => {
                 self.phase = Phase::Body(Until::after(&self.rt, limits.body)?);
@@ -69,18 +92,31 @@ impl<R: Wait + Times + Drop> SocketSource<R> {
         }
     }
 
+    // Whether a first byte is waited for on, behind a slice in which none came.
+    fn rests_on(&mut self) -> bool
+        ensures { self.new.faults ≡ self.old.faults }
+    {
+        self.rested = self.rested.saturating_add(SLICE);
+        self.phase.is_between()
+            && self.rested < self.shared.limits.first_byte
+            && !self.shared.is_tight()
+    }
+
     // Notes that the first bytes of a request came, and says until when its head has time.
     fn begin(&mut self) -> io::Result<Until>
         ensures { self.new.faults ≡ self.old.faults }
     {
         let limit = self.shared.limits.head;
         let until = Until::after(&self.rt, limit)?;
+        if let Some(halt) = &self.halt {
+            self.served = Served::count(halt);
+        }
         self.began = until.end.saturating_sub(limit);
         self.phase = Phase::Head(until);
         Ok(until)
     }
 
-    // Notes that so many bytes came, and takes a permit where one is needed.
+    // Notes that so many bytes came, and waits for room for those of a large request.
     fn note(&mut self, count: usize) -> io::Result<()>
         ensures { self.new.faults ≡ self.old.faults }
     {
@@ -90,10 +126,47 @@ impl<R: Wait + Times + Drop> SocketSource<R> {
             Phase::Between | Phase::Due => self.begin()?,
         };
         self.came = self.came.saturating_add(count as u64);
-        if self.came > LARGE {
-            self.shared.hold(&self.rt, until)?;
+        self.rested = 0;
+        match &self.upload {
+            Some(upload) if count > 0 => {
+                self.shared.count(&self.rt, upload, count as u64, until)?;
+            }
+            None if self.came > LARGE => {
+                let upload = self.shared.upload(&self.rt, self.began)?;
+                let counted = self.shared.count(&self.rt, &upload, self.came, until);
+                self.upload = Some(upload);
+                counted?;
+            }
+            _ => {}
         }
         Ok(())
+    }
+
+    // Notes that a request came whole. A large one waits for a permit, for as long as a body may take at most.
+    fn came_whole(&mut self)
+        ensures { self.new.faults ≡ self.old.faults }
+    {
+        self.came = 0;
+        if let Some(upload) = self.upload.take() {
+            self.shared.settle(&self.rt, &upload);
+            if let Ok(until) = Until::after(&self.rt, self.shared.limits.body) {
+                let _ = self.shared.hold(&self.rt, until);
+            }
+        }
+    }
+
+    // Whether the connection is over before its next request. One that was read before has its reply by now.
+    fn is_over(&mut self) -> bool
+        ensures { self.new.faults ≡ self.old.faults }
+    {
+        if !self.phase.is_between() {
+            return false;
+        }
+        self.served = None;
+        match &self.halt {
+            Some(halt) => halt.stops(),
+            None => false,
+        }
     }
 
     // Reads once. The socket is told a limit only where it has another. Behind a reply that was given at once others have their
@@ -103,6 +176,9 @@ impl<R: Wait + Times + Drop> SocketSource<R> {
         ensures count { ReadsAtMost result room.new }
         ensures faults { self.new.faults ≡ self.old.faults }
     {
+        if self.is_over() {
+            return Ok(0);
+        }
         let left = self.left()?;
         if left != self.limit {
             self.shared.stream.set_read_timeout(Some(left))?;
@@ -111,7 +187,7 @@ impl<R: Wait + Times + Drop> SocketSource<R> {
         if is_next_near(self.phase, self.began, self.shared.written.load(SeqCst)) {
             thread::yield_now();
         }
-        let mut stream = &self.shared.stream;
+        let mut stream = &*self.shared.stream;
         let count = stream.read(room)?;
         self.note(count)?;
         Ok(count)
@@ -123,11 +199,14 @@ impl<R: Wait + Times + Drop> Source for SocketSource<R> {
 
     ghost faults = { λ s. s.faults };
 
+    ghost reads = { λ old size came new. Unit {0} };
+
     fn read(&mut self, room: &mut [u8]) -> Result<usize, Failed> {
         for _ in 0..TRIES {
             match self.receive(room) {
                 Ok(count) => return Ok(count),
                 Err(error) if error.kind() == ErrorKind::Interrupted => {}
+                Err(error) if error.kind() == ErrorKind::WouldBlock && self.rests_on() => {}
                 Err(_) => break,
             }
         }
@@ -152,10 +231,13 @@ impl<R: Wait + Times + Drop> Source for SocketSource<R> {
     fn mark(&mut self, mark: ReadMark) {
         if let ReadMark::Request(kind) = mark {
             self.watches = kind == RequestKind::Watch;
+            if self.watches {
+                self.served = None;
+            }
         }
         self.phase = self.phase.after(mark);
         if self.phase.is_between() {
-            self.came = 0;
+            self.came_whole();
         }
     }
 }

@@ -3,11 +3,13 @@ mod ends;
 mod forgotten;
 mod health;
 mod kept;
+mod room;
 mod streams;
 
 use etcd_types::{Bytes, List, NoMemory};
+use member_links::{Members, SocketLink};
 use outside::{AnswerEnd, CallKind, Link, Source};
-use sockets::{LinkLimits, Members, SocketLink};
+use socket_limits::LinkLimits;
 use std::alloc::Global;
 use std::fmt::Display;
 use std::io::{ErrorKind, Read, Write};

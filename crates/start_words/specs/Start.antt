@@ -1,17 +1,18 @@
--- What the words of `grpc-proxy start` name: six options, each of them given at most once, with the value that follows it or that
--- is its own where it isn't given. Words become options by the rules of clap; the options are those of etcd's grpc-proxy manual, as
--- far as they are served here, and three more: the leasing prefix, workers and the session's time to live.
-use Rattle.std.specs.Prelude.{◌≡◌, ℕ, ◌≤◌, List, [], ◌∷◌, length, Option, Some, None, unwrap_or, Result, Ok, Err, codes, nat_lt, if◌then◌else◌, true, ⊤}
+-- What the words of `grpc-proxy start` name: nine options, each of them given at most once, with the value that follows it or that
+-- is its own where it isn't given; one of them has no value. Words become options by the rules of clap; the options are those of etcd's
+-- grpc-proxy manual, as far as they are served here, and six more: the leasing prefix, workers, the session's time to live, the limit of a
+-- message of a watch, the file of the sessions' numbers, and whether the server stops at the end of its input.
+use Rattle.std.specs.Prelude.{◌≡◌, Bool, bytes_eq, ℕ, ◌≤◌, List, [], ◌∷◌, length, Option, Some, None, unwrap_or, Result, Ok, Err, codes, nat_lt, if◌then◌else◌, true, ⊤}
 use Rattle.text_model.specs.Texts.{words}
 use Rattle.clap.specs.Walk.{Row, Rule, Text, first_of}
 use Rattle.clap.specs.Simple.{App, matches_of, new_app, new_rule, on_top, with_rule}
 use Rattle.clap.specs.Faults.{fault_of}
 use Rattle.clap.specs.Kinds.{IsAmong}
-use Rattle.clap.specs.declared.builder.action.ArgAction.TheVariants.{Set}
+use Rattle.clap.specs.declared.builder.action.ArgAction.TheVariants.{Set, SetTrue}
 use Rattle.start_words.specs.declared.fault.Cause.{Cause}
 use Rattle.start_words.specs.declared.fault.Cause.TheVariants.{NotAnAddress, NotANumber, TooMany}
 use Rattle.start_words.specs.declared.fault.StartOption.{StartOption}
-use Rattle.start_words.specs.declared.fault.StartOption.TheVariants.{Endpoints, ListenAddr, Workers, SessionTtl}
+use Rattle.start_words.specs.declared.fault.StartOption.TheVariants.{Endpoints, ListenAddr, Workers, SessionTtl, MessageLimit}
 use Rattle.start_words.specs.declared.settings.StartSettings.{StartSettings}
 use Rattle.start_words.specs.declared.wrong.Wrong.{Wrong}
 use Rattle.start_words.specs.declared.wrong.ValueFault.{ValueFault}
@@ -30,6 +31,10 @@ required_rule name = record (option_rule name) { required = true }
 abbrev pub default_rule : Text → Text → Rule
 default_rule name value = record (option_rule name) { defaults = value ∷ [] }
 
+-- an option without a value
+abbrev pub flag_rule : Text → Rule
+flag_rule name = record (new_rule name) { long = Some name; action = Some SetTrue }
+
 abbrev pub with_rules : App → List Rule → App
 with_rules app [] = app
 with_rules app (rule ∷ rules) = with_rules (with_rule app rule) rules
@@ -46,6 +51,13 @@ more_rules =
     default_rule (codes "leasing-prefix") []
     ∷ default_rule (codes "workers") (codes "8")
     ∷ default_rule (codes "session-ttl") (codes "60")
+    ∷ default_rule (codes "message-limit") (codes "16")
+    ∷ []
+
+abbrev pub end_rules : List Rule
+end_rules =
+    default_rule (codes "state-file") []
+    ∷ flag_rule (codes "stop-at-end")
     ∷ []
 
 -- the words are those behind `start`
@@ -53,7 +65,7 @@ abbrev pub bare_app : App
 bare_app = on_top (λ s. record s { no_binary_name = true }) (new_app (codes "start"))
 
 abbrev pub start_app : App
-start_app = with_rules (with_rules bare_app place_rules) more_rules
+start_app = with_rules (with_rules (with_rules bare_app place_rules) more_rules) end_rules
 
 -- ---- their values
 
@@ -95,6 +107,10 @@ number_of option low high word = number_by option low high word (number_in low h
 abbrev pub value_of : Text → List Row → List ℕ
 value_of name rows = unwrap_or (first_of name rows) []
 
+-- an option without a value is given
+abbrev pub is_set : Text → List Row → Bool
+is_set name rows = bytes_eq (value_of name rows) (codes "true")
+
 -- the settings that these values are, or the first value that isn't of its form
 abbrev pub settings_of : List Row → Result StartSettings Wrong
 settings_of rows =
@@ -102,6 +118,7 @@ settings_of rows =
     and_then (listen_of (value_of (codes "listen-addr") rows)) (λ listen.
     and_then (number_of Workers 1 64 (value_of (codes "workers") rows)) (λ workers.
     and_then (number_of SessionTtl 5 3600 (value_of (codes "session-ttl") rows)) (λ ttl.
+    and_then (number_of MessageLimit 8 64 (value_of (codes "message-limit") rows)) (λ message.
     Ok (record {
       endpoints = endpoints;
       listen = listen;
@@ -109,7 +126,10 @@ settings_of rows =
       leasing = value_of (codes "leasing-prefix") rows;
       workers = workers;
       session_ttl = ttl;
-    })))))
+      message_limit = message;
+      state_file = value_of (codes "state-file") rows;
+      stop_at_end = is_set (codes "stop-at-end") rows;
+    }))))))
 
 -- the counts that they have
 pub record Within (s : StartSettings) : Type 0 where
@@ -117,6 +137,7 @@ pub record Within (s : StartSettings) : Type 0 where
   pub few : length s.endpoints ≤ 9
   pub workers : s.workers ≤ 64
   pub ttl : s.session_ttl ≤ 3600
+  pub message : s.message_limit ≤ 64
 
 -- ---- the words
 

@@ -7,6 +7,7 @@ pub enum StartOption {
     ListenAddr,
     Workers,
     SessionTtl,
+    MessageLimit,
 }
 
 impl fmt::Display for StartOption {
@@ -21,6 +22,7 @@ impl fmt::Display for StartOption {
             StartOption::ListenAddr => "--listen-addr",
             StartOption::Workers => "--workers",
             StartOption::SessionTtl => "--session-ttl",
+            StartOption::MessageLimit => "--message-limit",
         })
     }
 }

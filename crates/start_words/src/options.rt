@@ -49,6 +49,17 @@ fn with_option<'a>(command: Command<'a>, arg: Arg<'a>) -> Result<Command<'a>, Al
     Ok(command.arg(arg)?)
 }
 
+/// An option without a value.
+fn flag<'a>(alloc: Global, name: &'a str, help: &'a str) -> Arg<'a>
+    ensures rule { rule_of result ≡ spec.flag_rule name.entry.now }
+    ensures own { result.global ≡ false }
+{
+    Arg::new(alloc, name)
+        .long(name)
+        .help(help)
+        .action(ArgAction::SetTrue)
+}
+
 /// The members of the cluster, where clients are served, and what stands before keys.
 fn with_places<'a>(alloc: Global) -> Result<Command<'a>, AllocError>
     ensures { IfOk result (λ command. app_of command ≡ spec.with_rules spec.bare_app spec.place_rules) }
@@ -78,9 +89,9 @@ fn with_places<'a>(alloc: Global) -> Result<Command<'a>, AllocError>
     Ok(with_option(command, namespace)?)
 }
 
-/// The command behind the word `start`.
-pub(crate) fn start_command<'a>(alloc: Global) -> Result<Command<'a>, AllocError>
-    ensures { IfOk result (λ command. app_of command ≡ spec.start_app) }
+/// The same, with what stands before the keys of ownership, and how calls are made.
+fn with_calls<'a>(alloc: Global) -> Result<Command<'a>, AllocError>
+    ensures { IfOk result (λ command. app_of command ≡ spec.with_rules (spec.with_rules spec.bare_app spec.place_rules) spec.more_rules) }
 {
     let leasing = option(
         alloc,
@@ -103,8 +114,37 @@ pub(crate) fn start_command<'a>(alloc: Global) -> Result<Command<'a>, AllocError
         "How long a session lives that isn't renewed, 5 to 3600",
     );
     let ttl = with_default(ttl, "60");
+    let message = option(
+        alloc,
+        "message-limit",
+        "MIB",
+        "How long a message of a watch may be that a member sends, 8 to 64",
+    );
+    let message = with_default(message, "16");
     let command = with_places(alloc)?;
     let command = with_option(command, leasing)?;
     let command = with_option(command, workers)?;
-    Ok(with_option(command, ttl)?)
+    let command = with_option(command, ttl)?;
+    Ok(with_option(command, message)?)
+}
+
+/// The command behind the word `start`.
+pub(crate) fn start_command<'a>(alloc: Global) -> Result<Command<'a>, AllocError>
+    ensures { IfOk result (λ command. app_of command ≡ spec.start_app) }
+{
+    let state = option(
+        alloc,
+        "state-file",
+        "PATH",
+        "Keeps the numbers of sessions, so that the next start ends them; none: no file",
+    );
+    let state = with_default(state, "");
+    let stop = flag(
+        alloc,
+        "stop-at-end",
+        "Stops in order once the standard input has ended",
+    );
+    let command = with_calls(alloc)?;
+    let command = with_option(command, state)?;
+    Ok(with_option(command, stop)?)
 }

@@ -5,7 +5,7 @@ ghost use Rattle.clap.specs.Simple.{matches_of};
 ghost use Rattle.clap.specs.Walk.{rows_of};
 ghost use Rattle.clap.specs.Matches.{found_of};
 ghost use Rattle.clap.specs.Values.{kind_of};
-ghost use Rattle.start_words.specs.Start.{Gives, Within, settings_of, start_app, value_of};
+ghost use Rattle.start_words.specs.Start.{Gives, Within, is_set, settings_of, start_app, value_of};
 ghost use Rattle.start_words.specs.Reads.{Reads, IsRefusal};
 
 use crate::fault::StartOption;
@@ -31,6 +31,13 @@ fn value<'a>(matches: &ArgMatches<'a>, name: &str) -> &'a [u8]
     }
 }
 
+/// Whether an option without a value is given.
+fn is_set(matches: &ArgMatches, name: &str) -> bool
+    ensures { result ≡ is_set name.now (rows_of (found_of matches.now)) }
+{
+    value(matches, name) == b"true".as_slice()
+}
+
 /// The settings that the values of the options are.
 fn settings(alloc: Global, matches: &ArgMatches) -> Result<StartSettings, ValueFault>
     ensures within { IfOk result Within }
@@ -52,8 +59,16 @@ fn settings(alloc: Global, matches: &ArgMatches) -> Result<StartSettings, ValueF
         3_600,
         value(matches, "session-ttl"),
     )?;
+    let message_limit = number_of(
+        alloc,
+        StartOption::MessageLimit,
+        8,
+        64,
+        value(matches, "message-limit"),
+    )?;
     let namespace = Bytes::from_slice(alloc, value(matches, "namespace"))?;
     let leasing = Bytes::from_slice(alloc, value(matches, "leasing-prefix"))?;
+    let state_file = Bytes::from_slice(alloc, value(matches, "state-file"))?;
     Ok(StartSettings {
         endpoints,
         listen,
@@ -61,6 +76,9 @@ fn settings(alloc: Global, matches: &ArgMatches) -> Result<StartSettings, ValueF
         leasing,
         workers,
         session_ttl,
+        message_limit,
+        state_file,
+        stop_at_end: is_set(matches, "stop-at-end"),
     })
 }
 

@@ -15,4 +15,10 @@ pub struct StartSettings {
     pub workers: u64,
     /// The time to live of a session, 5 to 3,600 seconds.
     pub session_ttl: u64,
+    /// How long a message of a watch may be that a member sends, 8 to 64 MiB.
+    pub message_limit: u64,
+    /// The path of the file that keeps the numbers of sessions; empty for none.
+    pub state_file: Bytes,
+    /// Whether the server stops once the standard input has ended.
+    pub stop_at_end: bool,
 }

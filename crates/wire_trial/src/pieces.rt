@@ -46,6 +46,8 @@ impl<'a> Source for Pieces<'a> {
 
     ghost faults = { λ s. s.faults };
 
+    ghost reads = { λ old size came new. Unit {0} };
+
     fn read(&mut self, room: &mut [u8]) -> Result<usize, Failed> {
         self.reads = self.reads.saturating_add(1);
         if self.reads == self.failing {

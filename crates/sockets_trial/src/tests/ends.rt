@@ -3,9 +3,8 @@
 use super::{Watched, hears, listening};
 use etcd_types::Bytes;
 use outside::{Host, ReadMark, RequestKind, Sink, Source, WriteMark};
-use sockets::{
-    ConnectionLimits, Permits, SocketHost, SocketSink, SocketSource, ends_within, linger,
-};
+use socket_limits::{ConnectionLimits, Permits};
+use sockets::{Client, SocketHost, SocketSink, SocketSource, ends_within, linger};
 use std::alloc::Global;
 use std::io::Write;
 use std::net::{Net, TcpListener, TcpStream};
@@ -17,7 +16,7 @@ use std::time::Duration;
 use std::{str, thread};
 
 /// Limits that no client of a test comes near.
-const LIMITS: ConnectionLimits = ConnectionLimits {
+pub(super) const LIMITS: ConnectionLimits = ConnectionLimits {
     first_byte: 20_000,
     head: 20_000,
     body: 20_000,
@@ -26,9 +25,9 @@ const LIMITS: ConnectionLimits = ConnectionLimits {
 };
 
 /// A client, and the two ends of its connection at a server.
-type Connection<R> = (TcpStream, SocketSource<R>, SocketSink<R>);
+pub(super) type Connection<R> = (TcpStream, SocketSource<R>, SocketSink<R>);
 
-fn connected<R: Net<Listener = TcpListener, Stream = TcpStream> + Drop + Copy>(
+pub(super) fn connected<R: Net<Listener = TcpListener, Stream = TcpStream> + Drop + Copy>(
     rt: R,
     alloc: Global,
     limits: ConnectionLimits,
@@ -37,12 +36,19 @@ fn connected<R: Net<Listener = TcpListener, Stream = TcpStream> + Drop + Copy>(
     let (listener, address) = listening(&rt, alloc)?;
     let client = TcpStream::connect(&rt, str::from_utf8(address.as_slice())?)?;
     let (stream, _) = listener.accept()?;
-    let (source, sink) = ends_within(alloc, rt, stream, Arc::try_clone(permits)?, limits)?;
+    let (source, sink) = ends_within(
+        alloc,
+        rt,
+        rt,
+        Client::from(stream),
+        Arc::try_clone(permits)?,
+        limits,
+    )?;
     Ok((client, source, sink))
 }
 
 /// Whether the next bytes that come from there are these.
-fn gives<S: Source>(source: &mut S, bytes: &[u8]) -> bool {
+pub(super) fn gives<S: Source>(source: &mut S, bytes: &[u8]) -> bool {
     let mut room = [0u8; 8];
     match source.read(&mut room) {
         Ok(count) => room.get(..count) == Some(bytes),
@@ -52,7 +58,7 @@ fn gives<S: Source>(source: &mut S, bytes: &[u8]) -> bool {
 
 #[test]
 fn an_accepted_connection_carries_bytes_both_ways(rt: HostRuntime) -> Result<(), Fail> {
-    let permits = Arc::new(rt.alloc(), Permits::new(1))?;
+    let permits = Arc::new(rt.alloc(), Permits::new(rt.alloc(), 1))?;
     let (mut client, mut source, mut sink) = connected(rt, rt.alloc(), LIMITS, &permits)?;
     client.write_all(b"ask")?;
     assert!(rt; source.check().is_ok() && gives(&mut source, b"ask"));
@@ -62,7 +68,7 @@ fn an_accepted_connection_carries_bytes_both_ways(rt: HostRuntime) -> Result<(),
 
 #[test]
 fn a_client_that_went_away_is_seen(rt: HostRuntime) -> Result<(), Fail> {
-    let permits = Arc::new(rt.alloc(), Permits::new(1))?;
+    let permits = Arc::new(rt.alloc(), Permits::new(rt.alloc(), 1))?;
     let (mut client, mut source, sink) = connected(rt, rt.alloc(), LIMITS, &permits)?;
     assert!(rt; source.check().is_ok());
     client.write_all(b"a")?;
@@ -124,7 +130,7 @@ fn came<
     head: usize,
     limits: ConnectionLimits,
 ) -> Result<(usize, bool), Fail> {
-    let permits = Arc::new(alloc, Permits::new(1))?;
+    let permits = Arc::new(alloc, Permits::new(alloc, 1))?;
     let (client, mut source, _sink) = connected(rt, alloc, limits, &permits)?;
     let handle = thread::spawn(&rt, move || trickle(rt, client, bytes))?;
     let read = read_on(&mut source, head);
@@ -144,7 +150,7 @@ fn short(first_byte: u64, head: u64, body: u64) -> ConnectionLimits {
 
 #[test]
 fn a_client_has_a_limit_for_a_first_byte(rt: HostRuntime) -> Result<(), Fail> {
-    let permits = Arc::new(rt.alloc(), Permits::new(1))?;
+    let permits = Arc::new(rt.alloc(), Permits::new(rt.alloc(), 1))?;
     let limits = short(100, 20_000, 20_000);
     let (_client, mut source, _sink) = connected(rt, rt.alloc(), limits, &permits)?;
     assert_eq!(rt; read_on(&mut source, 1), (0, true));
@@ -179,7 +185,7 @@ fn a_write_has_a_limit(rt: HostRuntime) -> Result<(), Fail> {
         write: 200,
         ..LIMITS
     };
-    let permits = Arc::new(alloc, Permits::new(1))?;
+    let permits = Arc::new(alloc, Permits::new(alloc, 1))?;
     let (_client, _source, mut sink) = connected(rt, alloc, limits, &permits)?;
     let reply = Vec::from_elem(alloc, b'x', 16_777_216)?;
     // the client reads nothing: a prefix is taken, and said to be
@@ -194,17 +200,27 @@ fn a_write_has_a_limit(rt: HostRuntime) -> Result<(), Fail> {
 /// A large request.
 const LARGE: usize = 65_537;
 
-/// Whether a large request is read whole on a connection of its own, which is let go of.
-fn is_read<R: Net<Listener = TcpListener, Stream = TcpStream> + Wait + Times + Drop + Copy>(
+/// Whether a large request that came on a connection of its own, which is let go of, is worked on at once.
+fn is_worked_on<R: Net<Listener = TcpListener, Stream = TcpStream> + Wait + Times + Drop + Copy>(
     rt: R,
     alloc: Global,
     permits: &Arc<Permits, Global>,
 ) -> Result<bool, Fail> {
-    let (client, mut source, _sink) = connected(rt, alloc, short(20_000, 300, 20_000), permits)?;
-    is_read_from(alloc, client, &mut source)
+    let (client, mut source, _sink) = connected(rt, alloc, short(20_000, 20_000, 400), permits)?;
+    if !is_read_from(alloc, &client, &mut source)? {
+        return Ok(false);
+    }
+    let before = rt.monotonic()?;
+    source.mark(ReadMark::Body);
+    Ok(rt.monotonic()?.saturating_sub(before) < Duration::from_millis(300))
 }
 
-fn is_read_from<S: Source>(alloc: Global, client: TcpStream, source: &mut S) -> Result<bool, Fail> {
+/// Whether a large request that the client sends is read whole.
+pub(super) fn is_read_from<S: Source>(
+    alloc: Global,
+    client: &TcpStream,
+    source: &mut S,
+) -> Result<bool, Fail> {
     let mut client = client;
     let request = Vec::from_elem(alloc, b'x', LARGE)?;
     client.write_all(request.as_slice())?;
@@ -225,18 +241,18 @@ fn is_read_from<S: Source>(alloc: Global, client: TcpStream, source: &mut S) -> 
 #[test]
 fn a_large_request_has_a_permit_up_to_its_reply(rt: HostRuntime) -> Result<(), Fail> {
     let alloc: Global = rt.alloc();
-    let permits = Arc::new(alloc, Permits::new(1))?;
+    let permits = Arc::new(alloc, Permits::new(alloc, 1))?;
     let (client, mut source, mut sink) = connected(rt, alloc, LIMITS, &permits)?;
-    assert!(rt; is_read_from(alloc, client, &mut source)?);
-    assert!(rt; !is_read(rt, alloc, &permits)?);
-    // neither that the body is asked for nor that it was read gives the permit back
-    sink.mark(WriteMark::Continue);
+    assert!(rt; is_read_from(alloc, &client, &mut source)?);
+    // one that still comes has none
+    assert!(rt; is_worked_on(rt, alloc, &permits)?);
     source.mark(ReadMark::Body);
-    assert!(rt; !is_read(rt, alloc, &permits)?);
+    sink.mark(WriteMark::Continue);
+    assert!(rt; !is_worked_on(rt, alloc, &permits)?);
     sink.mark(WriteMark::Reply(200));
-    assert!(rt; is_read(rt, alloc, &permits)?);
+    assert!(rt; is_worked_on(rt, alloc, &permits)?);
     // a connection that ends gives its own back
-    assert!(rt; is_read(rt, alloc, &permits)?);
+    assert!(rt; is_worked_on(rt, alloc, &permits)?);
     Ok(())
 }
 
@@ -244,7 +260,7 @@ fn a_large_request_has_a_permit_up_to_its_reply(rt: HostRuntime) -> Result<(), F
 fn an_end_fails_where_the_clock_does(rt: HostRuntime) -> Result<(), Fail> {
     let alloc: Global = rt.alloc();
     let system = Watched::new(&rt);
-    let permits = Arc::new(alloc, Permits::new(1))?;
+    let permits = Arc::new(alloc, Permits::new(alloc, 1))?;
     let (mut client, mut source, mut sink) = connected(&system, alloc, LIMITS, &permits)?;
     for reading in 1..3 {
         client.write_all(b"a")?;

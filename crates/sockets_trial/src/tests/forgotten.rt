@@ -1,8 +1,8 @@
 //! Streams that nobody wants any more.
 
 use super::{CALL, LIMITS, listening, members_at};
+use member_links::SocketLink;
 use outside::{AnswerEnd, CallKind, Link, Source};
-use sockets::SocketLink;
 use std::alloc::Global;
 use std::sync::Arc;
 use std::test::Fail;

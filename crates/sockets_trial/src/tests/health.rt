@@ -4,8 +4,8 @@ use super::{
     Act, CALL, Heard, LIMITS, ONE, Story, TWO, Watched, call, hear, linked, listening, members_at,
     play,
 };
+use member_links::{Asked, Health, Members, SocketLink};
 use outside::{AnswerEnd, CallKind, Link};
-use sockets::{Asked, Health, Members, SocketLink};
 use std::alloc::Global;
 use std::net::Net;
 use std::rt::Clock as Times;

@@ -3,7 +3,7 @@
 use super::{Act, CALL, Heard, LIMITS, ONE, Story, TWO, Watched, call, linked, listening, play};
 use etcd_types::Bytes;
 use outside::{AnswerEnd, CallKind};
-use sockets::LinkLimits;
+use socket_limits::LinkLimits;
 use std::alloc::Global;
 use std::net::{Net, TcpListener, TcpStream};
 use std::rt::Clock as Times;

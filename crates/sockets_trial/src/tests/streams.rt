@@ -1,8 +1,9 @@
 //! Streams that are silent.
 
 use super::{Act, CALL, Heard, LIMITS, ONE, Story, TWO, hear, hears, listening, members_at, play};
+use member_links::{Asked, Members, SocketAnswer, SocketLink};
 use outside::{AnswerEnd, CallKind, Link, Source};
-use sockets::{Asked, LinkLimits, Members, SocketAnswer, SocketLink};
+use socket_limits::LinkLimits;
 use std::alloc::Global;
 use std::io::Write;
 use std::net::{Net, TcpStream};

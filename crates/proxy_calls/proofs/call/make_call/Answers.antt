@@ -1,6 +1,6 @@
 -- The call was made, and its answer given back; or it wasn't made.
 use Rattle.std.proofs.Common.{◌∙◌}
-use Rattle.work_model.proofs.Hears.{not_called, unanswered, exchanged}
+use Rattle.server_model.proofs.Hears.{not_called, unanswered, exchanged}
 use Rattle.proxy_calls.proofs.call.make_call.Goals as goal
 
 pub returns-in_default : goal.returns-in_default

@@ -1,7 +1,7 @@
 -- How far an answer could be read, and what it says.
 use Rattle.std.proofs.Common.{List, ℕ, subst}
-use Rattle.work_model.specs.Calls.{Says}
-use Rattle.work_model.proofs.Hears.{nothing_heard, no_head, no_body, heard_whole, cause_of}
+use Rattle.server_model.specs.Calls.{Says}
+use Rattle.server_model.proofs.Hears.{nothing_heard, no_head, no_body, heard_whole, cause_of}
 use Rattle.proxy_calls.proofs.hear.hear.Goals as goal
 
 pub returns-in_default : goal.returns-in_default

@@ -2,7 +2,7 @@
 use Rattle.std.proofs.Common.{sym, subst, ◌∙◌}
 use Rattle.json_model.specs.Answers.{answer_of}
 use Rattle.json_model.specs.Faults.{ReplyFails}
-use Rattle.work_model.proofs.Hears.{unclear_code, unreadable}
+use Rattle.server_model.proofs.Hears.{unclear_code, unreadable}
 use Rattle.proxy_calls.proofs.hear.say.Goals as goal
 
 pub returns-then-tells : goal.returns-then-tells

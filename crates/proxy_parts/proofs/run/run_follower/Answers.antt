@@ -3,7 +3,7 @@ use Rattle.std.proofs.Common.{◌≡◌, ap}
 use Rattle.turn_hub.specs.Known.{Known}
 use Rattle.turn_hub.specs.declared.view.Opening.{Opening}
 use Rattle.core_model.specs.State.{Core}
-use Rattle.serve_model.specs.Steps.{Step}
+use Rattle.server_model.specs.Steps.{Step}
 use Rattle.proxy_parts.proofs.Passes.{seat_grows}
 use Rattle.proxy_parts.proofs.run.run_follower.Goals as goal
 

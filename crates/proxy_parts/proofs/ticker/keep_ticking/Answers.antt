@@ -1,6 +1,6 @@
 -- One tick more, and the last one.
 use Rattle.std.proofs.Common.{refl, ◌∙◌}
-use Rattle.part_model.proofs.Ticks.{none_ticked, ticked_more, ticked_last}
+use Rattle.server_model.proofs.Ticks.{none_ticked, ticked_more, ticked_last}
 use Rattle.proxy_parts.proofs.ticker.keep_ticking.Goals as goal
 
 pub ticks-init : goal.ticks-init

@@ -1,6 +1,6 @@
 -- Each tick so far was noted.
 use Rattle.std.proofs.Common.{◌≡◌}
-use Rattle.part_model.specs.Ticking.{SoFar}
+use Rattle.server_model.specs.Ticking.{SoFar}
 use Rattle.proxy_parts.proofs.ticker.keep_ticking.Given as goal
 
 abbrev pub invariant-ticks : goal.invariant-ticks

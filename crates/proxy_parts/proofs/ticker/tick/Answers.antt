@@ -1,5 +1,5 @@
 -- The step was made, or no more are made.
-use Rattle.part_model.proofs.Ticks.{was_ticked, not_ticked}
+use Rattle.server_model.proofs.Ticks.{was_ticked, not_ticked}
 use Rattle.proxy_parts.proofs.ticker.tick.Goals as goal
 
 pub returns-in-Ok-clause-ticked : goal.returns-in-Ok-clause-ticked

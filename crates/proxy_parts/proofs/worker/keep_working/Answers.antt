@@ -1,8 +1,8 @@
 -- Once more, and the last end.
 use Rattle.std.proofs.Common.{refl, ◌∙◌}
-use Rattle.work_model.specs.declared.ends.WorkEnd.TheVariants as how
-use Rattle.part_model.specs.Rounds.{Rounds}
-use Rattle.part_model.proofs.Rounded.{rounded, spent, worked_at}
+use Rattle.server_model.specs.declared.ends.WorkEnd.TheVariants as how
+use Rattle.server_model.specs.Rounds.{Rounds}
+use Rattle.server_model.proofs.Rounded.{rounded, spent, worked_at}
 use Rattle.proxy_parts.specs.declared.worker.TheConstants.{TURNS}
 use Rattle.proxy_parts.proofs.worker.keep_working.Goals as goal
 

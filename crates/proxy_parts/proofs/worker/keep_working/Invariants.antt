@@ -1,7 +1,7 @@
 -- The worker goes on behind each end so far.
 use Rattle.std.proofs.Common.{◌≡◌, IsTrue}
-use Rattle.work_model.specs.Working.{IsAt, ledger}
-use Rattle.part_model.specs.Rounds.{Rounds}
+use Rattle.server_model.specs.Working.{IsAt, ledger}
+use Rattle.server_model.specs.Rounds.{Rounds}
 use Rattle.proxy_parts.specs.declared.worker.TheConstants.{TURNS}
 use Rattle.proxy_parts.proofs.worker.keep_working.Given as goal
 

@@ -1,9 +1,9 @@
 -- Each kind of an Ask.
 use Rattle.std.proofs.Common.{inl, sym, ◌∙◌}
 use Rattle.core_model.specs.declared.event.Outcome.TheVariants.{Replied, Waiting}
-use Rattle.serve_model.specs.declared.progress.Stop.TheVariants as stop
-use Rattle.serve_model.proofs.Asks.{made_as, stopped_as, replied_at_once, reply_unsaid, waits_whole, waits_unsaid, gave_up, ticket_in_use, not_asked}
-use Rattle.serve_model.proofs.Numbers.{asked_ok, asked_quiet, not_one, used_one}
+use Rattle.server_model.specs.declared.progress.Stop.TheVariants as stop
+use Rattle.server_model.proofs.Asks.{made_as, stopped_as, replied_at_once, reply_unsaid, waits_whole, waits_unsaid, gave_up, ticket_in_use, not_asked}
+use Rattle.server_model.proofs.Numbers.{asked_ok, asked_quiet, not_one, used_one}
 use Rattle.proxy_server.proofs.ask.ask.Goals as goal
 
 pub returns-in-Ok-clause-asks : goal.returns-in-Ok-clause-asks

@@ -1,7 +1,7 @@
 -- The ticket is left, or needn't be.
 use Rattle.std.proofs.Common.{sym, refl, ◌∙◌}
-use Rattle.serve_model.proofs.Asks.{worn_before, taken_before, was_left, worn_then}
-use Rattle.serve_model.proofs.Numbers.{asked_none, turn_asks_none}
+use Rattle.server_model.proofs.Asks.{worn_before, taken_before, was_left, worn_then}
+use Rattle.server_model.proofs.Numbers.{asked_none, turn_asks_none}
 use Rattle.proxy_server.proofs.ask.leave.Goals as goal
 
 pub returns-in-Worn-clause-left : goal.returns-in-Worn-clause-left

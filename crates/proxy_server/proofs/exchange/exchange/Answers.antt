@@ -1,26 +1,26 @@
 -- The exchange goes on, closes, or breaks off.
-use Rattle.serve_model.proofs.Exchanges.{broken_off, exchanged, closed, unasked, bytes_kept, ahead_kept}
-use Rattle.serve_model.specs.Dialog.{IsRequest}
-use Rattle.serve_model.specs.declared.ends.SessionEnd.TheVariants.{Closed}
-use Rattle.serve_model.proofs.Numbers.{none_last, has_tickets, all_numbered}
+use Rattle.server_model.proofs.Exchanges.{broken_off, exchanged, closed, unasked, bytes_kept, ahead_kept}
+use Rattle.http_talk.specs.Requests.{IsRequest}
+use Rattle.server_model.specs.declared.ends.SessionEnd.TheVariants.{Closed}
+use Rattle.server_model.proofs.Numbers.{none_last, has_tickets, all_numbered}
 use Rattle.proxy_server.proofs.exchange.exchange.Goals as goal
 
 pub returns-in-Err-clause-turned : goal.returns-in-Err-clause-turned
-returns-in-Err-clause-turned g c = unasked g.T.Turn.rests _ _ _ _ _ c.in-Err.end c.in-Err.ensures.gets
+returns-in-Err-clause-turned g c = unasked (g.A.Answers.gives (g.A.Answers.known c.args.answers.now)) g.T.Turn.rests _ _ _ _ _ c.in-Err.end c.in-Err.ensures.gets
 
 pub returns-in-Some-clause-turned : goal.returns-in-Some-clause-turned
 returns-in-Some-clause-turned g c =
-    broken_off g.T.Turn.rests _ _ _ _ _ _ _ _ c.in-Ok.received.head c.in-Ok.received.body c.in-Some.end c.in-Ok.ensures.gets.0 c.in-Ok.ensures.gets.1 c.in-Some.ensures.breaking c.in-Some.ensures.responds
+    broken_off (g.A.Answers.gives (g.A.Answers.known c.args.answers.now)) g.T.Turn.rests _ _ _ _ _ _ _ _ c.in-Ok.received.head c.in-Ok.received.body c.in-Some.end c.in-Ok.ensures.gets.0 c.in-Ok.ensures.gets.1 c.in-Some.ensures.breaking c.in-Some.ensures.replies
 
 pub returns-then-received-clause-turned : goal.returns-then-received-clause-turned
 returns-then-received-clause-turned g c =
-    closed g.T.Turn.rests _ _ _ _ _ _ _ _ c.in-Ok.received.head c.in-Ok.received.body c.in-Ok.ensures.gets.0 c.in-Ok.ensures.gets.1 c.in-None.ensures.responds c.if-received.true
+    closed (g.A.Answers.gives (g.A.Answers.known c.args.answers.now)) g.T.Turn.rests _ _ _ _ _ _ _ _ c.in-Ok.received.head c.in-Ok.received.body c.in-Ok.ensures.gets.0 c.in-Ok.ensures.gets.1 c.in-None.ensures.replies c.if-received.true
 
 pub returns-clause-turned : goal.returns-clause-turned
 returns-clause-turned g c =
-    exchanged g.T.Turn.rests _ _ _ _ _ _ _ c.in-Ok.received.head c.in-Ok.received.body
+    exchanged (g.A.Answers.gives (g.A.Answers.known c.args.answers.now)) g.T.Turn.rests _ _ _ _ _ _ _ _ c.in-Ok.received.head c.in-Ok.received.body
     (ahead_kept (IsRequest c.in-Ok.received.head c.in-Ok.received.body) _ _ _ c.in-Ok.ensures.gets.0 (bytes_kept _ _ c.receive.new.wire c.in-None.ensures.ahead))
-    c.in-Ok.ensures.gets.1 c.in-None.ensures.responds c.if-received.false
+    c.in-Ok.ensures.gets.1 c.in-None.ensures.replies c.if-received.false
 
 pub returns-in-Err-clause-numbered : goal.returns-in-Err-clause-numbered
 returns-in-Err-clause-numbered g c = none_last c.in-Err.end _ _ _ _ (has_tickets c.in-Err.end _ _ c.in-Err.ensures.other)

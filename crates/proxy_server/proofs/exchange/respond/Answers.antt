@@ -1,7 +1,7 @@
 -- Each end of asking a request.
-use Rattle.serve_model.specs.declared.ends.SessionEnd.TheVariants.{OutOfTickets}
-use Rattle.serve_model.proofs.Exchanges.{out_of_tickets}
-use Rattle.serve_model.proofs.Numbers.{none_last, one_asked, one_last}
+use Rattle.server_model.specs.declared.ends.SessionEnd.TheVariants.{OutOfTickets}
+use Rattle.server_model.proofs.Exchanges.{out_of_tickets}
+use Rattle.server_model.proofs.Numbers.{none_last, one_asked, one_last}
 use Rattle.proxy_server.proofs.Causes.{asking_breaks, asking_else}
 use Rattle.proxy_server.proofs.exchange.respond.Goals as goal
 

@@ -1,10 +1,10 @@
 -- Each end of the takes, and each take behind which more is to come.
 use Rattle.std.proofs.Common.{[], refl, ◌∙◌, arith}
-use Rattle.serve_model.specs.declared.progress.Taken.TheVariants as taken
-use Rattle.serve_model.proofs.Asks.{taken_as, nothing_yet, nothing_taken, part_taken, last_taken, stopped_then, rest_failed, client_went}
-use Rattle.serve_model.proofs.Numbers.{asked_none, asked_then, quiet_rest}
-use Rattle.serve_model.proofs.Exchanges.{keeps_then}
-use Rattle.serve_model.proofs.Said.{keeps_itself}
+use Rattle.server_model.specs.declared.progress.Taken.TheVariants as taken
+use Rattle.server_model.proofs.Asks.{taken_as, nothing_yet, nothing_taken, part_taken, last_taken, stopped_then, rest_failed, client_went}
+use Rattle.server_model.proofs.Numbers.{asked_none, asked_then, quiet_rest}
+use Rattle.server_model.proofs.Exchanges.{keeps_then}
+use Rattle.http_talk.proofs.Said.{keeps_itself}
 use Rattle.proxy_server.proofs.follow.follow.Goals as goal
 
 pub takes-init : goal.takes-init

@@ -1,8 +1,8 @@
 -- More is to come behind each take so far, and all that they say is written.
 use Rattle.std.proofs.Common.{[], ◌≡◌, ◌≤◌}
 use Rattle.std.specs.Io.KnownBytes.{Keeps}
-use Rattle.serve_model.specs.Numbers.{Asked}
-use Rattle.serve_model.specs.Parts.{Partly}
+use Rattle.server_model.specs.Numbers.{Asked}
+use Rattle.server_model.specs.Exchanges.{Partly}
 use Rattle.proxy_server.proofs.follow.follow.Given as goal
 
 abbrev pub invariant-takes : goal.invariant-takes

@@ -1,8 +1,8 @@
 -- Each kind of a Take.
 use Rattle.std.proofs.Common.{refl, Ok, Err}
 use Rattle.core_model.specs.declared.event.Outcome.TheVariants.{Replied, Pending, Item}
-use Rattle.serve_model.proofs.Asks.{made_as, took_nothing, took_reply, unsaid_last, passed_on, take_failed}
-use Rattle.serve_model.proofs.Numbers.{turn_asks_none}
+use Rattle.server_model.proofs.Asks.{made_as, took_nothing, took_reply, unsaid_last, passed_on, take_failed}
+use Rattle.server_model.proofs.Numbers.{turn_asks_none}
 use Rattle.proxy_server.proofs.take.take.Goals as goal
 
 pub returns-in-Ok-Pending-clause-takes : goal.returns-in-Ok-Pending-clause-takes
@@ -25,7 +25,7 @@ returns-in-Ok-Replied-clause-takes g c =
 
 pub returns-in-Ok-Item-clause-takes : goal.returns-in-Ok-Item-clause-takes
 returns-in-Ok-Item-clause-takes g c =
-    passed_on g.T.Turn.rests _ c.args.ticket _ c.args.begun _ _ _ _ c.in-Ok-Item.item c.pass_on.result (made_as _ _ _ _ _ (Item c.in-Ok-Item.item) c.in-Ok-Item.field-0-is c.in-Ok-Item.ensures.made) c.pass_on.ensures.passes
+    passed_on g.T.Turn.rests _ c.args.ticket _ c.args.begun _ _ _ _ c.in-Ok-Item.told c.pass_on.result (made_as _ _ _ _ _ (Item c.in-Ok-Item.told) c.in-Ok-Item.field-0-is c.in-Ok-Item.ensures.made) c.pass_on.ensures.passes
 
 pub returns-in-Ok-Item-clause-quiet : goal.returns-in-Ok-Item-clause-quiet
 returns-in-Ok-Item-clause-quiet g c = turn_asks_none _ _ _ _ (Ok c.in-Ok-Item.field-0) refl c.in-Ok-Item.ensures.made

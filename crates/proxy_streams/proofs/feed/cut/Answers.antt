@@ -1,6 +1,6 @@
 -- The stream is cut, or no more steps are made.
 use Rattle.std.proofs.Common.{sym, ◌∙◌}
-use Rattle.stream_model.proofs.Follows.{was_cut, was_worn}
+use Rattle.server_model.proofs.Follows.{was_cut, was_worn}
 use Rattle.proxy_streams.proofs.feed.cut.Goals as goal
 
 pub returns-then-is_worn-clause-cut : goal.returns-then-is_worn-clause-cut

@@ -1,6 +1,6 @@
 -- A message was fed, or couldn't be.
 use Rattle.std.proofs.Common.{sym, ◌∙◌}
-use Rattle.stream_model.proofs.Follows.{was_fed, cut_for_memory, refused_as}
+use Rattle.server_model.proofs.Follows.{was_fed, cut_for_memory, refused_as}
 use Rattle.proxy_streams.proofs.feed.feed.Goals as goal
 
 pub returns-in-Ok-clause-feeds : goal.returns-in-Ok-clause-feeds

@@ -1,8 +1,8 @@
 -- The stream was handed over, or is cut.
 use Rattle.core_model.specs.declared.event.CoreEvent.TheVariants.{Cut}
 use Rattle.std.proofs.Common.{None, Some}
-use Rattle.work_model.specs.declared.ends.WorkEnd.TheVariants.{NoMemory}
-use Rattle.work_model.proofs.Works.{not_sent}
+use Rattle.server_model.specs.declared.ends.WorkEnd.TheVariants.{NoMemory}
+use Rattle.server_model.proofs.Works.{not_sent}
 use Rattle.proxy_workers.proofs.Handing.{begun_as, fed_since, refused_as}
 use Rattle.proxy_workers.proofs.job.do_begin.Goals as goal
 

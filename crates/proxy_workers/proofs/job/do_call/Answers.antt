@@ -1,6 +1,6 @@
 -- The call's answer, or its loss, was fed.
-use Rattle.work_model.proofs.Works.{call_answered, call_unanswered}
-use Rattle.work_model.proofs.Hears.{called_as}
+use Rattle.server_model.proofs.Works.{call_answered, call_unanswered}
+use Rattle.server_model.proofs.Hears.{called_as}
 use Rattle.proxy_workers.proofs.job.do_call.Goals as goal
 
 pub returns-in-Ok-clause-made : goal.returns-in-Ok-clause-made

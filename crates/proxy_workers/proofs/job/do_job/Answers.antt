@@ -1,5 +1,5 @@
 -- What was done for a job, by its kind.
-use Rattle.work_model.proofs.Works.{did_begin, did_call, did_close}
+use Rattle.server_model.proofs.Works.{did_begin, did_call, did_close}
 use Rattle.proxy_workers.proofs.job.do_job.Goals as goal
 
 pub returns-in-Call-clause-done : goal.returns-in-Call-clause-done

@@ -1,6 +1,6 @@
 -- The step was made, or no more are.
 use Rattle.std.proofs.Common.{Ok, Err, refl, sym, ◌∙◌}
-use Rattle.work_model.proofs.Works.{was_fed, was_late}
+use Rattle.server_model.proofs.Works.{was_fed, was_late}
 use Rattle.proxy_workers.proofs.steps.feed.Goals as goal
 
 pub returns-in-Ok-clause-fed : goal.returns-in-Ok-clause-fed

@@ -1,6 +1,6 @@
 -- The answer was taken, or counts as lost, or no more steps are made.
 use Rattle.std.proofs.Common.{Ok, Err, refl, sym, ◌∙◌}
-use Rattle.work_model.proofs.Works.{reported, reported_late, reported_full}
+use Rattle.server_model.proofs.Works.{reported, reported_late, reported_full}
 use Rattle.proxy_workers.proofs.steps.report.Goals as goal
 
 pub returns-in-Ok-clause-reports : goal.returns-in-Ok-clause-reports

@@ -1,7 +1,7 @@
 -- Something is due, or nothing is, or no more is drawn.
 use Rattle.std.proofs.Common.{refl, None, Some, ◌∙◌}
 use Rattle.core_model.specs.declared.event.Outcome.TheVariants.{Job as Due}
-use Rattle.work_model.proofs.Works.{made_as, not_idle_yet, was_drawn, not_drawn, idled, no_rest, ends_as}
+use Rattle.server_model.proofs.Works.{made_as, not_idle_yet, was_drawn, not_drawn, idled, no_rest, ends_as}
 use Rattle.proxy_workers.proofs.turns.draw.Goals as goal
 
 pub looks-init : goal.looks-init

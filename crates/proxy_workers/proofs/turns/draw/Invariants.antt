@@ -1,6 +1,6 @@
 -- Nothing was due so far.
 use Rattle.std.proofs.Common.{◌≡◌, IsTrue}
-use Rattle.work_model.specs.Working.{IsIdle}
+use Rattle.server_model.specs.Working.{IsIdle}
 use Rattle.proxy_workers.proofs.turns.draw.Given as goal
 
 abbrev pub invariant-looks : goal.invariant-looks

@@ -1,6 +1,6 @@
 -- One job more, and each end.
 use Rattle.std.proofs.Common.{refl, ◌∙◌, arith}
-use Rattle.work_model.proofs.Works.{none_worked, one_more, undrawn, stopped, turned, done_at}
+use Rattle.server_model.proofs.Works.{none_worked, one_more, undrawn, stopped, turned, done_at}
 use Rattle.proxy_workers.proofs.turns.work.Goals as goal
 
 pub jobs-init : goal.jobs-init

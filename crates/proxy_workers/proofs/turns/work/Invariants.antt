@@ -1,6 +1,6 @@
 -- So many jobs were done.
 use Rattle.std.proofs.Common.{◌≡◌, IsTrue}
-use Rattle.work_model.specs.Working.{IsWorking, IsAt, ledger}
+use Rattle.server_model.specs.Working.{IsWorking, IsAt, ledger}
 use Rattle.proxy_workers.proofs.turns.work.Given as goal
 
 abbrev pub invariant-jobs : goal.invariant-jobs

@@ -1,0 +1,26 @@
+// How many clients are served at once.
+
+use etcd_types::{Bytes, NoMemory};
+use http_wire::write_reply;
+use outside::MemSink;
+use part_threads::CONNECTIONS;
+use sockets::{Budget, Door};
+use std::alloc::Global;
+use std::sync::Arc;
+
+/// What a client is told for which there is no room.
+const REFUSAL: &[u8] = b"{\"code\":14,\"message\":\"proxy: too many connections\"}";
+
+/// The status that goes with it.
+const UNAVAILABLE: u16 = 503;
+
+/// What lets as many clients in as may be, and as the system's limit on descriptors has room for.
+pub(crate) fn door_of(alloc: Global) -> Result<Door, NoMemory> {
+    let mut sink = MemSink::new(alloc, usize::MAX, Vec::new(alloc));
+    let refusal = match write_reply(alloc, &mut sink, UNAVAILABLE, REFUSAL) {
+        Ok(()) => Bytes::from_slice(alloc, sink.as_slice())?,
+        Err(_) => return Err(NoMemory),
+    };
+    let budget = Arc::new(alloc, Budget::of_system(CONNECTIONS))?;
+    Ok(Door::new(alloc, budget, refusal))
+}

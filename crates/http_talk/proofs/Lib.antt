@@ -1,0 +1,3 @@
+pub mod Said
+pub mod Receives
+pub mod Whole

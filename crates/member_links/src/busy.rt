@@ -1,0 +1,64 @@
+//! How many of a process's workers are inside calls.
+
+use socket_limits::{Pace, line_time, time};
+use std::rt::Clock as Times;
+use std::sync::atomic::AtomicU64;
+use std::sync::atomic::Ordering::SeqCst;
+
+/// All workers are busy where each was inside calls for so many milliseconds.
+const BUSY: u64 = 1_000;
+
+/// Between two calls a worker that has more to do takes fewer milliseconds than these.
+const BREAK: u64 = 10;
+
+/// A line says that all are busy once in so many milliseconds.
+const LINES: u64 = 60_000;
+
+/// The calls that a process's links are in the midst of, beside how many workers make calls.
+#[derive(Drop)]
+pub(crate) struct Busy {
+    // how many workers there are, or 0 where nobody is told that they are busy
+    workers: u64,
+    // how many calls are in progress
+    calls: AtomicU64,
+    // when a worker came last that had made no call for a while, by `time`
+    rested: AtomicU64,
+    pace: Pace,
+}
+
+impl Busy {
+    /// Nobody is inside a call.
+    pub(crate) fn new(workers: u64) -> Busy {
+        Busy {
+            workers,
+            calls: AtomicU64::new(0),
+            rested: AtomicU64::new(0),
+            pace: Pace::new(),
+        }
+    }
+
+    /// A worker begins a call. Its last one ended then, by `time`, or it made none where that is 0.
+    pub(crate) fn begin<R: Times>(&self, rt: &R, ended: u64) {
+        let now = time(rt).unwrap_or(0);
+        if now.saturating_sub(ended) > BREAK {
+            self.rested.store(now, SeqCst);
+        }
+        self.calls.fetch_add(1, SeqCst);
+    }
+
+    /// A worker's call ends. When that is, by `time`. Where all workers were inside calls for a second it is said on the standard error.
+    pub(crate) fn end<R: Times + Eprint>(&self, rt: &R) -> u64 {
+        let at = time(rt).unwrap_or(0);
+        let calls = self.calls.fetch_sub(1, SeqCst);
+        let workers = self.workers;
+        let is_full = 0 < workers && workers <= calls;
+        let is_long = BUSY <= at.saturating_sub(self.rested.load(SeqCst));
+        if is_full && is_long && self.pace.is_due(rt, LINES) {
+            let when = line_time(rt);
+            let _ = eprintln!(rt;
+                "{when:.3} WARN etcd_proxy: all {workers} workers were inside calls for a second, and further calls wait: see --workers"
+            );
+        }
+        at
+    }
+}

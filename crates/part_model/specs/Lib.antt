@@ -1,3 +1,0 @@
-pub mod Ticking
-pub mod Rounds
-pub mod Kinds

@@ -1,0 +1,15 @@
+pub mod Steps
+pub mod Asks
+pub mod Receives
+pub mod Exchanges
+pub mod Serves
+pub mod Numbers
+pub mod Complete
+pub mod Behind
+pub mod Follows
+pub mod Hears
+pub mod Late
+pub mod Links
+pub mod Works
+pub mod Ticks
+pub mod Rounded

@@ -1,0 +1,13 @@
+pub mod Steps
+pub mod Dialog
+pub mod Exchanges
+pub mod Numbers
+pub mod Complete
+pub mod CallKinds
+pub mod Calls
+pub mod Working
+pub mod StreamParts
+pub mod Following
+pub mod PartKinds
+pub mod Rounds
+pub mod Ticking

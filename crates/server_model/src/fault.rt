@@ -1,0 +1,25 @@
+use core_model::StepFault;
+use thiserror::Error;
+
+/// Why a turn gave no outcome.
+#[derive(Clone, Copy, Debug, PartialEq, Eq, Error)]
+pub enum TurnFault {
+    /// It makes no more steps.
+    #[error("worn")]
+    Worn,
+    /// The core's own.
+    #[error(transparent)]
+    Core(StepFault),
+}
+
+/// Why a call gave no answer.
+#[derive(Clone, Copy, Debug, PartialEq, Eq, Error)]
+pub enum CallFault {
+    /// The link failed, what came is no reply, or it is a refusal by a code that doesn't say that nothing was done. Whether the
+    /// call was done isn't known.
+    #[error("the call was lost")]
+    Lost,
+    /// Memory was wanting.
+    #[error("no memory")]
+    NoMemory,
+}

@@ -1,6 +1,0 @@
--- Each host that was read is a member.
-use Rattle.std.proofs.Common.{◌≡◌, vec_len}
-use Rattle.sockets.proofs.members.Members.new.Given as goal
-
-abbrev pub invariant-loop-host : goal.invariant-loop-host
-invariant-loop-host g l = vec_len l.all ≡ l.host-index

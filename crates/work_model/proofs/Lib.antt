@@ -1,4 +1,0 @@
-pub mod Hears
-pub mod Late
-pub mod Links
-pub mod Works
