@@ -8,8 +8,9 @@ PROGRAM is the built etcd_proxy. The parts, all of them where none is named, in 
 answers    each path of the API, watches and refusals too, by curl through the cluster's own JSON gateway, and through a proxy, one
            with a namespace and one that leases: all answer the same, field by field
 truth      clients at random on a few keys through two proxies, while proxies are killed, restarted and stopped for longer
-           than their session lives, and members are killed, stopped, compacted and defragmented: no read is older than a
-           write that was acknowledged before it began
+           than their session lives, and members are killed, stopped, compacted and defragmented: all answers have one order, in which
+           none stands before one that was given when its call began, and in which each shows what the store held there by the cluster's
+           own history; each watch is told that history, whole and in order
 links      the same, while the links between proxies and members are cut, in one direction, in both or wholly, held half open, and slow
 watches    a thousand equal watches through one proxy: the cluster counts one watcher more, each client gets each event
            once and in order, over a killed member
@@ -22,21 +23,41 @@ halves     clients that close their sending half behind a request have its reply
 leavers    clients that went away leave no thread, no descriptor and no watcher, also where the members say nothing
 canceled   watches that the members cancel, of an empty range and behind a compaction, pile up no threads
 room       memory and threads at rest are what they were
-limit      4,096 connections are served, a further one is closed, and one that ended makes room
+uploads    large requests that come slowly hold no other one up
+limit      4,096 connections are served, a further one is refused, and one that ended makes room
+descriptors
+           so are as many as a process with few descriptors has room for, and those at rest make room
 quiet      a proxy that makes no call while the member that its watches are on is killed or hangs: each of its watches, one or a hundred
            distinct ones, with leasing and without, goes on at another member, within 5 s and 25 s
+quiet_links
+           so it does where the link to that member fails: in one direction, in both, or wholly, or where it is slow
+quorum     so it does where that member is cut off from the others, and so does the owner of a key
 quiet_owner
            a proxy that answers cached reads alone gives a key up that another one wants to write, within the same
+restart    a proxy that was killed and starts again with its state file ends the session that it left: the first put of a key that it owned is
+           200 within 1 s; a second proxy with the same file ends with status 7
+full       a proxy whose state file has no room serves, without a session
+stop       the end of the standard input, and SIGTERM and SIGINT to `tools/serve.sh`, are a planned stop: what is asked has its reply, no further
+           client is served, the session ends at once, and the status is 0 within 6 s
 restored   another store behind the members' addresses ends the proxy with status 7 within 10 s, and members that restart in turn don't
 auth       once the cluster wants to know of users, cached reads end with the session, and one line for each member says so
 pauses     neither streams for which there is no thread nor members that are all down keep a processor busy
+scans      a range of several keys that takes seconds is waited for, and its member keeps the other calls
 workers    that all workers are inside calls is told, and 64 of them are enough where 8 aren't
 vanished   watches whose clients vanish, without a word, end within two minutes
+lines      messages of members that are longer than 8 MiB: events of keys that are deleted at once, a watch from a revision long ago,
+           and the end of a session with many ownership keys; and what is longer than the limit is asked for ever less often
+probes     what a server answers of itself, its version and whether some member answers, and other paths of the same requests
+real_clients
+           curl, and what Debian has of fronts and clients, unchanged: nginx, haproxy and stunnel as docs/OPERATIONS.md has them, the tests
+           of python3-etcd3gw, and patroni's classes; `tests/real_clients.py` says what each does
 down       with all members down cached reads go on to the session's end, and all else is refused; all is well once they are back
 
---short is what the gate runs: the first four, `clients`, `quiet` and `quiet_owner`, with smaller numbers and with patience for a busy machine.
+--short is what the gate runs: the first four and `clients`, and beside them `quiet`, `quiet_links` and `quiet_owner`, with smaller numbers and with patience
+for a busy machine.
 """
-import base64, contextlib, http.client, http.server, itertools, json, os, random, re, resource, selectors, shutil, signal, socket, subprocess, sys, tempfile, threading, time
+import base64, bisect, contextlib, heapq, http.client, http.server, itertools, json, os, random, re, resource
+import select, selectors, shutil, signal, socket, subprocess, sys, tempfile, threading, time, types
 
 LEASING = "L/"
 
@@ -102,13 +123,21 @@ class Cluster:
             self.stop()
             raise
 
+    def at(self, number):
+        """The address at which the others find a member."""
+        return "127.0.0.1"
+
+    def words(self, number):
+        """What a member's command begins with, and where its clients find it."""
+        return [], f"http://127.0.0.1:{self.ports[number]}"
+
     def start(self, number):
-        url = f"http://127.0.0.1:{self.ports[number]}"
-        peer = f"http://127.0.0.1:{self.peers[number]}"
-        others = ",".join(f"m{n}=http://127.0.0.1:{p}" for n, p in enumerate(self.peers))
+        first, url = self.words(number)
+        peer = f"http://{self.at(number)}:{self.peers[number]}"
+        others = ",".join(f"m{n}=http://{self.at(n)}:{p}" for n, p in enumerate(self.peers))
         with open(f"{self.folder}/m{number}.log", "ab") as log:
             self.processes[number] = subprocess.Popen(
-                ["etcd", "--name", f"m{number}", "--data-dir", f"{self.folder}/m{number}", "--listen-client-urls", url,
+                [*first, "etcd", "--name", f"m{number}", "--data-dir", f"{self.folder}/m{number}", "--listen-client-urls", url,
                  "--advertise-client-urls", url, "--listen-peer-urls", peer, "--initial-advertise-peer-urls", peer,
                  "--initial-cluster", others, "--initial-cluster-state", "new"],
                 stdout=log, stderr=log)
@@ -151,8 +180,13 @@ class Cluster:
             total += int(float(re.search(r"^etcd_debugging_mvcc_watcher_total (\S+)", text, re.M)[1]))
         return total
 
-    def compact(self):
-        revision = int(self.ask("/v3/kv/range", {"key": text64("?")})["header"]["revision"])
+    def unwatched(self):
+        """Waits until the watchers of earlier proxies are gone."""
+        until(lambda: self.watchers() == 0, 30, "the watchers of earlier proxies are gone")
+
+    def compact(self, most=None):
+        """Compacts the history up to now, or up to a revision."""
+        revision = most or int(self.ask("/v3/kv/range", {"key": text64("?")})["header"]["revision"])
         post(self.ports[0], "/v3/kv/compaction", {"revision": str(revision)})
 
     def stop(self):
@@ -167,8 +201,9 @@ LINE = re.compile(r"serving |listener fault$|\d{4}-\d\d-\d\dT\d\d:\d\d:\d\d\.\d{
 
 
 class Proxy:
-    def __init__(self, program, cluster, folder, name, *options, listen="127.0.0.1"):
-        self.program, self.cluster, self.options, self.listen = program, cluster, options, listen
+    def __init__(self, program, cluster, folder, name, *options, listen="127.0.0.1", served=False, files=None):
+        self.program, self.cluster, self.options, self.listen, self.served = program, cluster, options, listen, served
+        self.most_files = files
         self.port = free_port()
         self.told = f"{folder}/{name}.told"
         self.start()
@@ -176,10 +211,16 @@ class Proxy:
     def start(self):
         endpoints = ",".join(f"127.0.0.1:{port}" for port in self.cluster.ports)
         with open(self.told, "ab") as told:
-            self.process = subprocess.Popen(
-                [self.program, "grpc-proxy", "start", f"--endpoints={endpoints}", f"--listen-addr={self.listen}:{self.port}",
-                 *self.options], stderr=told)
+            words = [self.program, "grpc-proxy", "start", f"--endpoints={endpoints}", f"--listen-addr={self.listen}:{self.port}", *self.options]
+            if self.served:
+                words.insert(0, os.path.join(os.path.dirname(os.path.abspath(__file__)), "../tools/serve.sh"))
+            stops = "--stop-at-end" in self.options
+            self.process = subprocess.Popen(words, stdin=subprocess.PIPE if stops else None, stderr=told, start_new_session=self.served,
+                                            preexec_fn=self.limit if self.most_files else None)
         until(self.answers, 15, "the proxy answers")
+
+    def limit(self):
+        resource.setrlimit(resource.RLIMIT_NOFILE, (self.most_files, self.most_files))
 
     def answers(self):
         check(self.process.poll() is None, f"the proxy ended with status {self.process.poll()}")
@@ -232,25 +273,41 @@ class Proxy:
 BODY = re.compile(rb"(.*)\n(\d{3})$", re.S)
 
 
-# For so many seconds a watch is looked at.
-WATCHED = 3
+# For so many seconds watches are looked at, or for so many behind the last of what they are to tell.
+WATCHED, BEHIND = 3, 0.5
+
+KINDS = ("created", "events", "canceled")
 
 
-def looked_at(port, bodies):
-    """What watches that are begun at once tell in a while: the created messages, all events in order, and the cancellations."""
-    begun = [subprocess.Popen(["curl", "-s", "-N", "-m", str(WATCHED), "-d", json.dumps({"create_request": body}), f"http://127.0.0.1:{port}/v3/watch"],
+def told_by(text):
+    """What the lines of a watch tell: the created messages, all events in order, and the cancellations."""
+    items = [json.loads(line)["result"] for line in text.split(b"\n")[:-1] if line]
+    return {"created": [i for i in items if i.get("created")],
+            "events": [e for i in items for e in i.get("events", [])],
+            "canceled": [i for i in items if i.get("canceled")]}
+
+
+def looked_at(port, bodies, wanted=None):
+    """What watches that are begun at once tell in a while, or until they have told as much as is wanted of each, and a while more."""
+    begun = [subprocess.Popen(["curl", "-s", "-N", "-d", json.dumps({"create_request": body}), f"http://127.0.0.1:{port}/v3/watch"],
                               stdout=subprocess.PIPE) for body in bodies]
-    told = []
+    texts, ready, end = [b""] * len(bodies), selectors.DefaultSelector(), time.monotonic() + (4 * WATCHED * PATIENCE if wanted else WATCHED)
+    for number, one in enumerate(begun):
+        ready.register(one.stdout, selectors.EVENT_READ, number)
+    is_told = False
+    while time.monotonic() < end:
+        for key, _ in ready.select(0.1):
+            piece = os.read(key.fd, 65536)
+            texts[key.data] += piece
+            if not piece:
+                ready.unregister(key.fileobj)
+        if wanted and not is_told and all(len(told[kind]) >= len(theirs[kind]) for told, theirs in zip(map(told_by, texts), wanted) for kind in KINDS):
+            is_told, end = True, time.monotonic() + BEHIND
+    ready.close()
     for one in begun:
-        items = [json.loads(line)["result"] for line in chunks_of(one.communicate()[0])]
-        told.append({"created": [i for i in items if i.get("created")],
-                     "events": [e for i in items for e in i.get("events", [])],
-                     "canceled": [i for i in items if i.get("canceled")]})
-    return told
-
-
-def chunks_of(text):
-    return [line for line in text.split(b"\n") if line]
+        one.kill()
+        one.communicate()
+    return [told_by(text) for text in texts]
 
 
 def curl(port, path, body):
@@ -311,15 +368,17 @@ SESSION = 1 << 62
 
 
 class Told:
-    """What a port answered, with its keys counted from a prefix, its leases from a number and its revisions from where the store stood."""
+    """What a port answered, with its keys counted from a prefix, its leases from a number and its revisions from where the store stood. Watches are looked at
+    until they told what they did past the proxies, where that is known."""
 
-    def __init__(self, member, port, key, lease):
+    def __init__(self, member, port, key, lease, past=None):
         self.key, self.lease = key, lease
         # A member's own word: a proxy that leases may tell the revision at which it took the key.
         self.base = int(post(member, "/v3/kv/range", {"key": text64("?")})[1]["header"]["revision"])
         self.rows = []
-        for path, body in requests(key, lease, self.base):
-            status, answer = (200, looked_at(port, body)) if path == "/v3/watch" else curl(port, path, json.dumps(body))
+        for number, (path, body) in enumerate(requests(key, lease, self.base)):
+            status, answer = ((200, looked_at(port, body, past and past.rows[number][3])) if path == "/v3/watch" else
+                              curl(port, path, json.dumps(body)))
             self.rows.append((path, body, status, self.plain(answer)))
 
     def plain(self, value, name=""):
@@ -348,10 +407,10 @@ def unnumbered(value):
     return [unnumbered(v) for v in value] if isinstance(value, list) else value
 
 
-def told_whole(member, port, number):
+def told_whole(member, port, number, past):
     """What a proxy told where no call of its was lost: a member may take longer than a call may, which its clients are told by code 14."""
     for attempt in range(3):
-        told = Told(member, port, f"P{number}.{attempt}/", 2_000_000 + 1_000 * (3 * number + attempt))
+        told = Told(member, port, f"P{number}.{attempt}/", 2_000_000 + 1_000 * (3 * number + attempt), past)
         if all(status != 503 for _, _, status, _ in told.rows):
             return told
         print("answers: a call was lost, so all are made again")
@@ -365,7 +424,7 @@ def answers(world):
     member = world.cluster.ports[0]
     past = Told(member, member, "G/", 1_000_000)
     for number, (name, proxy, seen) in enumerate(proxies):
-        told = told_whole(member, proxy.port, number)
+        told = told_whole(member, proxy.port, number, past)
         for (path, body, status, answer), (_, _, wanted, theirs) in zip(told.rows, past.rows):
             # The status of a code is the proxy's own; those of code 9 differ between releases of the cluster.
             check(seen(answer) == seen(theirs) and (status == wanted or theirs.get("code") == 9),
@@ -374,41 +433,191 @@ def answers(world):
     print(f"answers: {len(past.rows)} calls answer the same past the proxies and through each of {len(proxies)}")
 
 
-# ---- no read is older than a write that was acknowledged before it began
+# ---- one order of all that clients were told, by the cluster's own history
+
+class Watch:
+    """A client that watches, over a connection of its own."""
+
+    def __init__(self, port, create):
+        self.socket = socket.create_connection(("127.0.0.1", port), 10)
+        body = json.dumps({"create_request": create}).encode()
+        self.socket.sendall(b"POST /v3/watch HTTP/1.1\r\nHost: h\r\nContent-Length: %d\r\n\r\n" % len(body) + body)
+        self.socket.setblocking(False)
+        self.bytes, self.text, self.head, self.events, self.created, self.ended = b"", b"", None, [], 0, False
+
+    def read(self):
+        """Takes what is there."""
+        try:
+            piece = self.socket.recv(65536)
+        except BlockingIOError:
+            return
+        except OSError:
+            piece = b""
+        if not piece:
+            self.ended = True
+        self.bytes += piece
+        if self.head is None and b"\r\n\r\n" in self.bytes:
+            self.head, self.bytes = self.bytes.split(b"\r\n\r\n", 1)
+        while self.head is not None and b"\r\n" in self.bytes:
+            size, rest = self.bytes.split(b"\r\n", 1)
+            length = int(size, 16)
+            if len(rest) < length + 2:
+                return
+            self.bytes = rest[length + 2:]
+            self.ended |= length == 0
+            # a member may send a line in pieces
+            *lines, self.text = (self.text + rest[:length]).split(b"\n")
+            for line in lines:
+                if line:
+                    self.take(json.loads(line)["result"])
+
+    def take(self, item):
+        self.created += bool(item.get("created"))
+        self.ended |= bool(item.get("canceled"))
+        self.events += [(int(e["kv"]["mod_revision"]), base64.b64decode(e["kv"].get("value", "")).decode())
+                        for e in item.get("events", [])]
+
+
+class Story(Watch):
+    """A watch that keeps each change of a key, by its revision and its value, or None where the key was deleted. `first` is the revision from which on it
+    was told all."""
+
+    def __init__(self, port, prefix, first=0):
+        self.first, self.changes, self.compacted, self.heard = first, [], False, time.monotonic()
+        super().__init__(port, {"key": text64(prefix), "range_end": text64(prefix + "~~"), "start_revision": str(first)})
+
+    def take(self, item):
+        if item.get("created") and self.first == 0:
+            self.first = int(item["header"]["revision"]) + 1
+        self.ended |= bool(item.get("canceled"))
+        self.compacted |= "compact_revision" in item
+        self.heard = time.monotonic()
+        for event in item.get("events", []):
+            kv = event["kv"]
+            value = None if event.get("type") == "DELETE" else base64.b64decode(kv.get("value", "")).decode()
+            self.changes.append((int(kv["mod_revision"]), base64.b64decode(kv["key"]).decode(), value))
+
+    def last(self):
+        return self.changes[-1][0] if self.changes else 0
+
+    def wait(self, seconds, is_enough):
+        """Reads until it is enough, or has ended, or nothing came for so long."""
+        while not (is_enough() or self.ended) and time.monotonic() < self.heard + seconds:
+            select.select([self.socket], [], [], 0.1)
+            self.read()
+        self.socket.close()
+
+
+class History(threading.Thread):
+    """What happened to the keys under a prefix, in the members' own words: a watch past the proxies, which goes on at another member."""
+
+    def __init__(self, cluster, prefix):
+        super().__init__(daemon=True)
+        self.cluster, self.prefix, self.marked = cluster, prefix, None
+        told = cluster.ask("/v3/kv/range", {"key": text64(prefix), "range_end": text64(prefix + "~~")})
+        check("kvs" not in told, f"there are keys under {prefix}")
+        self.first = self.next = int(told["header"]["revision"]) + 1
+        self.changes = []
+        self.start()
+
+    def run(self):
+        for port in itertools.cycle(self.cluster.ports):
+            try:
+                story = Story(port, self.prefix, self.next)
+            except OSError:
+                time.sleep(0.1)
+                continue
+            story.wait(2, lambda: self.take(story))
+            if self.is_whole():
+                return
+
+    def take(self, story):
+        """Takes what the watch was told, and whether that is all."""
+        self.next = max(self.next, story.last() + 1)
+        self.changes += story.changes
+        story.changes.clear()
+        return self.is_whole()
+
+    def is_whole(self):
+        return self.marked is not None and self.next > self.marked
+
+    def end(self):
+        """Waits until all is known that was written before."""
+        self.marked = int(self.cluster.ask("/v3/kv/put", {"key": text64(self.prefix + "~"), "value": ""})["header"]["revision"])
+        self.join(60 * PATIENCE)
+        check(not self.is_alive(), "the members don't tell their history")
+        self.by_key = {}
+        for revision, key, value in self.changes:
+            self.by_key.setdefault(key, []).append((revision, value))
+
+    def at(self, key, revision):
+        """What a key had at a revision, with the revision of that change, or None; and the revision of its next change, or None."""
+        changes = self.by_key.get(key, [])
+        after = bisect.bisect(changes, revision, key=lambda change: change[0])
+        record = changes[after - 1] if after and changes[after - 1][1] is not None else None
+        return record, changes[after][0] if after < len(changes) else None
+
+    def least(self, reads, revision):
+        """The least revision from this one on at which the keys had what was read of them, or None."""
+        while True:
+            held = {key: self.at(key, revision) for key in reads}
+            wrong = [key for key in reads if held[key][0] != reads[key]]
+            if not wrong:
+                return revision
+            later = [held[key][1] for key in wrong]
+            if None in later:
+                return None
+            revision = max(later)
+
 
 class Book:
-    """What was written and acknowledged, by key, and whether a read may show what it showed."""
+    """What clients were told, each call with what it read and what it wrote: whether there is one order of all of it, in which no call
+    stands before one that had ended when it began, and each shows what the store held there, by the cluster's history."""
 
-    def __init__(self):
-        self.lock = threading.Lock()
-        self.acknowledged = {}  # key: [(revision, value or None, when)]
-        self.deleting = {}  # key: [[begun, ended or None, revision or None]]
-        self.faults, self.reads, self.writes, self.unknown = [], 0, 0, 0
+    def __init__(self, history):
+        self.history, self.lock = history, threading.Lock()
+        self.calls, self.unknown, self.faults = [], 0, []
 
-    def wrote(self, key, revision, value):
+    def told(self, begun, where, header, reads, written=None):
+        """A call was answered: what it read, the revision of its answer, and which value it wrote to which key with that revision."""
         with self.lock:
-            self.acknowledged.setdefault(key, []).append((revision, value, time.monotonic()))
-            self.writes += 1
+            self.calls.append((begun, time.monotonic(), where, header, reads, written))
 
-    def delete_begins(self, key):
-        entry = [time.monotonic(), None, None]
-        with self.lock:
-            self.deleting.setdefault(key, []).append(entry)
-        return entry
+    def wrong(self, call, why):
+        self.faults.append(f"{call[2]}: at {call[3]} read {call[4]} and wrote {call[5]}: {why}")
 
-    def read(self, key, begun, revision, value, where):
-        """A read of the key that began then showed this record, or none where `value` is None."""
-        with self.lock:
-            self.reads += 1
-            writes = self.acknowledged.get(key, [])
-            before = max(((r, v) for r, v, when in writes if when < begun), default=(0, None))
-            if value is not None:
-                same = [v for r, v, _ in writes if r == revision]
-                if revision < before[0] or (same and same[0] != value):
-                    self.faults.append(f"{where}: {key} showed {value} of {revision}, though {before} was acknowledged before")
-            elif before[1] is not None and not any(
-                    r is None or r > before[0] for _, _, r in self.deleting.get(key, [])):
-                self.faults.append(f"{where}: {key} showed none, though {before} was acknowledged before")
+    def judge(self):
+        """Notes each answer that has no place in the order, and each value that the store took twice."""
+        history, ended, floor = self.history, [], (self.history.first - 1, None)
+        for call in sorted(self.calls, key=lambda call: call[0]):
+            begun, end, where, header, reads, written = call
+            while ended and ended[0][0] < begun:
+                floor = max(floor, heapq.heappop(ended)[1:], key=lambda one: one[0])
+            if written is None:
+                place = history.least(reads, floor[0])
+                if place is None:
+                    self.wrong(call, f"it is older than {floor}, which had ended when it began")
+                elif history.least(reads, header) != header:
+                    self.wrong(call, "the store held something else at its revision")
+            else:
+                key, value = written
+                place = header
+                if header <= floor[0]:
+                    self.wrong(call, f"it stands before {floor}, which had ended when it began")
+                elif (header, value) not in history.by_key.get(key, []):
+                    self.wrong(call, "the store has no such change")
+                elif reads and history.least(reads, header - 1) != header - 1:
+                    self.wrong(call, "the store held something else before it")
+            heapq.heappush(ended, (end, place or floor[0], where))
+        values = [value for _, _, value in history.changes if value]
+        if len(set(values)) != len(values):
+            self.faults.append(f"the store took a value twice: {[v for v in set(values) if values.count(v) > 1]}")
+
+    def check(self, reads, writes):
+        self.judge()
+        self.reads, self.writes = (sum((call[5] is None) == is_read for call in self.calls) for is_read in (True, False))
+        check(not self.faults, "\n  ".join([f"{len(self.faults)} answers aren't the store's:"] + self.faults[:10]))
+        check(self.reads > reads and self.writes > writes, f"only {self.reads} reads and {self.writes} writes came through")
 
 
 class Writer(threading.Thread):
@@ -420,28 +629,52 @@ class Writer(threading.Thread):
         self.random, self.ended, self.name, self.count = random.Random(seed), ended, f"client {seed}", 0
 
     def run(self):
+        kinds = {self.get: 10, self.past: 2, self.put: 4, self.delete: 1, self.swap: 2, self.several: 2, self.all: 1}
         while not self.ended.is_set():
-            key = self.random.choice(self.keys)
-            kind = self.random.choices(["get", "put", "delete", "swap", "past"], [10, 4, 1, 2, 2])[0]
-            port = self.random.choice(self.members if kind == "past" else self.ports)
+            kind = self.random.choices([*kinds], kinds.values())[0]
+            port = self.random.choice(self.members if kind == self.past else self.ports)
             try:
-                getattr(self, "past" if kind == "past" else kind)(port, key)
+                kind(port, self.random.choice(self.keys))
             except (KeyError, TypeError, ValueError) as error:
-                self.book.faults.append(f"{self.name}: {kind} of {key}: {error!r}")
+                self.book.faults.append(f"{self.name}: {kind.__name__}: {error!r}")
             time.sleep(self.random.random() * 0.004)
 
-    def get(self, port, key):
-        begun = time.monotonic()
-        told = post(port, "/v3/kv/range", {"key": text64(key)}, 8)
-        if told is None or told[0] != 200:
-            return
-        kvs = told[1].get("kvs", [])
-        if kvs:
-            self.book.read(key, begun, int(kvs[0]["mod_revision"]), base64.b64decode(kvs[0]["value"]).decode(), f"port {port}")
-        else:
-            self.book.read(key, begun, 0, None, f"port {port}")
+    def asked(self, port, path, body):
+        """When a call began, and its answer, or None where there is none."""
+        begun, told = time.monotonic(), post(port, path, body, 8)
+        return begun, told[1] if told is not None and told[0] == 200 else None
 
-    past = get
+    def read_of(self, keys, *answers):
+        """What answers show of keys."""
+        reads = dict.fromkeys(keys)
+        for kv in (kv for answer in answers for kv in answer.get("kvs", [])):
+            reads[base64.b64decode(kv["key"]).decode()] = (int(kv["mod_revision"]), base64.b64decode(kv.get("value", "")).decode())
+        return reads
+
+    def noted(self, kind, port, begun, told, reads, written=None):
+        self.book.told(begun, f"{self.name}, {kind} at port {port}", int(told["header"]["revision"]), reads, written)
+
+    def get(self, port, key):
+        begun, told = self.asked(port, "/v3/kv/range", {"key": text64(key)})
+        if told is not None:
+            self.noted("get", port, begun, told, self.read_of([key], told))
+
+    def past(self, port, key):
+        self.get(port, key)
+
+    def all(self, port, _):
+        """Reads all keys at once."""
+        prefix = self.book.history.prefix
+        begun, told = self.asked(port, "/v3/kv/range", {"key": text64(prefix), "range_end": text64(prefix + "~")})
+        if told is not None:
+            self.noted("range", port, begun, told, self.read_of(self.keys, told))
+
+    def several(self, port, _):
+        """A transaction that only reads."""
+        keys = self.random.sample(self.keys, 3)
+        begun, told = self.asked(port, "/v3/kv/txn", {"success": [{"request_range": {"key": text64(key)}} for key in keys]})
+        if told is not None:
+            self.noted("reads", port, begun, told, self.read_of(keys, *(one.get("response_range", {}) for one in told["responses"])))
 
     def value(self):
         self.count += 1
@@ -449,44 +682,100 @@ class Writer(threading.Thread):
 
     def put(self, port, key):
         value = self.value()
-        told = post(port, "/v3/kv/put", {"key": text64(key), "value": text64(value)}, 8)
-        if told is None or told[0] != 200:
+        begun, told = self.asked(port, "/v3/kv/put", {"key": text64(key), "value": text64(value)})
+        if told is None:
             self.book.unknown += 1
-            return
-        self.book.wrote(key, int(told[1]["header"]["revision"]), value)
+        else:
+            self.noted("put", port, begun, told, {}, (key, value))
 
     def delete(self, port, key):
-        entry = self.book.delete_begins(key)
-        told = post(port, "/v3/kv/deleterange", {"key": text64(key)}, 8)
-        if told is None or told[0] != 200:
+        begun, told = self.asked(port, "/v3/kv/deleterange", {"key": text64(key)})
+        if told is None:
             self.book.unknown += 1
-            return
-        revision = int(told[1]["header"]["revision"])
-        if "deleted" in told[1]:
-            entry[2] = revision
-            self.book.wrote(key, revision, None)
+        elif "deleted" in told:
+            self.noted("delete", port, begun, told, {}, (key, None))
         else:
-            entry[2] = 0
+            self.noted("delete of none", port, begun, told, {key: None})
 
     def swap(self, port, key):
         """A transaction that reads the key and puts it."""
-        value, begun = self.value(), time.monotonic()
-        told = post(port, "/v3/kv/txn", {"success": [{"request_range": {"key": text64(key)}},
-                                                     {"request_put": {"key": text64(key), "value": text64(value)}}]}, 8)
-        if told is None or told[0] != 200:
+        value = self.value()
+        begun, told = self.asked(port, "/v3/kv/txn", {"success": [{"request_range": {"key": text64(key)}},
+                                                                  {"request_put": {"key": text64(key), "value": text64(value)}}]})
+        if told is None:
             self.book.unknown += 1
-            return
-        kvs = told[1]["responses"][0].get("response_range", {}).get("kvs", [])
-        if kvs:
-            self.book.read(key, begun, int(kvs[0]["mod_revision"]), base64.b64decode(kvs[0]["value"]).decode(), f"port {port}, txn")
         else:
-            self.book.read(key, begun, 0, None, f"port {port}, txn")
-        self.book.wrote(key, int(told[1]["header"]["revision"]), value)
+            self.noted("swap", port, begun, told, self.read_of([key], told["responses"][0].get("response_range", {})), (key, value))
 
 
-def troubles(world, proxies, ended, chance):
+class Watcher(threading.Thread):
+    """Watches keys through one proxy after the other, each time from where it stopped, and keeps what each watch was told."""
+
+    def __init__(self, history, ports, seed):
+        super().__init__(daemon=True)
+        self.history, self.ports, self.random, self.stories = history, ports, random.Random(seed), []
+        self.start()
+
+    def is_done(self):
+        marked = self.history.marked
+        return marked is not None and any(story.last() >= marked for story in self.stories[-1:])
+
+    def run(self):
+        first = 0
+        while not self.is_done():
+            try:
+                story = Story(self.random.choice(self.ports), self.history.prefix, first)
+            except OSError:
+                time.sleep(0.1)
+                continue
+            self.stories.append(story)
+            story.wait(3, self.is_done)
+            # behind a compaction it goes on from what is there then
+            first = 0 if story.compacted or story.first == 0 else max(story.first, story.last() + 1)
+
+    def check(self):
+        """Each watch was told the history from where it began, whole and in order, and the last one all of it."""
+        self.join(60 * PATIENCE)
+        check(not self.is_alive(), "a watch isn't told the last change")
+        for story in self.stories:
+            at = bisect.bisect_left(self.history.changes, story.first, key=lambda change: change[0])
+            wanted = self.history.changes[at:at + len(story.changes)]
+            check(story.changes == wanted, f"a watch from {story.first} was told {story.changes[:50]}, and the store has {wanted[:50]}")
+        return sum(len(story.changes) for story in self.stories)
+
+
+class Trial:
+    """Clients and watches at random on the keys under a prefix, through proxies, until so many seconds are over."""
+
+    def __init__(self, world, prefix, proxies, seconds):
+        self.ended, self.proxies = threading.Event(), proxies
+        self.history = History(world.cluster, prefix)
+        self.book = Book(self.history)
+        ports = [proxy.port for proxy in proxies]
+        self.watchers = [Watcher(self.history, ports, world.seed + n) for n in range(3)]
+        self.clients = [Writer(self.book, ports, world.cluster.ports, [f"{prefix}{n}" for n in range(20)], world.seed + n, self.ended) for n in range(8)]
+        for client in self.clients:
+            client.start()
+        threading.Timer(seconds, self.ended.set).start()
+
+    def end(self, reads, writes):
+        """Judges it, and says what there was."""
+        for client in self.clients:
+            client.join(30)
+        for proxy in self.proxies:
+            until(proxy.answers, 15, "the proxy answers once all is well")
+        self.history.end()
+        told = sum(watcher.check() for watcher in self.watchers)
+        self.book.check(reads, writes)
+        for proxy in self.proxies:
+            proxy.stop()
+        return (f"{self.book.reads} reads, {self.book.writes} acknowledged writes, {self.book.unknown} without an answer, "
+                f"and {told} events of {sum(len(watcher.stories) for watcher in self.watchers)} watches are those of the cluster's history, in one order")
+
+
+def troubles(world, trial, chance):
     """What happens meanwhile, one thing after the other."""
-    cluster = world.cluster
+    cluster, ended = world.cluster, trial.ended
 
     def proxy_dies(proxy):
         proxy.kill()
@@ -509,7 +798,7 @@ def troubles(world, proxies, ended, chance):
         cluster.signal(number, signal.SIGCONT)
 
     def compacted(number):
-        cluster.compact()
+        cluster.compact(trial.history.next - 1)
         subprocess.run(["etcdctl", f"--endpoints=127.0.0.1:{cluster.ports[number]}", "defrag"], capture_output=True,
                        env={**os.environ, "ETCDCTL_API": "3"})
 
@@ -518,41 +807,57 @@ def troubles(world, proxies, ended, chance):
         # each kind once before any comes again
         kinds = kinds or chance.sample([proxy_dies, proxy_rests, member_dies, member_rests, compacted], 5)
         what = kinds.pop()
-        what(chance.choice(proxies) if what in (proxy_dies, proxy_rests) else chance.randrange(len(cluster.ports)))
+        what(chance.choice(trial.proxies) if what in (proxy_dies, proxy_rests) else chance.randrange(len(cluster.ports)))
         happened.append(what.__name__)
     return happened
 
 
 def truth(world):
-    """No read is older than an acknowledged write."""
+    """All that clients are told has one order, which is the store's."""
     proxies = [world.proxy(f"truth{n}", f"--leasing-prefix={LEASING}") for n in range(2)]
-    book, ended = Book(), threading.Event()
-    keys = [f"t/{n}" for n in range(20)]
-    clients = [Writer(book, [p.port for p in proxies], world.cluster.ports, keys, seed, ended) for seed in range(8)]
-    for client in clients:
-        client.start()
-    threading.Timer(12 if world.short else 60, ended.set).start()
-    happened = troubles(world, proxies, ended, random.Random(world.seed))
-    for client in clients:
-        client.join(30)
-    check(not book.faults, "\n  ".join(["stale reads:"] + book.faults[:10]))
-    check(book.reads > 100 and book.writes > 30, f"only {book.reads} reads and {book.writes} writes came through")
-    for proxy in proxies:
-        proxy.stop()
-    print(f"truth: {book.reads} reads, {book.writes} acknowledged writes, {book.unknown} without an answer, none stale; "
-          f"meanwhile {', '.join(happened)}")
+    trial = Trial(world, "t/", proxies, 12 if world.short else 60)
+    happened = troubles(world, trial, random.Random(world.seed))
+    print(f"truth: {trial.end(100, 30)}; meanwhile {', '.join(happened)}")
 
 
 # ---- links that fail
 
+@contextlib.contextmanager
+def far_away(count=1):
+    """A network of its own, by its name, which is reached over links, each by the names of its ends here and there, and their addresses; or nothing
+    where there can be none."""
+    name = f"far{os.getpid()}"
+    # one of its own for each run on this machine
+    net = os.getpid() % 100 * 2
+    links = [(f"fo{os.getpid()}.{n}", f"ft{os.getpid()}.{n}", f"10.213.{net + n}.1", f"10.213.{net + n}.2") for n in range(count)]
+    ip = lambda *words: subprocess.run(["ip", *words], capture_output=True, check=True)
+    try:
+        ip("netns", "add", name)
+    except (OSError, subprocess.CalledProcessError):
+        yield None
+        return
+    try:
+        ip("-n", name, "link", "set", "lo", "up")
+        for ours, theirs, here, there in links:
+            ip("link", "add", ours, "type", "veth", "peer", "name", theirs, "netns", name)
+            ip("addr", "add", f"{here}/30", "dev", ours)
+            ip("link", "set", ours, "up")
+            ip("-n", name, "addr", "add", f"{there}/30", "dev", theirs)
+            ip("-n", name, "link", "set", theirs, "up")
+        yield name, links
+    finally:
+        ip("netns", "del", name)
+
+
 class Relay(threading.Thread):
     """What lies between proxies and one member: it may hold what goes to the member, what comes from it, or both, lose the member's end of each
-    connection, refuse connections, and be slow."""
+    connection, refuse connections, and be slow. An end that is left open without its other one is closed with the next change, as the system would do
+    when it has asked for that one in vain, which here would take too long."""
 
     def __init__(self, target):
         super().__init__(daemon=True)
         self.target, self.listener, self.state, self.ended = target, None, "well", False
-        self.lock, self.pairs = threading.Lock(), []
+        self.lock, self.pairs, self.halves = threading.Lock(), [], []
         self.port = free_port()
         self.listen()
         self.start()
@@ -565,14 +870,15 @@ class Relay(threading.Thread):
         while not self.ended:
             try:
                 client, _ = self.listener.accept()
-                member = socket.create_connection(("127.0.0.1", self.target), 5)
+                member = socket.create_connection(self.target, 5)
             except OSError:
                 time.sleep(0.01)
                 continue
             with self.lock:
                 self.pairs.append((client, member))
+            for end in (client, member):
+                end.settimeout(0.2)
             for source, sink, way in ((client, member, "to"), (member, client, "from")):
-                source.settimeout(0.2)
                 threading.Thread(target=self.carry, args=(source, sink, way), daemon=True).start()
 
     def carry(self, source, sink, way):
@@ -603,26 +909,55 @@ class Relay(threading.Thread):
             self.listen()
         self.state = state
         with self.lock:
-            pairs, self.pairs = self.pairs, [] if state in ("half", "cut") else self.pairs
-        if state == "cut":
-            self.listener.close()
-        for client, member in pairs if state in ("half", "cut") else ():
-            for end in (member, client) if state == "cut" else (member,):
-                try:
-                    end.shutdown(socket.SHUT_RDWR)
-                except OSError:
-                    pass
+            ends, self.halves = self.halves, []
+            if state in ("half", "cut"):
+                ends += [member for _, member in self.pairs]
+                self.halves = [client for client, _ in self.pairs]
+                self.pairs = []
+            if state == "cut":
+                ends, self.halves = ends + self.halves, []
+                self.listener.close()
+        for end in ends:
+            with contextlib.suppress(OSError):
+                end.shutdown(socket.SHUT_RDWR)
 
     def stop(self):
         self.become("cut")
         self.ended = True
 
 
+class FarCluster(Cluster):
+    """Three members of which the first is in a network of its own, reached by clients over its first link, through a relay, and by the others over the
+    second one."""
+
+    def __init__(self, folder, name, links):
+        self.name, (*_, self.there), (*_, self.home, self.far) = name, *links
+        self.relay, self.inner = None, free_port()
+        super().__init__(folder)
+
+    def at(self, number):
+        return self.far if number == 0 else self.home
+
+    def start(self, number):
+        if self.relay is None:
+            self.relay = Relay((self.there, self.inner))
+            self.ports[0] = self.relay.port
+        super().start(number)
+
+    def words(self, number):
+        """How a member is started, and where its clients find it."""
+        return (["ip", "netns", "exec", self.name], f"http://{self.there}:{self.inner}") if number == 0 else super().words(number)
+
+    def stop(self):
+        super().stop()
+        self.relay.stop()
+
+
 class Relays:
     """A relay before each member, as a cluster that proxies may be started before."""
 
     def __init__(self, cluster):
-        self.all = [Relay(port) for port in cluster.ports]
+        self.all = [Relay(("127.0.0.1", port)) for port in cluster.ports]
         self.ports = [relay.port for relay in self.all]
 
     def stop(self):
@@ -631,79 +966,26 @@ class Relays:
 
 
 def links(world):
-    """No read is older than an acknowledged write, whatever the links do."""
+    """The same, whatever the links do."""
     chance, relays = random.Random(world.seed), Relays(world.cluster)
     proxies = [world.proxy(f"links{n}", f"--leasing-prefix={LEASING}", before=relays) for n in range(2)]
-    book, ended, happened, states = Book(), threading.Event(), [], []
-    keys = [f"k/{n}" for n in range(20)]
-    clients = [Writer(book, [p.port for p in proxies], world.cluster.ports, keys, 100 + seed, ended) for seed in range(8)]
-    for client in clients:
-        client.start()
-    threading.Timer(18 if world.short else 90, ended.set).start()
-    while not ended.wait(1):
+    trial, happened, states = Trial(world, "k/", proxies, 18 if world.short else 90), [], []
+    while not trial.ended.wait(1):
         states = states or chance.sample(["to", "from", "both", "slow", "half", "cut"], 6)
         # one link, or all: then nothing but cached reads is answered
         some, state = chance.choice([relays.all, *([relay] for relay in relays.all)]), states.pop()
         for relay in some:
             relay.become(state)
-        ended.wait(chance.choice([1, 2, world.ttl + 3]) if not world.short else 2)
+        trial.ended.wait(chance.choice([1, 2, world.ttl + 3]) if not world.short else 2)
         for relay in some:
             relay.become("well")
         happened.append(f"{state} {len(some)}")
-    for client in clients:
-        client.join(30)
-    check(not book.faults, "\n  ".join(["stale reads:"] + book.faults[:10]))
-    check(book.reads > 50 and book.writes > 10, f"only {book.reads} reads and {book.writes} writes came through")
-    for proxy in proxies:
-        until(proxy.answers, 15, "the proxy answers once the links are well")
-        proxy.stop()
+    told = trial.end(50, 10)
     relays.stop()
-    print(f"links: {book.reads} reads, {book.writes} acknowledged writes, {book.unknown} without an answer, none stale; "
-          f"meanwhile {', '.join(happened)}")
+    print(f"links: {told}; meanwhile {', '.join(happened)}")
 
 
 # ---- equal watches
-
-class Watch:
-    """A client that watches, over a connection of its own."""
-
-    def __init__(self, port, create):
-        self.socket = socket.create_connection(("127.0.0.1", port), 10)
-        body = json.dumps({"create_request": create}).encode()
-        self.socket.sendall(b"POST /v3/watch HTTP/1.1\r\nHost: h\r\nContent-Length: %d\r\n\r\n" % len(body) + body)
-        self.socket.setblocking(False)
-        self.bytes, self.head, self.events, self.created, self.ended = b"", None, [], 0, False
-
-    def read(self):
-        """Takes what is there."""
-        try:
-            piece = self.socket.recv(65536)
-        except BlockingIOError:
-            return
-        except OSError:
-            piece = b""
-        if not piece:
-            self.ended = True
-        self.bytes += piece
-        if self.head is None and b"\r\n\r\n" in self.bytes:
-            self.head, self.bytes = self.bytes.split(b"\r\n\r\n", 1)
-        while self.head is not None and b"\r\n" in self.bytes:
-            size, rest = self.bytes.split(b"\r\n", 1)
-            length = int(size, 16)
-            if len(rest) < length + 2:
-                return
-            self.bytes = rest[length + 2:]
-            if length == 0:
-                self.ended = True
-            else:
-                self.take(json.loads(rest[:length])["result"])
-
-    def take(self, item):
-        self.created += bool(item.get("created"))
-        self.ended |= bool(item.get("canceled"))
-        self.events += [(int(e["kv"]["mod_revision"]), base64.b64decode(e["kv"].get("value", "")).decode())
-                        for e in item.get("events", [])]
-
 
 def watched(watches, holds, seconds, what):
     """Reads from all watches until it holds."""
@@ -735,10 +1017,10 @@ def watches(world):
     count = 200 if world.short else 1000
     proxy = world.proxy("watches")
     put(proxy, "w/0", "before")
-    stood = world.cluster.watchers()
+    world.cluster.unwatched()
     all_watches = [Watch(proxy.port, {"key": text64("w/"), "range_end": text64("w0")}) for _ in range(count)]
     watched(all_watches, lambda: all(w.created for w in all_watches), 30, "all watches are created")
-    check(world.cluster.watchers() == stood + 1, f"{count} equal watches: {stood} watchers before, {world.cluster.watchers()} with them")
+    check(world.cluster.watchers() == 1, f"{count} equal watches: {world.cluster.watchers()} watchers")
     written = []
     for number in range(20):
         value = f"value {number}"
@@ -898,11 +1180,16 @@ def halves(world):
     print(f"halves: {count} clients that closed their sending half behind a request had their replies")
 
 
+# so many clients a second may leave as soon as they watch, since each is noticed within ten seconds
+PACE = 16
+
+
 def leavers(world):
     """Clients that went away leave nothing."""
     proxy = world.proxy("leavers")
     put(proxy, "w/0", "v")
-    stood, (threads, _) = world.cluster.watchers(), proxy.counts()
+    world.cluster.unwatched()
+    threads, _ = proxy.counts()
     # as many as one a second for an hour
     for _ in range(9):
         some = [Watch(proxy.port, {"key": text64("w/"), "range_end": text64("w0")}) for _ in range(200)]
@@ -915,17 +1202,29 @@ def leavers(world):
     # A watch that rests looks for its client each ten seconds, and a stream that nobody watches ends at its next message.
     until(lambda: proxy.counts()[0] <= threads + 1, 30, "threads of clients that went away are gone")
     put(proxy, "w/0", "w")
-    until(lambda: proxy.counts()[0] <= threads and world.cluster.watchers() <= stood, 30, "nothing of clients that went away is left")
+    until(lambda: proxy.counts()[0] <= threads and world.cluster.watchers() == 0, 30, "nothing of clients that went away is left")
     files = proxy.files()
     some = [Watch(proxy.port, {"key": text64(f"idle/{n}")}) for n in range(300)]
     watched(some, lambda: all(w.created for w in some), 30, "all watches are created")
-    check(world.cluster.watchers() >= stood + 300, "watches of distinct ranges have a watcher each")
+    check(world.cluster.watchers() >= 300, "watches of distinct ranges have a watcher each")
     for one in some:
         one.socket.close()
-    until(lambda: proxy.counts()[0] <= threads and proxy.files() <= files and world.cluster.watchers() <= stood, 25,
+    until(lambda: proxy.counts()[0] <= threads and proxy.files() <= files and world.cluster.watchers() == 0, 25,
           "nothing is left of clients that watched what nobody wrote")
+    count, most, begun = 1_000, 0, time.monotonic()
+    for number in range(count):
+        time.sleep(max(0, begun + number / PACE - time.monotonic()))
+        one = Watch(proxy.port, {"key": text64(f"one/{number}")})
+        watched([one], lambda: one.created, 10, "a watch is created")
+        one.socket.close()
+        if number % 20 == 0:
+            most = max(most, proxy.counts()[0])
+            check(most <= 400, f"{number} clients one after the other, in {time.monotonic() - begun:.0f} s, had {most} threads")
+    until(lambda: proxy.counts()[0] <= threads and proxy.files() <= files and world.cluster.watchers() == 0, 25,
+          "nothing is left of clients that came one after the other")
     proxy.stop()
-    print("leavers: 1,800 watches, 1,800 idle connections and 300 watches of distinct idle ranges that went away left no thread, descriptor or watcher")
+    print(f"leavers: 1,800 watches, 1,800 idle connections and 300 watches of distinct idle ranges that went away left no thread, descriptor or watcher; "
+          f"{count} clients one after the other had {most} threads at most")
 
 
 def canceled(world):
@@ -964,6 +1263,74 @@ def room(world):
     print(f"room: {threads} threads at rest, {memory} KB became {after} KB over 10,000 reads")
 
 
+def check_refused(client):
+    """A client for which there is no room is told so, and its connection is closed."""
+    status, told = next_reply(client)
+    check((status, told) == (503, b'{"code":14,"message":"proxy: too many connections"}') and client.recv(1) == b"", f"a connection too many: {status} {told}")
+
+
+def descriptors(world):
+    """A process with few descriptors serves those whom it lets in."""
+    proxy = Proxy(world.program, world.cluster, world.folder, "descriptors", files=256)
+    world.proxies.append(proxy)
+    put(proxy, "f/0", "v")
+    check(proxy.lines("at most 192 connections"), f"the proxy told: {proxy.lines()}")
+    # the connections so far linger for a second
+    time.sleep(2)
+    some = [socket.create_connection(("127.0.0.1", proxy.port), 5 * PATIENCE) for _ in range(250)]
+    for one in some[192:]:
+        check_refused(one)
+    body = json.dumps({"key": text64("f/0"), "value": text64("w")}).encode()
+    for one in (some[0], some[191]):
+        one.sendall(head(b"Content-Length: %d" % len(body), path=b"/v3/kv/put") + body)
+        check(next_reply(one)[0] == 200, "a put on a connection that was let in is done")
+    until(lambda: (proxy.post("/v3/kv/put", json.loads(body)) or (0,))[0] == 200, 65, "connections at rest make room")
+    for one in some:
+        one.close()
+    proxy.stop()
+    print("descriptors: of 250 connections with 256 descriptors 192 were let in and served, and made room when they rested")
+
+
+def uploads(world):
+    """Large requests that come slowly hold nobody up."""
+    proxy, count = world.proxy("uploads", "--workers=64"), 64
+    put(proxy, "u/0", "v")
+    stopped = [socket.create_connection(("127.0.0.1", proxy.port), 30) for _ in range(count)]
+    for one in stopped:
+        one.sendall(head(b"Content-Length: 4194304", path=b"/v3/kv/put") + bytes(70_000))
+    time.sleep(1)
+    begun = time.monotonic()
+    told = proxy.post("/v3/kv/put", {"key": text64("u/0"), "value": "v" * 80_000})
+    took = time.monotonic() - begun
+    check(told is not None and told[0] == 200 and took < PATIENCE, f"a put beside {count} uploads took {took:.1f} s: {told}")
+    for one in stopped:
+        one.close()
+    # more than there is room for: the slowest make it
+    _, memory = proxy.counts()
+    size, large = 4_000_000, [socket.create_connection(("127.0.0.1", proxy.port), 20) for _ in range(80)]
+
+    def send(one):
+        with contextlib.suppress(OSError):
+            one.sendall(head(b"Content-Length: 4194304", path=b"/v3/kv/put") + bytes(size))
+
+    for one in large:
+        threading.Thread(target=send, args=(one,), daemon=True).start()
+    time.sleep(10)
+    grown = (proxy.counts()[1] - memory) / 1024
+    check(grown < 512, f"uploads took {grown:.0f} MB")
+    # (the system says so to a client whose socket is read)
+    ended = sum(select.select([one], [], [], 0)[0] != [] for one in large)
+    check(ended * size > len(large) * size - (256 << 20), f"of {len(large)} uploads {ended} were ended")
+    for one in large:
+        with contextlib.suppress(OSError):
+            one.shutdown(socket.SHUT_RDWR)
+        one.close()
+    until(lambda: (proxy.post("/v3/kv/put", {"key": text64("u/0"), "value": "v" * 80_000}) or (0,))[0] == 200, 10, "a put behind them is done")
+    proxy.stop()
+    print(f"uploads: a put of 80,000 bytes took {took:.2f} s beside {count} uploads that stopped; of {len(large) * size >> 20} MB of uploads, which took "
+          f"{grown:.0f} MB, {ended} of {len(large)} were ended")
+
+
 def limit(world):
     """So many connections are open at most."""
     most, files = 4096, resource.getrlimit(resource.RLIMIT_NOFILE)
@@ -982,7 +1349,7 @@ def limit(world):
     kept = [socket.create_connection(("127.0.0.1", proxy.port), 30) for _ in range(most)]
     until(lambda: proxy.counts()[0] >= threads + most, 60, f"{most} connections have their threads beside {threads}")
     with socket.create_connection(("127.0.0.1", proxy.port), 30) as further:
-        check(further.recv(1) == b"", "a connection too many is closed")
+        check_refused(further)
     for one in (kept[0], kept[-1]):
         ask(one)
         check(next_reply(one)[0] == 200, "a connection among as many as may be is served")
@@ -994,7 +1361,7 @@ def limit(world):
     until(lambda: proxy.counts()[0] <= threads, 60, "all threads end")
     proxy.stop()
     resource.setrlimit(resource.RLIMIT_NOFILE, files)
-    print(f"limit: {most} connections were served at once, a further one was closed, and all threads ended")
+    print(f"limit: {most} connections were served at once, a further one was refused, and all threads ended")
 
 
 # ---- members that fail before a proxy that makes no call
@@ -1028,7 +1395,7 @@ LONG = 3600
 def other_put(cluster, keys, value):
     """Puts keys in one transaction, past the proxies and the first member, once that can be done. Its revision."""
     body = {"success": [{"request_put": {"key": text64(key), "value": text64(value)}} for key in keys]}
-    end = time.monotonic() + 20 * PATIENCE
+    end = time.monotonic() + 60 * PATIENCE
     for port in itertools.cycle(cluster.ports[1:]):
         told = post(port, "/v3/kv/txn", body, 5)
         if told is not None and told[0] == 200:
@@ -1069,6 +1436,86 @@ def quiet(world):
     print(f"quiet: the watches of {len(ways)} proxies that made no call left a member that failed ({', '.join(took)})")
 
 
+# how the link to a member fails, and for how many seconds at most a proxy that makes no call may be without that member
+LINKS_FAIL = {"to": 25, "from": 25, "both": 25, "slow": 25, "cut": 5}
+
+
+def quiet_links(world):
+    """Watches leave a member whose link fails, where no call does, and are told nothing twice once it is well."""
+    count, took = 20, {}
+    with world.beside("quiet_links") as beside:
+        keys = [f"q/{n}" for n in range(count)]
+        rows = []
+        for how, seconds in LINKS_FAIL.items():
+            relays = Relays(beside.cluster)
+            proxy = beside.proxy(f"quiet_{how}", f"--leasing-prefix={LEASING}", ttl=LONG, before=relays)
+            rows.append((how, seconds, relays, [Watch(proxy.port, {"key": text64(key)}) for key in keys]))
+        watched([w for *_, watches in rows for w in watches], lambda: all(w.created for *_, watches in rows for w in watches), 30,
+                "all watches are created")
+        time.sleep(7)
+
+        def told(how, seconds, watches, revision):
+            begun = time.monotonic()
+            watched(watches, lambda: all(w.ended or w.events and w.events[-1][0] >= revision for w in watches), seconds, f"all events come ({how})")
+            took.setdefault(how, time.monotonic() - begun)
+            other = [(w.ended, w.events) for w in watches if w.ended or w.events != watches[0].events or w.events[-1][0] != revision]
+            check(not other, f"link {how}: beside the event of {revision}, {len(other)} watches (ended, events): {other[:3]}")
+
+        for how, _, relays, _ in rows:
+            relays.all[0].become(how)
+        revision = other_put(beside.cluster, keys, "v")
+        side_by_side(*(lambda row=row: told(row[0], row[1], row[3], revision) for row in rows))
+        for *_, relays, _ in rows:
+            relays.all[0].become("well")
+        time.sleep(3)
+        revision = other_put(beside.cluster, keys, "w")
+        side_by_side(*(lambda row=row: told(row[0], 25, row[3], revision) for row in rows))
+        for *_, relays, _ in rows:
+            relays.stop()
+    print(f"quiet_links: {count} watches of each of {len(rows)} proxies that made no call left a member whose link failed "
+          f"({', '.join(f'{how} {seconds:.1f} s' for how, seconds in took.items())})")
+
+
+def quorum(world):
+    """Watches and an owner leave a member that is cut off from the others, where no call does."""
+    with far_away(2) as far:
+        if far is None:
+            print("quorum: not tried, since no network can be made here")
+            return
+        name, links = far
+        folder = tempfile.mkdtemp(prefix="quorum-", dir=world.folder)
+        beside = World(world.program, world.short, folder, cluster=FarCluster(folder, name, links))
+        try:
+            count = 20
+            keys = [f"q/{n}" for n in range(count)]
+            owner, other = (beside.proxy(f"quorum{n}", f"--leasing-prefix={LEASING}", ttl=LONG) for n in range(2))
+            read = lambda: owner.post("/v3/kv/range", {"key": text64("o/0")})
+            own(owner, "o/0")
+            watches = [Watch(owner.port, {"key": text64(key)}) for key in keys]
+            watched(watches, lambda: all(w.created for w in watches), 30, "all watches are created")
+            time.sleep(7)
+            cut = lambda state: subprocess.run(["ip", "-n", name, "link", "set", links[1][1], state], check=True)
+            cut("down")
+            check(read()[0] == 200, "a cached read is answered")
+            revision = other_put(beside.cluster, keys, "v")
+            begun = time.monotonic()
+            watched(watches, lambda: all(w.ended or w.events and w.events[-1][0] >= revision for w in watches), 25, "all events come")
+            took = time.monotonic() - begun
+            told = [(w.ended, w.events) for w in watches if w.ended or w.events != watches[0].events or w.events[-1] != (revision, "v")]
+            check(not told, f"beside the event of {revision}, {len(told)} watches (ended, events): {told[:3]}")
+            until(lambda: (other.post("/v3/kv/put", {"key": text64("o/0"), "value": text64("w")}) or (0,))[0] == 200, max(1, 25 - took / PATIENCE),
+                  "the other proxy's put is answered")
+            owned = time.monotonic() - begun
+            kvs = (read() or (0, {}))[1].get("kvs", [])
+            check(kvs == [] or base64.b64decode(kvs[0]["value"]) == b"w", f"a read behind that put showed {kvs}")
+            # back, and behind the others
+            cut("up")
+            until(lambda: beside.cluster.answers(0), 30, "the member answers again")
+        finally:
+            beside.stop()
+    print(f"quorum: {count} watches left a member that was cut off from the others within {took:.1f} s, and a key's owner within {owned:.1f} s")
+
+
 def quiet_owner(world):
     """An owner hears of another proxy's write where the member that it hears of it from fails."""
 
@@ -1094,6 +1541,141 @@ def quiet_owner(world):
 
     side_by_side(*(lambda how=how: failing_member(world, how, test) for how in FAILS))
     print(f"quiet_owner: another proxy wrote a key of one that answered cached reads alone, behind a member that failed ({', '.join(took)})")
+
+
+# ---- ends of proxies, planned and not
+
+def own(proxy, key):
+    """Has a proxy own a key."""
+    put(proxy, key, "v")
+    read = lambda: proxy.post("/v3/kv/range", {"key": text64(key)})
+    until(lambda: read() and "kvs" in proxy.cluster.ask("/v3/kv/range", {"key": text64(LEASING + key)}), 5, "the key has an owner")
+
+
+def timed_put(proxy, key, seconds, what):
+    """One put, which is to be 200 within so many seconds. How many it took."""
+    begun = time.monotonic()
+    told = proxy.post("/v3/kv/put", {"key": text64(key), "value": text64("w")})
+    took = time.monotonic() - begun
+    check(told is not None and told[0] == 200 and took < seconds * PATIENCE, f"{what}: {told} after {took:.1f} s")
+    return took
+
+
+def restart(world):
+    """A proxy that was killed ends its session when it starts again."""
+    took = []
+    with world.beside("restart") as beside:
+        state = f"{beside.folder}/sessions"
+        owner = beside.proxy("owner", f"--leasing-prefix={LEASING}", f"--state-file={state}", ttl=LONG)
+        other = beside.proxy("other", f"--leasing-prefix={LEASING}", ttl=LONG)
+        for number in range(3):
+            for key in ("s/0", "s/1"):
+                own(owner, key)
+            second = subprocess.run([*owner.process.args[:-1], f"--state-file={state}"], stderr=subprocess.PIPE, timeout=10 * PATIENCE)
+            check(second.returncode == 7 and b"another process has it" in second.stderr, f"a second process: {second}")
+            owner.kill()
+            if number == 2:
+                # a member that is gone doesn't keep the others from it
+                beside.cluster.kill(0)
+            owner.start()
+            took.append(timed_put(owner, "s/0", 1 if number < 2 else 5, "a put of a key that the killed proxy owned, through itself"))
+            took.append(timed_put(other, "s/1", 2, "such a put through another proxy"))
+        with open(state) as file:
+            # those of the sessions that were left are gone
+            check(len(file.read().split()) <= 3, "the file has more numbers than those that the process drew")
+        with open(f"{beside.folder}/text", "w") as file:
+            file.write("text\n")
+        second = subprocess.run([*other.process.args, f"--state-file={beside.folder}/text"], stderr=subprocess.PIPE, timeout=10 * PATIENCE)
+        check(second.returncode == 7 and b"isn't a file of sessions" in second.stderr, f"with a file of other text: {second}")
+        # a session that nobody ends lives on, and no longer
+        left, ttl = beside.proxy("left", f"--leasing-prefix={LEASING}", ttl=12), 12
+        own(left, "s/2")
+        left.kill()
+        killed = time.monotonic()
+        told = other.post("/v3/kv/put", {"key": text64("s/2"), "value": text64("w")})
+        check(told is not None and told[1].get("code") == 4 and time.monotonic() < killed + 8 * PATIENCE, f"a put of a key whose owner is gone: {told}")
+        until(lambda: (other.post("/v3/kv/put", {"key": text64("s/2"), "value": text64("w")}) or (0,))[0] == 200, ttl + 5, "a session that was left ends")
+    print(f"restart: puts of keys that a killed proxy owned took {', '.join(f'{t:.2f}' for t in took)} s behind its start")
+
+
+@contextlib.contextmanager
+def small_disk(folder):
+    """A disk with room for a few pages, as a folder, or nothing where there can be none."""
+    os.mkdir(folder)
+    mounted = subprocess.run(["mount", "-t", "tmpfs", "-o", "size=16k", "small", folder], capture_output=True)
+    try:
+        yield folder if mounted.returncode == 0 else None
+    finally:
+        subprocess.run(["umount", "-l", folder], capture_output=True)
+
+
+def full(world):
+    """A proxy whose state file can't be written has no session, and serves."""
+    with world.beside("full") as beside, small_disk(f"{beside.folder}/disk") as disk:
+        if disk is None:
+            print("full: not tried, since no disk can be made here")
+            return
+        with open(f"{disk}/filler", "wb", 0) as filler, contextlib.suppress(OSError):
+            while True:
+                filler.write(bytes(4096))
+        proxy = beside.proxy("full", f"--leasing-prefix={LEASING}", f"--state-file={disk}/sessions")
+        put(proxy, "s/0", "v")
+        read = lambda: (proxy.post("/v3/kv/range", {"key": text64("s/0")}) or (0,))[0] == 200
+        owned = lambda: "kvs" in beside.cluster.ask("/v3/kv/range", {"key": text64(LEASING + "s/0")})
+        for _ in range(10):
+            check(read() and not owned(), "without a session a key is read, and not owned")
+            time.sleep(0.3)
+        check(proxy.busy(5) < 0.05 * PATIENCE, "without room for a session the proxy is busy")
+        os.unlink(f"{disk}/filler")
+        until(lambda: read() and owned(), 10, "there is a session once there is room")
+        proxy.stop()
+    print("full: a proxy whose state file had no room served, with no session, and had one once there was room")
+
+
+def stopped(proxy, how, seconds):
+    """Stops a proxy, which is to end with status 0 within so many seconds. How many it took."""
+    begun = time.monotonic()
+    how(proxy)
+    until(lambda: proxy.process.poll() is not None, seconds, "a proxy that is stopped ends")
+    check(proxy.process.poll() == 0, f"a proxy that was stopped ended with status {proxy.process.poll()}: {proxy.lines()}")
+    return time.monotonic() - begun
+
+
+# how a proxy is stopped, and whether it then runs under `tools/serve.sh`
+STOPS = [("at its input's end", False, lambda proxy: proxy.process.stdin.close()), ("by SIGTERM", True, lambda proxy: proxy.process.terminate()),
+         ("by SIGINT to its group", True, lambda proxy: os.killpg(proxy.process.pid, signal.SIGINT))]
+
+
+def stop(world):
+    """A planned stop leaves no session, and cuts no request off."""
+    took = []
+    with world.beside("stop") as beside:
+        other = beside.proxy("other", f"--leasing-prefix={LEASING}", ttl=LONG)
+        options = lambda served: () if served else ("--stop-at-end",)
+        for name, served, how in STOPS:
+            owner = beside.proxy("owner", f"--leasing-prefix={LEASING}", *options(served), ttl=LONG, served=served)
+            own(owner, "s/0")
+            watch = Watch(owner.port, {"key": text64("s/1")})
+            watched([watch], lambda: watch.created, 10, "a watch is created")
+            took.append(stopped(owner, how, 6))
+            timed_put(other, "s/0", 2, f"a put of a key that a proxy owned which was stopped {name}")
+        slow = Slow(beside.cluster.ports[0], 1)
+        owner = beside.proxy("slow", "--stop-at-end", before=slow)
+        told = []
+        asking = threading.Thread(target=lambda: told.append(owner.post("/v3/kv/put", {"key": text64("s/2"), "value": ""})))
+        asking.start()
+        time.sleep(0.3)
+        took.append(stopped(owner, STOPS[0][2], 6))
+        asking.join()
+        check(told[0] is not None and told[0][0] == 200, f"a put that was asked before a stop: {told}")
+        check(post(owner.port, "/v3/kv/range", {"key": text64("?")}, 1) is None, "a proxy that was stopped answers")
+        slow.stop()
+        owner = beside.proxy("down", f"--leasing-prefix={LEASING}", "--stop-at-end")
+        own(owner, "s/3")
+        for number in range(3):
+            beside.cluster.kill(number)
+        took.append(stopped(owner, STOPS[0][2], 6))
+    print(f"stop: proxies that were stopped ended with status 0 within {', '.join(f'{t:.1f}' for t in took)} s, and left no session")
 
 
 def etcdctl(cluster, number, *words):
@@ -1193,15 +1775,15 @@ def pauses(world):
 
 
 class Slow:
-    """A member that answers calls after so many seconds, by what another one answers."""
+    """A member that answers calls after so many seconds, or those of several keys alone, by what another one answers."""
 
-    def __init__(self, member, seconds):
+    def __init__(self, member, seconds, several=False):
         class Handler(http.server.BaseHTTPRequestHandler):
             protocol_version = "HTTP/1.1"
 
             def do_POST(self):
                 body = self.rfile.read(int(self.headers["Content-Length"]))
-                time.sleep(seconds)
+                time.sleep(seconds if not several or b"range_end" in body else 0)
                 told = post(member, self.path, body.decode())
                 text = json.dumps(told[1] if told else {}).encode()
                 self.send_response(told[0] if told else 503)
@@ -1252,26 +1834,21 @@ def workers(world):
     print(f"workers: {count} clients at a member that takes 0.2 s: told once with 8 workers, never with 64")
 
 
-@contextlib.contextmanager
-def far_away():
-    """A network of its own, by its name, which is reached over a link, by the name of its end here, at an address here; or nothing where there
-    can be none."""
-    name, ours, theirs, here, there = f"far{os.getpid()}", f"fo{os.getpid()}", f"ft{os.getpid()}", "10.213.47.1", "10.213.47.2"
-    ip = lambda *words: subprocess.run(["ip", *words], capture_output=True, check=True)
-    try:
-        ip("netns", "add", name)
-    except (OSError, subprocess.CalledProcessError):
-        yield None
-        return
-    try:
-        ip("link", "add", ours, "type", "veth", "peer", "name", theirs, "netns", name)
-        ip("addr", "add", f"{here}/30", "dev", ours)
-        ip("link", "set", ours, "up")
-        ip("-n", name, "addr", "add", f"{there}/30", "dev", theirs)
-        ip("-n", name, "link", "set", theirs, "up")
-        yield name, ours, here
-    finally:
-        ip("netns", "del", name)
+def scans(world):
+    """A range of several keys that takes seconds is waited for, and its member keeps what else is asked of it."""
+    slow = Slow(world.cluster.ports[0], 3, several=True)
+    proxy = world.proxy("scans", ttl=60, before=types.SimpleNamespace(ports=[slow.ports[0], *world.cluster.ports[1:]]))
+    put(proxy, "scans/0", "v")
+    member = lambda body: proxy.post("/v3/kv/range", body)[1]["header"]["member_id"]
+    stood, begun = member({"key": text64("scans/0")}), time.monotonic()
+    told = proxy.post("/v3/kv/range", {"key": text64("scans/"), "range_end": text64("scans0")})
+    took = time.monotonic() - begun
+    check(told is not None and told[0] == 200 and len(told[1]["kvs"]) == 1 and took >= 3, f"a range that takes 3 s: {told} after {took:.1f} s")
+    check(told[1]["header"]["member_id"] == stood == member({"key": text64("scans/0")}), "a slow range moved the calls to another member")
+    check(not proxy.lines("doesn't answer"), f"the proxy told: {proxy.lines()}")
+    proxy.stop()
+    slow.stop()
+    print(f"scans: a range of several keys whose member takes 3 s was answered after {took:.1f} s, and the calls stayed with that member")
 
 
 def vanished(world):
@@ -1280,7 +1857,7 @@ def vanished(world):
         if far is None:
             print("vanished: not tried, since no network can be made here")
             return
-        name, link, here = far
+        name, [(link, _, here, _)] = far
         proxy, count = Proxy(world.program, world.cluster, world.folder, "vanished", listen="0.0.0.0"), 20
         world.proxies.append(proxy)
         put(proxy, "v/0", "v")
@@ -1301,6 +1878,194 @@ def vanished(world):
     print(f"vanished: nothing was left of {count} watches {took:.0f} s after the link to their clients was cut")
 
 
+def sent_by(cluster):
+    """How many bytes the members have sent to clients, all together."""
+    total = 0
+    for port in cluster.ports:
+        connection = http.client.HTTPConnection("127.0.0.1", port, timeout=5)
+        connection.request("GET", "/metrics")
+        text = connection.getresponse().read().decode()
+        connection.close()
+        total += int(float(re.search(r"^etcd_network_client_grpc_sent_bytes_total (\S+)", text, re.M)[1]))
+    return total
+
+
+def fill(cluster, keys, value, lease=0):
+    """Puts keys past the proxies, a hundred at a time. The last revision."""
+    revision = 0
+    for at in range(0, len(keys), 100):
+        body = {"success": [{"request_put": {"key": text64(key), "value": text64(value), "lease": str(lease)}} for key in keys[at:at + 100]]}
+        revision = int(cluster.ask("/v3/kv/txn", body)["header"]["revision"])
+    return revision
+
+
+class Rests:
+    """That the members send next to nothing, and how much more memory a proxy has at its peak than before."""
+
+    def __init__(self, cluster, proxy):
+        self.cluster, self.proxy = cluster, proxy
+        self.before = proxy.counts()[1]
+
+    def grown(self):
+        """By how many MB its memory has grown at most."""
+        with open(f"/proc/{self.proxy.process.pid}/status") as status:
+            return (int(re.search(r"VmHWM:\s+(\d+)", status.read())[1]) - self.before) / 1024
+
+    def silent(self, seconds=5):
+        before = sent_by(self.cluster)
+        time.sleep(seconds)
+        rate = (sent_by(self.cluster) - before) / seconds
+        check(rate < 10_000, f"at rest the members send {rate:.0f} bytes a second")
+
+
+def goes_on(proxy, watch, key):
+    """A put is told within two seconds."""
+    revision = put(proxy, key, "behind")
+    watched([watch], lambda: watch.ended or watch.events and watch.events[-1][0] >= revision, 2, f"the event of a put of {key}")
+    check(not watch.ended and watch.events[-1] == (revision, "behind"), f"a watch ended or received {watch.events[-1:]}")
+
+
+def lines_of_deletions(world, took):
+    """A range of 1,001 keys of 8 KB is deleted at once while it is watched."""
+    proxy = world.proxy("lines")
+    watch = Watch(proxy.port, {"key": text64("d/"), "range_end": text64("d0")})
+    watched([watch], lambda: watch.created, 30, "the watch is created")
+    keys = [f"d/{n:04}" for n in range(1001)]
+    fill(world.cluster, keys, "x" * 8192)
+    watched([watch], lambda: len(watch.events) >= len(keys), 30, "all puts are told")
+    rests = Rests(world.cluster, proxy)
+    revision = int(world.cluster.ask("/v3/kv/deleterange", {"key": text64("d/"), "range_end": text64("d0")})["header"]["revision"])
+    watched([watch], lambda: watch.ended or len(watch.events) >= 2 * len(keys), 30, "all deletions are told")
+    check(watch.events[len(keys):] == [(revision, "")] * len(keys), "a watch received other events than the deletions")
+    goes_on(proxy, watch, "d/0000")
+    rests.silent()
+    took.append(f"{len(keys)} deletions ({rests.grown():.0f} MB)")
+    watch.socket.close()
+    proxy.stop()
+
+
+def lines_of_a_resumed_watch(world, took):
+    """A watch begins a thousand revisions of 12 KB ago."""
+    count = 1000
+    proxy = world.proxy("resumed", "--message-limit=64")
+    first = None
+    for number in range(count):
+        body = {"key": text64("e/0"), "value": text64(f"{number:04}" * 3072)}
+        revision = int(world.cluster.ask("/v3/kv/put", body)["header"]["revision"])
+        first = first or revision
+    rests = Rests(world.cluster, proxy)
+    watch = Watch(proxy.port, {"key": text64("e/"), "range_end": text64("e0"), "start_revision": str(first)})
+    watched([watch], lambda: watch.ended or len(watch.events) >= count, 60, "all events come")
+    check([revision for revision, _ in watch.events] == list(range(first, first + count)), "a resumed watch received other events")
+    check(all(value == f"{n:04}" * 3072 for n, (_, value) in enumerate(watch.events)), "a resumed watch received other values")
+    goes_on(proxy, watch, "e/0")
+    rests.silent()
+    took.append(f"{count} revisions ({rests.grown():.0f} MB)")
+    watch.socket.close()
+    proxy.stop()
+
+
+def lines_of_owners(world, took):
+    """A session with 75,600 ownership keys ends, and then another proxy gives a key up."""
+    one, other = (world.proxy(f"owners{n}", f"--leasing-prefix={LEASING}", ttl=LONG) for n in range(2))
+    put(one, "f/first", "v")
+    lease = int(world.cluster.ask("/v3/lease/grant", {"TTL": str(LONG)})["ID"])
+    count = 2_000 if world.short else 75_600
+    fill(world.cluster, [f"{LEASING}f/a/key/that/is/owned/{n:06}" for n in range(count)], "1", lease)
+    rests = Rests(world.cluster, one)
+    world.cluster.ask("/v3/lease/revoke", {"ID": str(lease)})
+    put(other, "f/0", "v")
+    owned = lambda: "kvs" in world.cluster.ask("/v3/kv/range", {"key": text64(LEASING + "f/0")})
+    until(lambda: other.post("/v3/kv/range", {"key": text64("f/0")})[0] == 200 and owned(), 20, "the key is owned")
+    told = lambda: one.post("/v3/kv/put", {"key": text64("f/0"), "value": text64("w")})
+    until(lambda: (told() or (0,))[0] == 200, 10, "a put of a key that another proxy owns")
+    rests.silent()
+    took.append(f"the end of {count} ownership keys ({rests.grown():.0f} MB)")
+    one.stop()
+    other.stop()
+
+
+def lines_beyond(world, took):
+    """A message that is longer than the limit is asked for ever less often, and one line tells it."""
+    proxy = world.proxy("beyond", "--message-limit=8")
+    watch = Watch(proxy.port, {"key": text64("g/"), "range_end": text64("g0")})
+    watched([watch], lambda: watch.created, 30, "the watch is created")
+    keys = [f"g/{n:04}" for n in range(1001)]
+    fill(world.cluster, keys, "x" * 8192)
+    watched([watch], lambda: len(watch.events) >= len(keys), 30, "all puts are told")
+    before = sent_by(world.cluster)
+    world.cluster.ask("/v3/kv/deleterange", {"key": text64("g/"), "range_end": text64("g0")})
+    until(lambda: proxy.lines("--message-limit"), 30, "a line tells that a message is too long")
+    time.sleep(30)
+    # 1, 2, 4, 8, .. seconds lie between two of them
+    times = (sent_by(world.cluster) - before) / (len(keys) * 8192)
+    check(times < 8, f"in 30 seconds the message was sent {times:.1f} times")
+    lines = proxy.lines("--message-limit")
+    check(len(lines) == 1 and text64("g/") in lines[0], f"it is told so: {lines}")
+    put(proxy, "elsewhere", "v")
+    took.append(f"one above the limit was asked for {times:.0f} times in 30 s")
+    watch.socket.close()
+    proxy.stop()
+
+
+def lines(world):
+    """Messages of members that are long, and one that is too long."""
+    took = []
+    with world.beside("lines") as beside:
+        for part in (lines_of_deletions, lines_of_a_resumed_watch, lines_of_owners, lines_beyond):
+            part(beside, took)
+    print(f"lines: {', '.join(took)}")
+def probes(world):
+    """What a server answers of itself, with members up and with all down, and aliases."""
+    proxy, cluster = world.proxy("probes", ttl=60), world.cluster
+    version, healthy, unhealthy = b'{"etcdserver":"3.4.0","etcdcluster":"3.4.0"}', b'{"health":"true"}', b'{"health":"false"}'
+
+    def asked(path, status, body, method=b"GET"):
+        told = exchanged(proxy.port, head(b"Connection: close", method=method, path=path), False)
+        top, said = told.split(b"\r\n\r\n", 1)
+        check(top.startswith(b"HTTP/1.1 %d " % status) and b"Content-Length: %d" % len(body) in top, f"{method} {path}: {told}")
+        check(said == (b"" if method == b"HEAD" else body), f"{method} {path}: {told}")
+
+    refused = b'{"code":12,"message":"proxy: method not allowed"}'
+    for method in (b"GET", b"HEAD"):
+        asked(b"/version", 200, version, method)
+        asked(b"/health", 200, healthy, method)
+        asked(b"/healthy", 405, refused, method)
+    asked(b"/health", 405, refused, b"PUT")
+    put(proxy, "p/0", "v")
+    grant = proxy.post("/v3beta/lease/grant", {"TTL": 100})[1]["ID"]
+    for path in ("/v3/lease/", "/v3/kv/lease/", "/v3beta/lease/", "/v3beta/kv/lease/"):
+        told = proxy.post(path + "timetolive", {"ID": grant})
+        check(told[0] == 200 and told[1]["grantedTTL"] == "100", f"{path}timetolive: {told}")
+        told = proxy.post(path + "leases", {})
+        check(told[0] == 200 and {"ID": grant} in told[1]["leases"], f"{path}leases: {told}")
+    check(proxy.post("/v3beta/kv/range", {"key": text64("p/0")})[1]["kvs"][0]["value"] == text64("v"), "a range by its alias")
+    check(proxy.post("/v3/kv/lease/revoke", {"ID": grant})[0] == 200, "a revoke by its alias")
+    check(proxy.post("/v3/kv/lease/grant", {"TTL": 100})[0] == 404, "a path that is no alias")
+    for number in (0, 1):
+        cluster.kill(number)
+    time.sleep(8)
+    # what is asked of a member needs the agreement of the cluster
+    asked(b"/health", 503, unhealthy)
+    for number in (0, 1):
+        cluster.start(number)
+    until(lambda: exchanged(proxy.port, head(b"Connection: close", method=b"GET", path=b"/health"), False).endswith(healthy), 30, "the server is healthy again")
+    until(lambda: all(cluster.answers(n) for n in range(3)), 30, "the members answer")
+    proxy.stop()
+    print("probes: the version, the health with members up and down, and four paths of each call on a lease were answered")
+
+
+def real_clients(world):
+    """Clients and fronts that others wrote, unchanged, before a cluster of its own."""
+    with world.beside("real") as beside:
+        proxies = [beside.proxy(name, f"--leasing-prefix={LEASING}", "--workers=16", ttl=60) for name in ("first", "second")]
+        words = [os.path.join(os.path.dirname(os.path.abspath(__file__)), "real_clients.py"), world.program]
+        told = subprocess.run([sys.executable, *words, *(str(p.port) for p in proxies), *(str(p.process.pid) for p in proxies)],
+                              env={**os.environ, "PATIENCE": str(PATIENCE)})
+        check(told.returncode == 0, "a client or a front wasn't served")
+    print("real_clients: all that is here was served")
+
+
 def down(world):
     """With all members down a cached read is answered up to the session's end, and nothing else is."""
     proxy, cluster = world.proxy("down", f"--leasing-prefix={LEASING}"), world.cluster
@@ -1314,7 +2079,7 @@ def down(world):
     check(read("d/0")[0] == 200, "a cached read is answered with all members down")
     for told in (read("d/1"), proxy.post("/v3/kv/put", {"key": text64("d/0"), "value": ""}), proxy.post("/v3/lease/grant", {"TTL": 9})):
         check(refused(told), f"with all members down {told}")
-    until(lambda: refused(read("d/0")), world.ttl + 6 - (time.monotonic() - fell), "a read is answered no more once the session ended")
+    until(lambda: refused(read("d/0")), max(1, world.ttl + 6 - (time.monotonic() - fell)), "a read is answered no more once the session ended")
     for number in range(3):
         cluster.start(number)
     until(lambda: all(cluster.answers(n) for n in range(3)), 30, "the members answer")
@@ -1338,12 +2103,12 @@ def in_memory():
 class World:
     """What the parts stand on."""
 
-    def __init__(self, program, short, folder=None):
+    def __init__(self, program, short, folder=None, cluster=None):
         self.program, self.short, self.ttl = program, short, 5
         self.seed = int(os.environ.get("SEED", time.time()))
         self.folder = folder or tempfile.mkdtemp(prefix="etcd-proxy-", dir=in_memory())
         self.proxies = []
-        self.cluster = Cluster(self.folder)
+        self.cluster = cluster or Cluster(self.folder)
 
     @contextlib.contextmanager
     def beside(self, name):
@@ -1355,8 +2120,9 @@ class World:
         finally:
             world.stop()
 
-    def proxy(self, name, *options, ttl=None, before=None):
-        self.proxies.append(Proxy(self.program, before or self.cluster, self.folder, name, f"--session-ttl={ttl or self.ttl}", *options))
+    def proxy(self, name, *options, ttl=None, before=None, served=False):
+        ttl = f"--session-ttl={ttl or self.ttl}"
+        self.proxies.append(Proxy(self.program, before or self.cluster, self.folder, name, ttl, *options, served=served))
         return self.proxies[-1]
 
     def stop(self):
@@ -1366,22 +2132,33 @@ class World:
         shutil.rmtree(self.folder, ignore_errors=True)
 
 
-PARTS = [answers, truth, links, watches, rest, clients, halves, leavers, canceled, room, limit, quiet, quiet_owner, restored, auth, pauses, workers,
-         vanished, down]
+PARTS = [answers, truth, links, watches, rest, clients, halves, leavers, canceled, room, uploads, limit, descriptors, quiet, quiet_links, quorum,
+         quiet_owner, restart, full, stop, restored, auth, pauses, workers, scans, vanished, lines, probes, real_clients, down]
+
+# what the gate runs; those that stand on clusters of their own beside the others
+SHORT = [[answers, truth, links, watches, clients], [quiet, quiet_links, quiet_owner]]
 
 
 def main(words):
     global PATIENCE
+    sys.stdout.reconfigure(line_buffering=True)
     short = "--short" in words
     PATIENCE *= 4 if short else 1
     program, *names = [word for word in words if word != "--short"]
-    parts = [part for part in PARTS if part.__name__ in names] if names else [answers, truth, links, watches, clients, quiet, quiet_owner] if short else PARTS
+    rows = [[part for part in PARTS if part.__name__ in names]] if names else SHORT if short else [PARTS]
     world = World(os.path.abspath(program), short)
-    try:
-        for part in parts:
+
+    def tried(row):
+        for part in row:
             part(world)
+            # what they wrote has its form
+            for proxy in [*world.proxies]:
+                proxy.lines()
+
+    try:
+        side_by_side(*(lambda row=row: tried(row) for row in rows))
     except Failure as failure:
-        print(f"cluster: {failure}\n(seed {world.seed})", file=sys.stderr)
+        print(f"cluster: {str(failure)[:5000]}\n(seed {world.seed})", file=sys.stderr)
         return 1
     finally:
         world.stop()

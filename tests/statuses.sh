@@ -48,6 +48,33 @@ comes_to '' 'grpc-proxy start --endpoints=127.0.0.1:2379 --workers=0' 2 '' "--wo
 comes_to '' 'grpc-proxy start --endpoints=https://127.0.0.1:2379' 2 '' "--endpoints https://127.0.0.1:2379: https isn't served\n$usage"
 comes_to '' 'grpc-proxy start --endpoint=127.0.0.1:2379' 2 '' "error: unexpected argument '--endpoint' found\n$usage"
 
+comes_to '' 'grpc-proxy start --endpoints=127.0.0.1:2379 --stop-at-end=true' 2 '' "error: unexpected value 'true' for '--stop-at-end' found; no more were expected\n$usage"
+
+# A planned stop: the end of the input, also with no member that answers.
+got=0
+"$program" grpc-proxy start --endpoints=127.0.0.1:9 --listen-addr=127.0.0.3:23790 --stop-at-end < /dev/null > "$work/output" 2> "$work/errors" || got=$?
+[ "$got" -eq 0 ] && grep -qx 'serving 127.0.0.3:23790 for 127.0.0.1:9' "$work/errors" && ! grep -q fault "$work/errors" || {
+    echo "statuses: a server whose input ended: status $got, $(cat "$work/errors")" >&2
+    failures=$((failures + 1))
+}
+
+# A file that can't be had, and one that another process has.
+got=0
+"$program" grpc-proxy start --endpoints=127.0.0.1:9 --listen-addr=127.0.0.3:23791 --state-file="$work/none/state" > "$work/output" 2> "$work/errors" || got=$?
+[ "$got" -eq 7 ] && grep -q "can't keep sessions in the state file: " "$work/errors" && [ "$(tail -n 1 "$work/errors")" = 'listener fault' ] || {
+    echo "statuses: a state file that can't be had: status $got, $(cat "$work/errors")" >&2
+    failures=$((failures + 1))
+}
+exec 9> "$work/state"
+flock -n 9
+got=0
+"$program" grpc-proxy start --endpoints=127.0.0.1:9 --listen-addr=127.0.0.3:23791 --state-file="$work/state" > "$work/output" 2> "$work/errors" || got=$?
+[ "$got" -eq 7 ] && grep -q 'another process has it' "$work/errors" || {
+    echo "statuses: a state file that another process has: status $got, $(cat "$work/errors")" >&2
+    failures=$((failures + 1))
+}
+exec 9>&-
+
 # An address that is none of this machine's can't be listened on. The system's cause, and what members answer, may stand beside the two lines.
 got=0
 "$program" grpc-proxy start --endpoints=127.0.0.1:2379 --listen-addr=192.0.2.1:9 > "$work/output" 2> "$work/errors" || got=$?

@@ -1,0 +1,212 @@
+"""What the items of a transcript tell of a proxy, without a look into it: its clock, its session, its leasing stream, and the keys that are
+new to it or owned by it. crates/world_model/specs/LiveSessions.antt, crates/cached_laws/specs and crates/owned_laws/specs have the same
+rules.
+"""
+from collections import defaultdict
+from dataclasses import dataclass, field
+
+from plain_leasing import REVOKE, covers, is_session, lease_named, leasing_range, refusal_of, written_ranges
+from plain_namespace import Foreign, events_without, range_under
+from plain_store import Put, Range, Txn, is_in
+
+NOT_FOUND = 5
+
+
+@dataclass
+class Session:
+    number: int
+    deadline: int  # in milliseconds of its proxy's clock
+    ended: bool = False
+
+
+@dataclass
+class Stream:
+    """A leasing stream, and its next revision: 0 as long as only its created message can tell."""
+
+    number: int
+    next: int
+    created: bool = False
+
+
+@dataclass
+class Owning:
+    """How far the acquire of a key came that names a ticket: it is out, or the key is owned since a create revision, or all is over."""
+
+    session: int
+    call: int
+    create: int = 0
+    over: bool = False
+
+
+def puts_under(request, lease):
+    """The keys that it puts with this lease where it succeeds; only an acquire puts one under a session."""
+    ops = request.success if isinstance(request, Txn) else []
+    return [op.key for op in ops if isinstance(op, Put) and op.lease == lease]
+
+
+@dataclass
+class Life:
+    """What is told since the proxy's last start. A place is an item's place in the transcript."""
+
+    session: Session | None = None
+    stream: Stream | None = None
+    asked: dict = field(default_factory=dict)  # each ticket's place and request
+    ranges: set = field(default_factory=set)  # of several keys, that were read or written
+    keys: set = field(default_factory=set)  # that were read or written, or of whose ownership keys an event came
+    writes: list = field(default_factory=list)  # the places of the writes that are served, with their ranges
+    revoked: dict = field(default_factory=dict)  # the place at which the revoking word came for a key
+    compacted: int = -1  # the place at which the leasing stream was cancelled for a compaction
+    owning: dict = field(default_factory=lambda: defaultdict(dict))  # by key and ticket
+    acquires: dict = field(default_factory=lambda: defaultdict(list))  # the keys of each call
+
+
+class Proxy:
+    def __init__(self, namespace, leasing):
+        self.namespace, self.leasing = namespace, leasing
+        self.clock = 0
+        self.given_up = set()  # ownership keys that were compared in a call, each with its create revision
+        self.life = Life()
+
+    # ---- what is told behind the items so far
+
+    def is_live(self):
+        session = self.life.session
+        return session is not None and not session.ended and self.clock < session.deadline
+
+    def is_up(self):
+        """Whether the leasing stream was created, and neither cut nor cancelled since."""
+        return self.life.stream is not None and self.life.stream.created
+
+    def is_new(self, key):
+        return key not in self.life.keys and not covers(self.life.ranges, key)
+
+    def owns(self, key):
+        """Under its session."""
+        number = self.life.session.number
+        return any(o.create and not o.over and o.session == number for o in self.life.owning.get(key, {}).values())
+
+    # ---- items
+
+    def step(self):
+        """A step at or above the session's deadline ends it."""
+        session = self.life.session
+        if session and session.deadline <= self.clock:
+            session.ended = True
+
+    def ask(self, place, ticket, request):
+        life = self.life
+        life.asked[ticket] = place, request
+        ranges = [(request.key, request.end)] if isinstance(request, Range) else written_ranges(request)
+        life.ranges |= {r for r in ranges if r[1]}
+        life.keys |= {key for key, end in ranges if not end}
+        if not isinstance(request, Range) and ranges and refusal_of(self.leasing, request) is None:
+            life.writes.append((place, ranges))
+            self.end_owning(lambda key: covers(ranges, key))
+
+    def end_owning(self, test, create=None):
+        """Those of such keys are over; where a revision is given, those that were owned before it."""
+        for key, of_tickets in self.life.owning.items():
+            if test(key):
+                for owning in of_tickets.values():
+                    owning.over |= create is None or 0 < owning.create < create
+
+    def send(self, call, ticket, request, was_live):
+        """A call of the proxy that names the ticket."""
+        if isinstance(request, Txn):
+            self.given_up |= {(c.key, c.operand) for c in request.compares if c.target != "value"}
+        if not was_live or ticket not in self.life.asked:
+            return
+        prefix = self.namespace + self.leasing
+        for owner in puts_under(request, self.life.session.number):
+            key = owner[len(prefix) :]
+            of_tickets = self.life.owning[key]
+            if owner.startswith(prefix) and ticket not in of_tickets and self.is_untouched(key, self.life.asked[ticket][0]):
+                of_tickets[ticket] = Owning(self.life.session.number, call)
+                self.life.acquires[call].append(key)
+
+    def is_untouched(self, key, since):
+        """Whether no write of the key was served since then, and the key wasn't to be given up."""
+        for place, ranges in reversed(self.life.writes):
+            if place < since:
+                break
+            if covers(ranges, key):
+                return False
+        return max(self.life.revoked.get(key, -1), self.life.compacted) < since
+
+    def end_call(self, call, won_at, was_live):
+        """A call was answered or lost; where it is the acquire of a key, that says at which revision the key was won, or 0."""
+        for key in self.life.acquires.pop(call, []):
+            create = won_at(key)
+            given_up = (self.namespace + self.leasing + key, create) in self.given_up
+            for owning in self.life.owning[key].values():
+                if owning.call == call and not owning.over:
+                    owning.over = not (create and was_live and self.life.session.number == owning.session and not given_up)
+                    owning.create = create
+
+    def hear(self, sent_clock, request, answer):
+        """An answer by its code and body: of the grant or a keepalive of its session, or the refusal of an acquire."""
+        session = self.life.session
+        code, body = answer
+        lease = lease_named(request)
+        if code:
+            if session and code == NOT_FOUND and puts_under(request, session.number):
+                session.ended = True
+        elif body[0] == "grant" and request.kind == "grant" and is_session(lease):
+            self.life.session = Session(int(body[1]), sent_clock + 1000 * int(body[2]))
+        elif body[0] == "keepalive" and request.kind == "keepalive" and session and session.number == lease:
+            session.ended |= body[2] == "0"
+            session.deadline = max(session.deadline, sent_clock + 1000 * int(body[2]))
+
+    # ---- the leasing stream, which is a watch of all ownership keys without the records before
+
+    def open(self, number, key, end, start, flags):
+        if (key, end) == range_under(self.namespace, *leasing_range(self.leasing)) and "p" not in flags:
+            self.life.stream = Stream(number, start)
+
+    def cut(self, number):
+        if self.life.stream and self.life.stream.number == number:
+            self.life.stream = None
+
+    def deliver(self, place, number, message):
+        kind, revision, events, compaction = message
+        try:
+            events = events_without(self.namespace, events)
+        except Foreign:
+            self.cut(number)
+            return
+        is_leasing = self.life.stream is not None and self.life.stream.number == number
+        keys = leasing_range(self.leasing)
+        self.life.keys |= {self.owned_key(e) for e in events if is_in(*keys, e.key)}
+        if not is_leasing:
+            return
+        for event in events:
+            self.notice(place, event)
+        if kind == "canceled" and compaction:
+            self.life.compacted = place
+            self.end_owning(lambda key: True)
+        self.tell(self.life.stream, kind, revision, events)
+
+    def owned_key(self, event):
+        return event.key[len(self.leasing) :]
+
+    def notice(self, place, event):
+        key = self.owned_key(event)
+        if not event.is_put:
+            self.end_owning(lambda k: k == key, event.revision)
+        elif event.rest[0] == REVOKE:
+            self.life.revoked[key] = place
+            self.end_owning(lambda k: k == key)
+
+    def tell(self, stream, kind, revision, events):
+        if kind == "created":
+            if not stream.created:
+                stream.next = stream.next or revision + 1
+            stream.created = True
+        elif kind == "canceled" or not self.goes_on(stream, events):
+            self.life.stream = None
+        else:
+            stream.next = max(stream.next, (events[-1].revision if events else revision) + 1)
+
+    def goes_on(self, stream, events):
+        revisions = [stream.next] + [e.revision for e in events]
+        return stream.next > 0 and revisions == sorted(revisions) and all(is_in(*leasing_range(self.leasing), e.key) for e in events)
