@@ -21,11 +21,11 @@ use Rattle.core_model.specs.declared.event.Outcome.TheVariants as outcome
 use Rattle.core_model.specs.Fits.{CoreOk}
 use Rattle.core_model.specs.State.{Opening, Core, first_core}
 use Rattle.core_model.specs.Step.{stepped, is_worn}
-use Rattle.core_laws.specs.Kept.{IsHeard}
-use Rattle.core_laws.proofs.Lists.{same_number, number_itself, number_turned}
-use Rattle.core_laws.proofs.Stepping.{steps_keep}
-use Rattle.core_laws.proofs.Staying.{steps_stay}
-use Rattle.core_laws.proofs.Outcomes.{worn_does_nothing}
+use Rattle.core_laws.specs.Steps.Kept.{IsHeard}
+use Rattle.core_laws.proofs.Steps.Lists.{same_number, number_itself, number_turned}
+use Rattle.core_laws.proofs.Steps.Stepping.{steps_keep}
+use Rattle.core_laws.proofs.Steps.Staying.{steps_stay}
+use Rattle.core_laws.proofs.Steps.Outcomes.{worn_does_nothing}
 use Rattle.core_fits.specs.Fits.{CoreFits}
 use Rattle.owner_fits.specs.Laws.{OwnersFit}
 use Rattle.owner_fits.proofs.Runs.{steps_fit}

@@ -2,9 +2,9 @@
 use Rattle.std.proofs.Common.{◌≡◌, ℕ, ◌-◌, ◌==◌, Bool, true, false, cond, [], slice_get, None, Some, refl, sym}
 use Rattle.etcd_types.specs.declared.request.Request.TheVariants as request
 use Rattle.store_model.specs.State.{starting}
-use Rattle.lease_moves.specs.View.{opening}
-use Rattle.store_moves.proofs.ReadSteps.{start_stands}
-use Rattle.space_laws.proofs.Watches.{starts_are_stored}
+use Rattle.cache_laws.specs.Moves.View.{opening}
+use Rattle.cache_laws.proofs.Store.ReadSteps.{start_stands}
+use Rattle.namespace_laws.proofs.Stored.Watches.{starts_are_stored}
 use Rattle.call_laws.specs.Forms.{Reads}
 use Rattle.world_model.specs.Places.{nth}
 use Rattle.bridge_laws.specs.Laws.{BeginsShown}

@@ -2,9 +2,9 @@
 use Rattle.std.proofs.Common.{◌≡◌, ℕ, ◌≤◌, nat_lt, Bool, true, false, cond, [], ◌∷◌, Option, None, Some, refl, sym, ◌∙◌, subst, arith}
 use Rattle.std.proofs.lemmas.Bool.Decides.{nat_tests}
 use Rattle.script_text.specs.declared.item.Item.TheVariants as item
-use Rattle.lease_moves.specs.View.{View, put}
-use Rattle.lease_moves.proofs.Numbers.{itself, put_here, put_other}
-use Rattle.lease_moves.proofs.SessionProofs.{clocks_keep}
+use Rattle.cache_laws.specs.Moves.View.{View, put}
+use Rattle.cache_laws.proofs.Moves.Numbers.{itself, put_here, put_other}
+use Rattle.cache_laws.proofs.Moves.SessionProofs.{clocks_keep}
 use Rattle.world_model.specs.Places.{nth, place_at, with_place}
 use Rattle.world_model.specs.Starts.{clock_set_at}
 use Rattle.world_model.specs.State.{Place, OpenedStream, World}

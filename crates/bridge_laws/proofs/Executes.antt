@@ -7,12 +7,12 @@ use Rattle.etcd_types.specs.declared.request.Request.{Request}
 use Rattle.store_model.specs.State.{State}
 use Rattle.store_model.specs.Step.{Step, exec}
 use Rattle.store_model.specs.Watches.{watch_of}
-use Rattle.store_laws.proofs.RequestProofs.{whole-exec}
-use Rattle.space_laws.specs.Stored.{stored, stored_step}
-use Rattle.space_laws.proofs.Steps.{stored_stores_answer}
-use Rattle.lease_moves.specs.View.{Call, Outcome, Term, Slot}
-use Rattle.lease_moves.proofs.Numbers.{other_number}
-use Rattle.store_moves.specs.CallSteps.{IsOut}
+use Rattle.store_laws.proofs.Requests.RequestProofs.{whole-exec}
+use Rattle.namespace_laws.specs.Stored.Stored.{stored, stored_step}
+use Rattle.namespace_laws.proofs.Stored.Steps.{stored_stores_answer}
+use Rattle.cache_laws.specs.Moves.View.{Call, Outcome, Term, Slot}
+use Rattle.cache_laws.proofs.Moves.Numbers.{other_number}
+use Rattle.cache_laws.specs.Store.CallSteps.{IsOut}
 use Rattle.call_laws.specs.Executions.{Moved}
 use Rattle.call_laws.specs.Forms.{asked_by}
 use Rattle.call_laws.proofs.Executing.{executions_move}

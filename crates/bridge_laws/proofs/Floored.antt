@@ -8,10 +8,10 @@ use Rattle.etcd_types.specs.declared.request.Request.{Request}
 use Rattle.etcd_types.specs.declared.request.Request.TheVariants as request
 use Rattle.proxy_model.specs.RequestRefusals.{is_session}
 use Rattle.proxy_model.specs.Wrapped.{request_under}
-use Rattle.space_laws.specs.Stored.{stored_answer, stored_body}
-use Rattle.lease_moves.specs.View.{View, put}
-use Rattle.lease_moves.proofs.Numbers.{same_number, other_number, put_other}
-use Rattle.store_moves.specs.CallSteps.{IsRead}
+use Rattle.namespace_laws.specs.Stored.Stored.{stored_answer, stored_body}
+use Rattle.cache_laws.specs.Moves.View.{View, put}
+use Rattle.cache_laws.proofs.Moves.Numbers.{same_number, other_number, put_other}
+use Rattle.cache_laws.specs.Store.CallSteps.{IsRead}
 use Rattle.call_laws.specs.Executions.{HasTerm, NoTerm, TermsGo}
 use Rattle.call_laws.specs.Forms.{Form, Writes, Acquires, Rescinds, Revokes, Grants, Keeps, Ends, Reads, asked_by, IsFormed}
 use Rattle.world_model.specs.declared.floor.Floor.{Floor}

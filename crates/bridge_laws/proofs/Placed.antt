@@ -1,9 +1,9 @@
 -- A world in which one proxy's place is put anew.
 use Rattle.std.proofs.Common.{◌≡◌, ℕ, ◌==◌, Bool, true, false, List, None, Some, refl, sym, ◌∙◌, ap, subst}
 use Rattle.std.specs.BTreeSet.{BTreeSet}
-use Rattle.lease_moves.specs.View.{View}
+use Rattle.cache_laws.specs.Moves.View.{View}
 use Rattle.store_model.specs.State.{State}
-use Rattle.store_moves.specs.StoreView.{Shows}
+use Rattle.cache_laws.specs.Store.StoreView.{Shows}
 use Rattle.world_model.specs.declared.floor.Floor.{Floor}
 use Rattle.world_model.specs.Places.{nth, place_at, with_place, with_posted}
 use Rattle.world_model.specs.State.{Numbered, Place, OpenedStream, World}

@@ -13,11 +13,11 @@ use Rattle.store_model.specs.Events.{events, passes, told_event}
 use Rattle.store_model.specs.History.{History, newest}
 use Rattle.store_model.specs.State.{State}
 use Rattle.store_model.specs.Watches.{watch_of, with_next, first_next, next_after, watch_header, events_for, Pushed, push_events, push_to, for_watch, pushed, is_synced, progress_to, progressed}
-use Rattle.store_sound.proofs.SoundProofs.{messages_keep_sound}
-use Rattle.space_laws.specs.Stored.{stored}
-use Rattle.space_laws.specs.StoredWatches.{stored_item, stored_pushed}
-use Rattle.space_laws.proofs.Watches.{pushes_are_stored, progress_is_stored}
-use Rattle.store_moves.proofs.ReadSteps.{unseen_step}
+use Rattle.store_laws.proofs.Lives.SoundProofs.{messages_keep_sound}
+use Rattle.namespace_laws.specs.Stored.Stored.{stored}
+use Rattle.namespace_laws.specs.Stored.StoredWatches.{stored_item, stored_pushed}
+use Rattle.namespace_laws.proofs.Stored.Watches.{pushes_are_stored, progress_is_stored}
+use Rattle.cache_laws.proofs.Store.ReadSteps.{unseen_step}
 use Rattle.core_fits.specs.Fits.{EachOf}
 use Rattle.world_model.specs.Places.{nth, place_at}
 use Rattle.world_model.specs.State.{Place, OpenedStream, World}

@@ -1,8 +1,8 @@
 -- Floors rise in the world as in the view.
 use Rattle.std.proofs.Common.{◌≡◌, ℕ, ◌≤◌, ◌==◌, max, Bool, true, false, Option, None, Some, refl, sym, ◌∙◌, ap, subst, arith}
 use Rattle.proxy_model.specs.RequestRefusals.{is_session}
-use Rattle.lease_moves.specs.View.{put}
-use Rattle.lease_moves.proofs.Numbers.{itself, put_here, put_other}
+use Rattle.cache_laws.specs.Moves.View.{put}
+use Rattle.cache_laws.proofs.Moves.Numbers.{itself, put_here, put_other}
 use Rattle.world_model.specs.declared.floor.Floor.{Floor}
 use Rattle.world_model.specs.Floors.{later}
 use Rattle.world_model.specs.Places.{kept_at, with_kept}

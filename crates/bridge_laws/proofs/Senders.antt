@@ -2,8 +2,8 @@
 use Rattle.std.proofs.Common.{◌≡◌, ℕ, false, List, ◌∙◌, ap}
 use Rattle.etcd_types.specs.Keys.{is_empty}
 use Rattle.core_model.specs.Step.{stepped}
-use Rattle.core_laws.proofs.Staying.{steps_stay}
-use Rattle.core_laws.proofs.Stepping.{steps_keep}
+use Rattle.core_laws.proofs.Steps.Staying.{steps_stay}
+use Rattle.core_laws.proofs.Steps.Stepping.{steps_keep}
 use Rattle.core_fits.proofs.Fit.{fits_step}
 use Rattle.owner_fits.proofs.Runs.{steps_fit, steps_name}
 use Rattle.step_moves.specs.Lasting.{SendingFits}

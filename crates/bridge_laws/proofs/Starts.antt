@@ -1,12 +1,12 @@
 -- A proxy starts, for the first time or again: it knows nothing, and what it sent goes on.
 use Rattle.std.proofs.Common.{◌≡◌, ℕ, ◌+◌, ◌==◌, false, List, Option, None, Some, refl, ◌∙◌, ap}
-use Rattle.core_laws.proofs.Start.{start_fits}
+use Rattle.core_laws.proofs.Steps.Start.{start_fits}
 use Rattle.core_fits.proofs.Fit.{fits_start}
 use Rattle.owner_fits.proofs.Runs.{starts_fit, starts_named}
-use Rattle.lease_moves.specs.View.{no_slot, no_term, Slot, View}
-use Rattle.lease_moves.specs.Sessions.{restarted}
-use Rattle.lease_moves.proofs.Numbers.{itself, put_here, put_other}
-use Rattle.lease_moves.proofs.SessionProofs.{restarts_keep}
+use Rattle.cache_laws.specs.Moves.View.{no_slot, no_term, Slot, View}
+use Rattle.cache_laws.specs.Moves.Sessions.{restarted}
+use Rattle.cache_laws.proofs.Moves.Numbers.{itself, put_here, put_other}
+use Rattle.cache_laws.proofs.Moves.SessionProofs.{restarts_keep}
 use Rattle.world_model.specs.Places.{nth, place_at, with_place}
 use Rattle.world_model.specs.Starts.{settings, new_place, started_over}
 use Rattle.world_model.specs.State.{Place, OpenedStream, World}

@@ -12,16 +12,16 @@ use Rattle.store_model.specs.Members.{lacks_member, applied}
 use Rattle.store_model.specs.State.{State, applied_by}
 use Rattle.store_model.specs.Watches.{watch_of}
 use Rattle.store_model.specs.Transactions.{has_lease}
-use Rattle.store_laws.proofs.RequestProofs.{expiries_make_one_revision}
-use Rattle.store_sound.proofs.SoundProofs.{applies_keep_sound}
-use Rattle.space_laws.specs.Stored.{stored, stored_after}
-use Rattle.space_laws.proofs.Steps.{expiries_are_stored}
-use Rattle.space_laws.proofs.Watches.{applies_are_stored}
-use Rattle.lease_moves.specs.View.{View, put}
-use Rattle.store_moves.specs.LeaseSteps.{lease_gone}
-use Rattle.store_moves.specs.StoreView.{Stands}
-use Rattle.store_moves.proofs.LeaseProofs.{expiries_step}
-use Rattle.store_moves.proofs.ReadSteps.{unseen_step}
+use Rattle.store_laws.proofs.Requests.RequestProofs.{expiries_make_one_revision}
+use Rattle.store_laws.proofs.Lives.SoundProofs.{applies_keep_sound}
+use Rattle.namespace_laws.specs.Stored.Stored.{stored, stored_after}
+use Rattle.namespace_laws.proofs.Stored.Steps.{expiries_are_stored}
+use Rattle.namespace_laws.proofs.Stored.Watches.{applies_are_stored}
+use Rattle.cache_laws.specs.Moves.View.{View, put}
+use Rattle.cache_laws.specs.Store.LeaseSteps.{lease_gone}
+use Rattle.cache_laws.specs.Store.StoreView.{Stands}
+use Rattle.cache_laws.proofs.Store.LeaseProofs.{expiries_step}
+use Rattle.cache_laws.proofs.Store.ReadSteps.{unseen_step}
 use Rattle.world_model.specs.declared.fault.WorldFault.{WorldFault}
 use Rattle.world_model.specs.declared.fault.WorldFault.TheVariants as world
 use Rattle.world_model.specs.declared.floor.Floor.{Floor}

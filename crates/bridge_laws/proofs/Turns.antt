@@ -4,9 +4,9 @@ use Rattle.std.proofs.Math.Nat.{mod-le}
 use Rattle.proxy_model.specs.declared.session.TheConstants.{FIRST_SESSION}
 use Rattle.core_model.specs.Sessions.{drawn_session}
 use Rattle.core_fits.specs.Fits.{EachOf}
-use Rattle.lease_moves.specs.View.{Call, Outcome, Slot, View}
-use Rattle.lease_moves.specs.Invariant.{Inv}
-use Rattle.lease_moves.proofs.Numbers.{other_number}
+use Rattle.cache_laws.specs.Moves.View.{Call, Outcome, Slot, View}
+use Rattle.cache_laws.specs.Moves.Invariant.{Inv}
+use Rattle.cache_laws.proofs.Moves.Numbers.{other_number}
 use Rattle.core_moves.specs.Sees.{Sees, Alike}
 use Rattle.world_model.specs.declared.sent_call.SentCall.{SentCall}
 use Rattle.world_model.specs.Places.{nth, place_at, with_place}

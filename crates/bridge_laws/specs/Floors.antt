@@ -3,7 +3,7 @@
 use Rattle.std.specs.Prelude.{◌≡◌, ℕ, ◌≤◌, max, Bool, true, None, Some}
 use Rattle.proxy_model.specs.RequestRefusals.{is_session}
 use Rattle.world_model.specs.declared.floor.Floor.{Floor}
-use Rattle.lease_moves.specs.View.{put}
+use Rattle.cache_laws.specs.Moves.View.{put}
 use Rattle.world_model.specs.Floors.{later}
 use Rattle.world_model.specs.Places.{kept_at, with_kept}
 use Rattle.world_model.specs.State.{Numbered, Place}

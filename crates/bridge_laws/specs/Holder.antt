@@ -5,7 +5,7 @@ use Rattle.proxy_model.specs.declared.session.TheConstants.{FIRST_SESSION}
 use Rattle.script_text.specs.declared.line.Line.{Line}
 use Rattle.script_text.specs.declared.line.Line.TheVariants as line
 use Rattle.core_model.specs.Sessions.{drawn_session}
-use Rattle.lease_moves.specs.Sessions.{Draws}
+use Rattle.cache_laws.specs.Moves.Sessions.{Draws}
 use Rattle.world_model.specs.Places.{nth}
 use Rattle.world_model.specs.State.{World, word}
 use Rattle.bridge_laws.specs.Shown.{Shown}

@@ -12,7 +12,7 @@ use Rattle.store_model.specs.Events.{events}
 use Rattle.store_model.specs.History.{History}
 use Rattle.store_model.specs.State.{State}
 use Rattle.store_model.specs.Watches.{watch_of}
-use Rattle.space_laws.specs.StoredWatches.{stored_item}
+use Rattle.namespace_laws.specs.Stored.StoredWatches.{stored_item}
 use Rattle.core_fits.specs.Fits.{EachOf}
 use Rattle.core_model.specs.State.{Opening}
 use Rattle.core_model.specs.Step.{opening_at}

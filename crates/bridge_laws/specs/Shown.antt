@@ -7,10 +7,10 @@ use Rattle.proxy_model.specs.declared.session.TheConstants.{FIRST_SESSION}
 use Rattle.proxy_model.specs.RequestRefusals.{is_session}
 use Rattle.proxy_model.specs.Wrapped.{request_under}
 use Rattle.store_model.specs.State.{State}
-use Rattle.space_laws.specs.Laws.{request_lacks}
-use Rattle.space_laws.specs.Stored.{stored, stored_answer}
-use Rattle.lease_moves.specs.View.{no_slot, no_term, Call, Outcome, View}
-use Rattle.store_moves.specs.StoreView.{Stands}
+use Rattle.namespace_laws.specs.Stored.Laws.{request_lacks}
+use Rattle.namespace_laws.specs.Stored.Stored.{stored, stored_answer}
+use Rattle.cache_laws.specs.Moves.View.{no_slot, no_term, Call, Outcome, View}
+use Rattle.cache_laws.specs.Store.StoreView.{Stands}
 use Rattle.core_model.specs.declared.out_call.OutCall.{OutCall}
 use Rattle.core_model.specs.State.{Core}
 use Rattle.call_laws.specs.Forms.{Form, Grants, asked_by, IsFormed, Tells}

@@ -5,7 +5,7 @@ use Rattle.core_fits.specs.Fits.{EachOf}
 use Rattle.core_model.specs.declared.event.CoreEvent.{CoreEvent}
 use Rattle.core_model.specs.State.{Core}
 use Rattle.core_model.specs.Step.{stepped}
-use Rattle.core_laws.specs.Kept.{IsHeard}
+use Rattle.core_laws.specs.Steps.Kept.{IsHeard}
 use Rattle.core_moves.specs.Clients.{TickMoves}
 use Rattle.core_moves.specs.Sees.{Moves}
 use Rattle.owner_fits.specs.Names.{NamesOwners}

@@ -26,7 +26,7 @@ use Rattle.etcd_types.specs.declared.code.TheConstants.{NOT_FOUND}
 use Rattle.wait_model.specs.Phases.{is_session}
 use Rattle.wait_model.specs.State.{Ownership}
 use Rattle.wait_model.proofs.Tables.{at-without}
-use Rattle.wait_laws.specs.Laws.{OwnersCovered}
+use Rattle.core_laws.specs.Writes.Laws.{OwnersCovered}
 use Rattle.read_model.specs.declared.acquire.Acquire.{Acquire}
 use Rattle.read_model.specs.declared.asked.Asked.{Asked}
 use Rattle.read_model.specs.declared.asked.Stage.{Stage}
@@ -39,7 +39,7 @@ use Rattle.read_model.specs.SessionEnd.{is_due_acquire, dropped, over, session_o
 use Rattle.read_model.specs.State.{Reads, Moment, Ground, ground_of, on}
 use Rattle.read_model.specs.TakingOff.{is_writes, forgotten_all, falls, taken_off}
 use Rattle.read_model.specs.WriteAnswers.{settled_ask, ending, answered_by, wait_answered, wait_lost}
-use Rattle.core_laws.proofs.Lists.{all_mapped}
+use Rattle.core_laws.proofs.Steps.Lists.{all_mapped}
 use Rattle.core_fits.specs.Fits.{is_reading}
 use Rattle.cached_laws.specs.Untouched.{is_apart}
 use Rattle.cached_laws.proofs.Clear.{IsClear, EndClear, answered_clear, lost_clear, forgotten_clear, over_clear}

@@ -54,7 +54,7 @@ use Rattle.wait_model.specs.State.{Ownership}
 use Rattle.wait_model.specs.Writes.{first_by, with_first, without_first, sends, asks, has_ticket, job_of}
 use Rattle.wait_model.proofs.Tables.{at-each, at-without}
 use Rattle.cached_laws.specs.Untouched.{Spares, AllSpare}
-use Rattle.wait_laws.specs.Laws.{OwnersCovered}
+use Rattle.core_laws.specs.Writes.Laws.{OwnersCovered}
 
 either : {A : Type 0} (P : A → Type 0) (b : Bool) (x y : A) → P x → P y → P (cond b x y)
 either P true x y h i = h

@@ -26,7 +26,7 @@ use Rattle.watch_model.specs.declared.stream.StreamPhase.{StreamPhase}
 use Rattle.watch_model.specs.declared.stream.StreamPhase.TheVariants as phase
 use Rattle.watch_model.specs.Lookups.{stream_at}
 use Rattle.watch_model.specs.State.{Stream}
-use Rattle.core_laws.proofs.Lists.{number_itself}
+use Rattle.core_laws.proofs.Steps.Lists.{number_itself}
 use Rattle.core_model.specs.State.{Seat, Opening, Core}
 use Rattle.std.specs.List.{list_all}
 use Rattle.core_model.specs.DueJobs.{DueJob, ForSession, ForWrites, ForAcquire, ForAsk, ForGroup, ToOpen, ForStream, Placed, due_writes, if_due, due_acquire, due_stage, due_ask, due_at, due_opening, due_phase, due_stream, due_jobs, earlier, earliest, job_of, session_job_of, session_job, rescind_or, or_else, first_job}

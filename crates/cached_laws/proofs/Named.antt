@@ -40,7 +40,7 @@ use Rattle.core_model.specs.Lookups.{has_ticket}
 use Rattle.core_model.specs.Sending.{next_call, writes_sent, sent_by, on_work}
 use Rattle.core_model.specs.State.{Core}
 use Rattle.core_model.specs.Watching.{with_watches, stream_job}
-use Rattle.core_laws.proofs.Lists.{same_number, number_itself}
+use Rattle.core_laws.proofs.Steps.Lists.{same_number, number_itself}
 use Rattle.cached_laws.specs.Awaited.{holds, is_over, Waits, waits, over, Calls}
 use Rattle.cached_laws.proofs.Jobs.{is_calling, StandsIf}
 use Rattle.cached_laws.proofs.Waiting.{mine, over_mine, elsewhere}
@@ -109,12 +109,12 @@ module _ (ticket : ℕ) (k : List ℕ) (since : ℕ) where
     pub unreplied : (s : Stage) → f s ≡ true → is_replied s ≡ false
 
   none_at : (f : Stage → Bool) → Idle f → (acquires : Keyed Acquire) (xs : List Asked) → Waits ticket k since acquires xs → NoneAt f xs
-  none_at f i acquires xs (waits d h) = Rattle.core_laws.proofs.Lists.all_kept (holds ticket k since) (λ a. not (f a.stage && a.ticket == ticket)) (λ a t. by a (f a.stage) refl t) xs h
+  none_at f i acquires xs (waits d h) = Rattle.core_laws.proofs.Steps.Lists.all_kept (holds ticket k since) (λ a. not (f a.stage && a.ticket == ticket)) (λ a t. by a (f a.stage) refl t) xs h
     where
       by : (a : Asked) (b : Bool) → f a.stage ≡ b → holds ticket k since a ≡ true → not (b && a.ticket == ticket) ≡ true
       by a true e t = ap not ((elsewhere ticket k since a (i.waits a.stage e) (i.unreplied a.stage e)).0 t)
       by a false e t = refl
-  none_at f i acquires xs (over h) = Rattle.core_laws.proofs.Lists.all_kept (is_over ticket k since) (λ a. not (f a.stage && a.ticket == ticket)) (λ a t. by a (f a.stage) refl t) xs h
+  none_at f i acquires xs (over h) = Rattle.core_laws.proofs.Steps.Lists.all_kept (is_over ticket k since) (λ a. not (f a.stage && a.ticket == ticket)) (λ a t. by a (f a.stage) refl t) xs h
     where
       by : (a : Asked) (b : Bool) → f a.stage ≡ b → is_over ticket k since a ≡ true → not (b && a.ticket == ticket) ≡ true
       by a true e t = ap not ((elsewhere ticket k since a (i.waits a.stage e) (i.unreplied a.stage e)).1 t)

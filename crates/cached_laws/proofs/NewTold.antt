@@ -33,8 +33,8 @@ use Rattle.core_model.specs.LeasingStream.{is_readable}
 use Rattle.core_model.specs.State.{Opening, Core}
 use Rattle.core_model.specs.Step.{opening_at, stepped}
 use Rattle.core_fits.specs.Fits.{IsOfLeasing}
-use Rattle.core_laws.specs.Kept.{IsHeard}
-use Rattle.core_laws.proofs.Lists.{number_itself}
+use Rattle.core_laws.specs.Steps.Kept.{IsHeard}
+use Rattle.core_laws.proofs.Steps.Lists.{number_itself}
 use Rattle.script_text.specs.declared.item.Item.{Item}
 use Rattle.script_text.specs.declared.item.Item.TheVariants as item
 use Rattle.world_model.specs.Gains.{Replies, taken_items, line_if}

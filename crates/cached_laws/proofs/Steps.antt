@@ -23,9 +23,9 @@ use Rattle.wait_model.specs.declared.sending.Sending.TheVariants as sending
 use Rattle.wait_model.specs.declared.write.Write.{Write}
 use Rattle.wait_model.specs.State.{Ownership}
 use Rattle.wait_model.specs.Writes.{sends}
-use Rattle.wait_laws.specs.Laws.{AreWritten, OwnersCovered}
-use Rattle.wait_laws.specs.Written.{ShowsBytes}
-use Rattle.wait_laws.proofs.OwnersShown.{owners_are_covered}
+use Rattle.core_laws.specs.Writes.Laws.{AreWritten, OwnersCovered}
+use Rattle.core_laws.specs.Writes.Written.{ShowsBytes}
+use Rattle.core_laws.proofs.Writes.OwnersShown.{owners_are_covered}
 use Rattle.read_model.specs.declared.acquire.Acquire.{Acquire}
 use Rattle.read_model.specs.declared.asked.Asked.{Asked}
 use Rattle.read_model.specs.declared.asked.Stage.TheVariants as stage
@@ -36,7 +36,7 @@ use Rattle.proxy_model.specs.Snapshot.{is_plain}
 use Rattle.read_model.specs.PlainRead.{ask_key, is_written, is_ownable, is_restful, is_free, acquirable, Decision, decision, begun_under, in_stage}
 use Rattle.read_model.specs.SessionEnd.{is_due}
 use Rattle.read_model.specs.State.{Reads, Moment, ground_of, on}
-use Rattle.read_laws.proofs.Waiting.{free_decision}
+use Rattle.core_laws.proofs.PlainReads.Waiting.{free_decision}
 use Rattle.core_model.specs.declared.event.CoreEvent.{CoreEvent}
 use Rattle.core_model.specs.declared.event.CoreEvent.TheVariants as event
 use Rattle.core_model.specs.declared.event.Outcome.{Outcome}
@@ -58,14 +58,14 @@ use Rattle.core_model.specs.State.{Seat, Opening, Core, first_core}
 use Rattle.core_model.specs.Step.{opening_at, happened, is_worn, stepped}
 use Rattle.core_model.specs.Stepped.{Stepped, faults, counted, counted_by}
 use Rattle.watch_model.specs.Lookups.{watch_at}
-use Rattle.core_laws.specs.Kept.{HeardBytes, IsHeard, Timed, after, ran, AllHeard}
-use Rattle.core_laws.specs.Laws.{IsLeasedRead}
-use Rattle.core_laws.proofs.Lists.{same_number, number_itself, all_pushed}
-use Rattle.core_laws.proofs.Middle.{clock_whole}
-use Rattle.core_laws.proofs.Outcomes.{worn_does_nothing}
-use Rattle.core_laws.proofs.Stepping.{steps_keep}
-use Rattle.core_laws.proofs.Staying.{steps_stay}
-use Rattle.core_laws.proofs.Whole.{of_ok}
+use Rattle.core_laws.specs.Steps.Kept.{HeardBytes, IsHeard, Timed, after, ran, AllHeard}
+use Rattle.core_laws.specs.Steps.Laws.{IsLeasedRead}
+use Rattle.core_laws.proofs.Steps.Lists.{same_number, number_itself, all_pushed}
+use Rattle.core_laws.proofs.Steps.Middle.{clock_whole}
+use Rattle.core_laws.proofs.Steps.Outcomes.{worn_does_nothing}
+use Rattle.core_laws.proofs.Steps.Stepping.{steps_keep}
+use Rattle.core_laws.proofs.Steps.Staying.{steps_stay}
+use Rattle.core_laws.proofs.Steps.Whole.{of_ok}
 use Rattle.core_fits.specs.Fits.{is_reading}
 use Rattle.core_fits.proofs.Prefix.{clock_prefix}
 use Rattle.owner_fits.specs.Acquires.{IsOutAs, standing_number, number_by}

@@ -14,7 +14,7 @@ use Rattle.proxy_model.specs.Unwrapped.{item_without}
 use Rattle.proxy_model.specs.Upstream.{Upstream, opened}
 use Rattle.core_model.specs.State.{Opening, Core}
 use Rattle.core_model.specs.Step.{opening_at}
-use Rattle.core_laws.proofs.Lists.{same_number, number_itself, number_turned}
+use Rattle.core_laws.proofs.Steps.Lists.{same_number, number_itself, number_turned}
 use Rattle.script_text.specs.declared.item.Item.{Item}
 use Rattle.script_text.specs.declared.item.Item.TheVariants as item
 use Rattle.held_laws.proofs.Kept.{nth_itself, nth_other}

@@ -29,7 +29,7 @@ use Rattle.core_model.specs.State.{Opening, Core}
 use Rattle.core_model.specs.Step.{opening_at, happened, stepped}
 use Rattle.core_model.specs.Stepped.{Stepped, counted, counted_by}
 use Rattle.core_model.specs.Watching.{watch_from}
-use Rattle.core_laws.proofs.Lists.{same_number, number_itself, number_turned}
+use Rattle.core_laws.proofs.Steps.Lists.{same_number, number_itself, number_turned}
 use Rattle.core_fits.specs.Fits.{IsOfLeasing}
 use Rattle.script_text.specs.declared.item.Item.{Item}
 use Rattle.script_text.specs.declared.item.Item.TheVariants as item
@@ -87,7 +87,7 @@ take_leasing c ticket now = by (Rattle.core_model.specs.Step.is_worn c) refl
         by_outcome (Err f) = refl
 
     by : (b : Bool) → Rattle.core_model.specs.Step.is_worn c ≡ b → (stepped c (event.Take ticket) now).core.leasing ≡ c.leasing
-    by true w = ap (λ (s : Stepped). s.core.leasing) (Rattle.core_laws.proofs.Outcomes.worn_does_nothing c (event.Take ticket) now w)
+    by true w = ap (λ (s : Stepped). s.core.leasing) (Rattle.core_laws.proofs.Steps.Outcomes.worn_does_nothing c (event.Take ticket) now w)
     by false w =
         ap (λ (s : Stepped). s.core.leasing) (Rattle.cached_laws.proofs.Steps.stepped_is c (event.Take ticket) now w) ∙ counted_is (happened now (event.Take ticket) (clock_work now c))
         ∙ openings.take_so c.leasing ticket (clock_work now c) (clock_leasing now c)

@@ -8,7 +8,7 @@ use Rattle.script_text.specs.declared.item.Item.{Item}
 use Rattle.script_text.specs.declared.item.Item.TheVariants as item
 use Rattle.world_model.specs.Lives.{begins}
 use Rattle.world_model.specs.LiveSessions.{session_of}
-use Rattle.core_laws.proofs.Lists.{same_number, number_itself}
+use Rattle.core_laws.proofs.Steps.Lists.{same_number, number_itself}
 use Rattle.cached_laws.specs.Folds.{told_from, told_of}
 use Rattle.cached_laws.specs.NewKeys.{touches, new_by, is_new_key}
 use Rattle.cached_laws.specs.Reads.{Awaited, must_acquire, awaited_under, awaited_by, awaited}

@@ -66,7 +66,7 @@ use Rattle.core_model.specs.Takes.{item_taken, taken, on_take, watcher_left, lef
 use Rattle.core_model.specs.Takes as takes
 use Rattle.core_model.specs.Watching.{stream_message, stream_item, taken_item}
 use Rattle.core_model.specs.Watching as watching
-use Rattle.core_laws.proofs.Lists.{all_filtered, all_pushed, same_number}
+use Rattle.core_laws.proofs.Steps.Lists.{all_filtered, all_pushed, same_number}
 use Rattle.watch_model.specs.Due as watches_due
 use Rattle.std.specs.Option.{option_map}
 use Rattle.etcd_types.proofs.KeyOrder.{same-equal}
@@ -79,7 +79,7 @@ use Rattle.wait_model.specs.Asked.{submitted}
 use Rattle.wait_model.specs.Covers.{covered}
 use Rattle.wait_model.specs.Sent.{JobSent, job_sent}
 use Rattle.wait_model.specs.Writes.{sends}
-use Rattle.wait_laws.specs.Laws.{OwnersCovered}
+use Rattle.core_laws.specs.Writes.Laws.{OwnersCovered}
 use Rattle.read_model.specs.Acquires.{acquire_sent, sent_out}
 use Rattle.read_model.specs.PlainRead.{key_of}
 use Rattle.core_model.specs.Asking.{write_is_asked}

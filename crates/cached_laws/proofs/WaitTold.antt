@@ -31,8 +31,8 @@ use Rattle.core_model.specs.Refusals.{refusal_of}
 use Rattle.core_model.specs.Sessions.{drawn_session}
 use Rattle.core_model.specs.State.{Seat, Core}
 use Rattle.core_model.specs.Step.{happened, is_worn, stepped}
-use Rattle.core_laws.specs.Kept.{IsHeard}
-use Rattle.core_laws.proofs.Lists.{same_number, number_itself}
+use Rattle.core_laws.specs.Steps.Kept.{IsHeard}
+use Rattle.core_laws.proofs.Steps.Lists.{same_number, number_itself}
 use Rattle.core_fits.proofs.Prefix.{clock_prefix}
 use Rattle.owner_fits.specs.Laws.{OwnersFit}
 use Rattle.script_text.specs.declared.item.Item.{Item}

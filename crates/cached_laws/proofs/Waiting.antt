@@ -44,7 +44,7 @@ use Rattle.proxy_model.specs.Snapshot.{plain_body}
 use Rattle.core_model.specs.ClockWork.{request_time, is_replied, times_out, timed_out_ask}
 use Rattle.core_model.specs.Lookups.{has_ticket, without_ask}
 use Rattle.cached_laws.specs.Awaited.{is_due_for, holds, is_over, Waits, waits, over}
-use Rattle.core_laws.proofs.Lists.{all_kept, all_mapped, all_filtered, all_pushed, same_number, number_itself}
+use Rattle.core_laws.proofs.Steps.Lists.{all_kept, all_mapped, all_filtered, all_pushed, same_number, number_itself}
 
 either : {A : Type 0} (P : A → Type 0) (b : Bool) (x y : A) → P x → P y → P (cond b x y)
 either P true x y h i = h

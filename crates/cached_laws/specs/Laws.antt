@@ -15,8 +15,8 @@ use Rattle.core_model.specs.Fits.{CoreOk}
 use Rattle.core_model.specs.Lookups.{moment}
 use Rattle.core_model.specs.State.{Core}
 use Rattle.core_model.specs.Step.{is_worn, stepped}
-use Rattle.core_laws.specs.Kept.{IsHeard, Timed, after, ran, AllHeard}
-use Rattle.core_laws.specs.Laws.{IsLeasedRead}
+use Rattle.core_laws.specs.Steps.Kept.{IsHeard, Timed, after, ran, AllHeard}
+use Rattle.core_laws.specs.Steps.Laws.{IsLeasedRead}
 use Rattle.owner_fits.specs.Laws.{OwnersFit}
 use Rattle.cached_laws.specs.Awaited.{IsAwaited, Calls, Leaves, seat_is}
 use Rattle.cached_laws.specs.Untouched.{IsUntouched, Passes}

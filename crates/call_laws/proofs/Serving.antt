@@ -24,9 +24,9 @@ use Rattle.proxy_model.specs.SeveralKeys.{range_cmp, with_range, with_written, w
 use Rattle.proxy_model.specs.declared.unserved.Unserved.{Unserved}
 use Rattle.wait_model.specs.Operations.{branch}
 use Rattle.core_model.specs.Refusals.{op_touches, touches, reserved_range, writes_too_much, refusal_of}
-use Rattle.guard_laws.specs.Covers.{puts_out, deletes_out}
-use Rattle.guard_laws.proofs.OwnershipProofs.{leaves_is_txn}
-use Rattle.store_moves.specs.ToldAnswers.{told_branch, begins_empty}
+use Rattle.cache_laws.specs.Guards.Covers.{puts_out, deletes_out}
+use Rattle.cache_laws.proofs.Guards.OwnershipProofs.{leaves_is_txn}
+use Rattle.cache_laws.specs.Store.ToldAnswers.{told_branch, begins_empty}
 use Rattle.call_laws.specs.Served.{ServedWritesMayBeSent, ToldOpsAreTheWrites}
 
 -- the first of some is none where each is none

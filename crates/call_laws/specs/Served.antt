@@ -10,9 +10,9 @@ use Rattle.proxy_model.specs.Guarded.{IsWrite}
 use Rattle.proxy_model.specs.SeveralKeys.{written_ranges}
 use Rattle.wait_model.specs.Operations.{operations}
 use Rattle.core_model.specs.Refusals.{refusal_of}
-use Rattle.guard_laws.specs.Covers.{AreGuards}
-use Rattle.store_moves.specs.CallSteps.{is_unleased}
-use Rattle.store_moves.specs.ToldAnswers.{told_ops}
+use Rattle.cache_laws.specs.Guards.Covers.{AreGuards}
+use Rattle.cache_laws.specs.Store.CallSteps.{is_unleased}
+use Rattle.cache_laws.specs.Store.ToldAnswers.{told_ops}
 use Rattle.call_laws.specs.Forms.{MayWrite}
 
 abbrev pub ServedWritesMayBeSent : Type 0

@@ -36,9 +36,9 @@ use Rattle.core_model.specs.State.{Core}
 use Rattle.core_model.specs.Step.{is_worn, happened, stepped}
 use Rattle.core_model.specs.Stepped.{Stepped, faults, counted, counted_by}
 use Rattle.core_model.specs.Watching.{with_watches, stream_job}
-use Rattle.core_laws.proofs.Lists.{same_number}
-use Rattle.core_laws.proofs.Middle.{clock_whole}
-use Rattle.core_laws.proofs.Whole.{of_ok}
+use Rattle.core_laws.proofs.Steps.Lists.{same_number}
+use Rattle.core_laws.proofs.Steps.Middle.{clock_whole}
+use Rattle.core_laws.proofs.Steps.Whole.{of_ok}
 use Rattle.core_fits.specs.Fits.{EachOf}
 use Rattle.executed_laws.proofs.CoreSends as sending_of
 use Rattle.executed_laws.proofs.OwnSends.{IsAsking, asks_last}

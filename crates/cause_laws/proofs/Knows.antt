@@ -25,9 +25,9 @@ use Rattle.core_model.specs.Sending as sending
 use Rattle.core_model.specs.State.{Core, first_core}
 use Rattle.core_model.specs.Step.{stepped}
 use Rattle.core_model.specs.Takes.{ready}
-use Rattle.core_laws.specs.Kept.{IsHeard}
-use Rattle.core_laws.proofs.Lists.{number_itself}
-use Rattle.core_laws.proofs.Stepping.{steps_keep}
+use Rattle.core_laws.specs.Steps.Kept.{IsHeard}
+use Rattle.core_laws.proofs.Steps.Lists.{number_itself}
+use Rattle.core_laws.proofs.Steps.Stepping.{steps_keep}
 use Rattle.core_fits.specs.Fits.{EachOf}
 use Rattle.core_fits.proofs.Eachs.{each_kept}
 use Rattle.core_fits.proofs.Fit.{fits_step}

@@ -12,7 +12,7 @@ use Rattle.proxy_model.specs.PassingOn.{passed_on}
 use Rattle.proxy_model.specs.Wrapped.{request_under}
 use Rattle.wait_model.specs.declared.sending.Sending.TheVariants as sending
 use Rattle.wait_model.specs.Writes.{sends, asks}
-use Rattle.wait_laws.proofs.Kept.{first_passes}
+use Rattle.core_laws.proofs.Writes.Kept.{first_passes}
 use Rattle.read_model.specs.declared.asked.Asked.{Asked}
 use Rattle.read_model.specs.declared.asked.Stage.{Stage}
 use Rattle.read_model.specs.declared.asked.Stage.TheVariants as stage
@@ -29,7 +29,7 @@ use Rattle.core_model.specs.DueJobs.{lease_of}
 use Rattle.core_model.specs.Fits.{job_at, group_stands, group_sending, is_keepalive}
 use Rattle.core_model.specs.Groups.{is_out_stage}
 use Rattle.core_model.specs.Lookups.{stage_calls, out_at, reads_of}
-use Rattle.core_laws.proofs.Lists.{number_itself, same_number}
+use Rattle.core_laws.proofs.Steps.Lists.{number_itself, same_number}
 use Rattle.script_text.specs.declared.item.Item.{Item}
 use Rattle.script_text.specs.declared.item.Item.TheVariants as item
 use Rattle.world_model.specs.Lives.{begins, life_from, life, asked_as}

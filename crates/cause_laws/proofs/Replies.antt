@@ -35,7 +35,7 @@ use Rattle.core_model.specs.Takes.{item_taken, taken, on_take, ready}
 use Rattle.core_model.specs.Takes as takes
 use Rattle.core_model.specs.Verdicts.{reply_of}
 use Rattle.core_model.specs.Watching.{taken_item}
-use Rattle.core_laws.proofs.Comes.{by_test}
+use Rattle.core_laws.proofs.Steps.Comes.{by_test}
 use Rattle.world_model.specs.Gains.{Replies, with_reply, fetched_as, fetched_if, fetched}
 use Rattle.world_model.specs.Places.{with_core}
 use Rattle.world_model.specs.State.{Place}

@@ -22,8 +22,8 @@ use Rattle.core_model.specs.State.{Core}
 use Rattle.core_model.specs.Step.{is_worn, stepped}
 use Rattle.core_model.specs.Stepped.{Stepped}
 use Rattle.core_model.specs.Takes.{ready}
-use Rattle.core_laws.proofs.Lists.{number_itself, number_turned, same_number}
-use Rattle.core_laws.proofs.Outcomes.{worn_does_nothing}
+use Rattle.core_laws.proofs.Steps.Lists.{number_itself, number_turned, same_number}
+use Rattle.core_laws.proofs.Steps.Outcomes.{worn_does_nothing}
 use Rattle.script_text.specs.declared.item.Item.{Item}
 use Rattle.script_text.specs.declared.item.Item.TheVariants as item
 use Rattle.world_model.specs.Asks.{told_at_once}

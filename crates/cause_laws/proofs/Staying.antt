@@ -41,7 +41,7 @@ use Rattle.core_model.specs.Asking.{call_stage}
 use Rattle.core_model.specs.Fits.{has_number, ask_tickets}
 use Rattle.core_model.specs.Lookups.{without_ask}
 use Rattle.core_model.specs.Verdicts.{reply_of}
-use Rattle.core_laws.proofs.Lists.{number_itself, same_number}
+use Rattle.core_laws.proofs.Steps.Lists.{number_itself, same_number}
 use Rattle.cause_laws.specs.Timeouts.{is_call}
 use Rattle.cause_laws.proofs.Tickets.{Leaves, either, released_stays, clock_stays, answer_stays, loss_stays, tick_stays, item_stays, cut_stays, work_stays}
 

@@ -44,11 +44,11 @@ use Rattle.core_model.specs.Step.{is_worn, happened, stepped}
 use Rattle.core_model.specs.Stepped.{Stepped, faults, counted, counted_by}
 use Rattle.core_model.specs.Takes.{watcher_left, left, on_leave}
 use Rattle.core_model.specs.Watching.{with_watches, stream_job}
-use Rattle.core_laws.proofs.Comes.{by_test}
-use Rattle.core_laws.proofs.Due.{is_called_due, DueIf, first_due}
-use Rattle.core_laws.proofs.Lists.{same_number}
-use Rattle.core_laws.proofs.Middle.{clock_whole}
-use Rattle.core_laws.proofs.Whole.{of_ok}
+use Rattle.core_laws.proofs.Steps.Comes.{by_test}
+use Rattle.core_laws.proofs.Steps.Due.{is_called_due, DueIf, first_due}
+use Rattle.core_laws.proofs.Steps.Lists.{same_number}
+use Rattle.core_laws.proofs.Steps.Middle.{clock_whole}
+use Rattle.core_laws.proofs.Steps.Whole.{of_ok}
 use Rattle.keep_laws.proofs.Rows.{All, all_mapped, all_kept, all_filtered, all_pushed}
 use Rattle.keep_laws.proofs.Steps.{tick_step, item_step, cut_step, take_step}
 use Rattle.cause_laws.proofs.Walks.{is_plain, decided_plain, Calls, Moves, Loses, Tells, released_walk, clock_walk, lost_call_walk, heard_walk}

@@ -3,7 +3,7 @@ use Rattle.std.proofs.Common.{◌≡◌, ℕ, ◌+◌, ◌==◌, Bool, true, fal
 use Rattle.std.proofs.lemmas.List.Folds.{list_any-append}
 use Rattle.etcd_types.proofs.Bools.{or_false}
 use Rattle.etcd_types.specs.declared.request.Request.{Request}
-use Rattle.core_laws.proofs.Lists.{number_itself, number_turned, same_number}
+use Rattle.core_laws.proofs.Steps.Lists.{number_itself, number_turned, same_number}
 use Rattle.script_text.specs.declared.item.Item.{Item}
 use Rattle.script_text.specs.declared.item.Item.TheVariants as item
 use Rattle.world_model.specs.Lives.{is_stream_of, opened_it}

@@ -64,7 +64,7 @@ use Rattle.core_model.specs.Groups.{keeps, is_out_stage, is_due_stage, waits_nex
 use Rattle.core_model.specs.Kinds.{is_read}
 use Rattle.core_model.specs.Lookups.{has_ticket, calls_as}
 use Rattle.core_model.specs.Sending.{called_as}
-use Rattle.core_laws.proofs.Requests.{same_tickets}
+use Rattle.core_laws.proofs.Steps.Requests.{same_tickets}
 
 -- the same tickets
 abbrev pub Stays : Core → Core → Type 0

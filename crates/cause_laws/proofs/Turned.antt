@@ -20,11 +20,11 @@ use Rattle.core_model.specs.State.{Core}
 use Rattle.core_model.specs.Step.{is_worn, stepped}
 use Rattle.core_model.specs.Stepped.{Stepped}
 use Rattle.core_model.specs.Verdicts.{reply_of}
-use Rattle.core_laws.specs.Kept.{IsHeard}
-use Rattle.core_laws.proofs.Asks.{unknown}
-use Rattle.core_laws.proofs.Lists.{same_number}
-use Rattle.core_laws.proofs.Outcomes.{worn_does_nothing}
-use Rattle.core_laws.proofs.Stepping.{steps_keep}
+use Rattle.core_laws.specs.Steps.Kept.{IsHeard}
+use Rattle.core_laws.proofs.Steps.Asks.{unknown}
+use Rattle.core_laws.proofs.Steps.Lists.{same_number}
+use Rattle.core_laws.proofs.Steps.Outcomes.{worn_does_nothing}
+use Rattle.core_laws.proofs.Steps.Stepping.{steps_keep}
 use Rattle.core_fits.specs.Fits.{EachOf}
 use Rattle.core_fits.proofs.Ready.{nothing_ready}
 use Rattle.script_text.specs.declared.item.Item.{Item}

@@ -8,7 +8,7 @@ use Rattle.etcd_types.specs.declared.watch.WatchItem.{WatchItem}
 use Rattle.core_model.specs.declared.event.CoreEvent.{CoreEvent}
 use Rattle.core_model.specs.declared.event.CoreEvent.TheVariants as event
 use Rattle.core_model.specs.declared.event.Outcome.{Outcome}
-use Rattle.core_laws.proofs.Lists.{number_itself, number_turned}
+use Rattle.core_laws.proofs.Steps.Lists.{number_itself, number_turned}
 use Rattle.script_text.specs.declared.item.Item.{Item}
 use Rattle.script_text.specs.declared.item.Item.TheVariants as item
 use Rattle.world_model.specs.declared.sent_call.SentCall.{SentCall}

@@ -31,7 +31,7 @@ use Rattle.core_model.specs.Lookups.{ask_at}
 use Rattle.core_model.specs.State.{Core}
 use Rattle.core_model.specs.Step.{is_worn, stepped}
 use Rattle.core_model.specs.Verdicts.{timed_out, reply_of}
-use Rattle.core_laws.proofs.Lists.{same_number}
+use Rattle.core_laws.proofs.Steps.Lists.{same_number}
 use Rattle.script_text.specs.declared.item.Item.{Item}
 use Rattle.world_model.specs.Lives.{clock_of}
 use Rattle.keep_laws.proofs.Rows.{All}

@@ -54,9 +54,9 @@ use Rattle.core_model.specs.Kinds.{is_read, is_body_of}
 use Rattle.core_model.specs.Lookups.{moment, reads_of, stage_calls, calls_as}
 use Rattle.core_model.specs.Sessions.{seat_is_over, without_session, deadline_passed, seat_calls, granted_by, grant_failed, keep_failed, kept, kept_by}
 use Rattle.core_model.specs.State.{Core}
-use Rattle.core_laws.proofs.Comes.{by_test}
-use Rattle.core_laws.proofs.WaitEnds.{EndsAs, EndedIf, answered_ends, lost_ends, found_ticket}
-use Rattle.core_laws.proofs.Lists.{same_number}
+use Rattle.core_laws.proofs.Steps.Comes.{by_test}
+use Rattle.core_laws.proofs.Steps.WaitEnds.{EndsAs, EndedIf, answered_ends, lost_ends, found_ticket}
+use Rattle.core_laws.proofs.Steps.Lists.{same_number}
 use Rattle.keep_laws.proofs.Rows.{All, all_mapped, all_kept, Settles, all_write}
 
 -- it isn't replied and isn't a write's, or it is replied ok

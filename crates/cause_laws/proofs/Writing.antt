@@ -11,7 +11,7 @@ use Rattle.core_model.specs.Kinds.{writes_keys}
 use Rattle.core_model.specs.State.{Core}
 use Rattle.core_model.specs.Step.{is_worn, stepped}
 use Rattle.core_model.specs.Stepped.{Stepped}
-use Rattle.core_laws.proofs.Outcomes.{worn_does_nothing}
+use Rattle.core_laws.proofs.Steps.Outcomes.{worn_does_nothing}
 use Rattle.script_text.specs.declared.line.Line.{Line}
 use Rattle.keep_laws.proofs.Rows.{All, all_kept}
 use Rattle.keep_laws.proofs.Runs.{found}

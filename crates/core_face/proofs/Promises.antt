@@ -11,11 +11,11 @@ use Rattle.core_model.specs.Step.{stepped}
 use Rattle.core_model.specs.Stepped.{Stepped, gives, faults}
 use Rattle.core_face.specs.Steps.{FaultsSo, Steps}
 use Rattle.core_face.specs.Promises.{StaysSound, LeavesNoneIdle, HoldsNothingBack, LeavesStreamsMerged, LeavesQueuesBounded}
-use Rattle.idle_laws.specs.Streams.{received_by, JoinsWhereItCan, QueuesAreBounded}
-use Rattle.idle_laws.proofs.Alone.{steps_join, same_joins}
-use Rattle.idle_laws.proofs.Bounded.{steps_keep_bounded}
-use Rattle.idle_laws.proofs.Holding.{steps_hold_nothing_back}
-use Rattle.idle_laws.proofs.Touches.{clock_watches}
+use Rattle.core_laws.specs.Watches.Streams.{received_by, JoinsWhereItCan, QueuesAreBounded}
+use Rattle.core_laws.proofs.Watches.Alone.{steps_join, same_joins}
+use Rattle.core_laws.proofs.Watches.Bounded.{steps_keep_bounded}
+use Rattle.core_laws.proofs.Watches.Holding.{steps_hold_nothing_back}
+use Rattle.core_laws.proofs.Watches.Touches.{clock_watches}
 use Rattle.waiting_laws.specs.Sound.{IsSound}
 use Rattle.waiting_laws.proofs.Sound.{starts_sound, steps_stay_sound, clock_stays_sound, sound_not_idle}
 use Rattle.watch_model.specs.Queues.{events_in}

@@ -7,8 +7,8 @@ use Rattle.core_model.specs.declared.event.CoreEvent.{CoreEvent}
 use Rattle.core_model.specs.declared.event.Outcome.{Outcome}
 use Rattle.core_model.specs.declared.event.StepFault.{StepFault}
 use Rattle.core_model.specs.State.{Core}
-use Rattle.core_laws.specs.Kept.{IsHeard}
-use Rattle.idle_laws.specs.Streams.{IsTold, IsNew, received_by, QueuesAreBounded, HasAtMost}
+use Rattle.core_laws.specs.Steps.Kept.{IsHeard}
+use Rattle.core_laws.specs.Watches.Streams.{IsTold, IsNew, received_by, QueuesAreBounded, HasAtMost}
 use Rattle.waiting_laws.specs.Sound.{IsSound}
 use Rattle.waiting_laws.specs.Waiting.{NothingIsIdle}
 use Rattle.watch_model.specs.Story.{Story, Received, Rising, Holds, NoTwins}

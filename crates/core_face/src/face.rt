@@ -6,7 +6,7 @@ ghost use Rattle.core_model.specs.Takes.{ready};
 ghost use Rattle.core_model.specs.declared.event.StepFault.TheVariants.{NoMemory as Wanting};
 ghost use Rattle.core_face.specs.Steps.{Steps, takes_no_memory, is_watch};
 ghost use Rattle.core_face.specs.Promises.{StaysSound, LeavesNoneIdle, HoldsNothingBack, LeavesStreamsMerged, LeavesQueuesBounded};
-ghost use Rattle.idle_laws.specs.Streams.{JoinsWhereItCan};
+ghost use Rattle.core_laws.specs.Watches.Streams.{JoinsWhereItCan};
 ghost use Rattle.waiting_laws.specs.Sound.{IsSound};
 
 use core_model::{CoreEvent, Outcome, Settings, StepFault};

@@ -23,7 +23,7 @@ use Rattle.core_model.specs.Ends.{stales_limit, stale_once}
 use Rattle.core_model.specs.Groups.{keeps, is_out_stage, is_due_stage, waits_next, group_sent, group_ended}
 use Rattle.core_model.specs.Lookups.{has_ticket, calls_as}
 use Rattle.core_model.specs.Sending.{called_as}
-use Rattle.core_laws.proofs.Comes.{by_test}
+use Rattle.core_laws.proofs.Steps.Comes.{by_test}
 use Rattle.core_fits.specs.Fits.{EachOf, is_reading}
 
 pub record Goes (x y : Asked) : Type 0 where

@@ -40,8 +40,8 @@ use Rattle.watch_model.specs.Due.{next_job}
 use Rattle.watch_model.specs.Lookups.{stream_at, watch_at, is_begun}
 use Rattle.watch_model.specs.State.{Stream, Watch, Broadcasts}
 use Rattle.watch_model.specs.Takes as watches
-use Rattle.core_laws.proofs.Comes.{by_test}
-use Rattle.core_laws.proofs.Due.{DueIf, first_due}
+use Rattle.core_laws.proofs.Steps.Comes.{by_test}
+use Rattle.core_laws.proofs.Steps.Due.{DueIf, first_due}
 use Rattle.core_fits.specs.Fits.{SeatIsNumbered, IsOfLeasing}
 use Rattle.core_fits.proofs.Headers.{taken_seen}
 use Rattle.core_fits.proofs.Openings.{OpensIf, first_opens}

@@ -26,7 +26,7 @@ use Rattle.core_model.specs.Lookups.{leases, moment, reads_of, calls_as}
 use Rattle.core_model.specs.Sessions.{seat_is_over, without_session, deadline_passed, seat_calls, granted_by, grant_failed, keep_failed, kept, kept_by}
 use Rattle.core_model.specs.State.{Core}
 use Rattle.core_model.specs.Stepped.{Stepped}
-use Rattle.core_laws.proofs.Comes.{by_test}
+use Rattle.core_laws.proofs.Steps.Comes.{by_test}
 use Rattle.core_fits.specs.Fits.{EachOf}
 use Rattle.core_fits.proofs.AskRows.{Goes, Carries, stops, once_stops, stale_stops, times_go, caller_goes, group_goes}
 use Rattle.core_fits.proofs.ReadRows.{ReadsHaveIf, AfterHas, each_goes, session_over_has, taken_off_has, acquire_answered_has, acquire_lost_has, wait_answered_has, wait_lost_has}

@@ -28,7 +28,7 @@ use Rattle.core_model.specs.Refusals.{refusal_of}
 use Rattle.core_model.specs.Sessions.{seat_is_over, without_session, seat_calls, granted_by, grant_failed, keep_failed, kept, kept_by}
 use Rattle.core_model.specs.State.{Core}
 use Rattle.core_model.specs.Stepped.{Stepped}
-use Rattle.core_laws.proofs.Comes.{by_test}
+use Rattle.core_laws.proofs.Steps.Comes.{by_test}
 use Rattle.core_fits.specs.Fits.{IsOfLeasing, HeaderIsSeen}
 use Rattle.core_fits.proofs.Headers.{failed_seen, taken_seen}
 use Rattle.core_fits.proofs.Seats.{SeatFits, granted_fits, renewed_fits, free_fits, gone_fits}

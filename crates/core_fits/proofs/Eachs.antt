@@ -1,6 +1,6 @@
 -- What holds of each of a list.
 use Rattle.std.proofs.Common.{Bool, List, [], ◌∷◌, ◌++◌, map, filter}
-use Rattle.core_laws.proofs.Comes.{by_test}
+use Rattle.core_laws.proofs.Steps.Comes.{by_test}
 use Rattle.core_fits.specs.Fits.{EachOf}
 
 pub each_mapped : {A : Type 0} (P Q : A → Type 0) (f : A → A) → ((x : A) → P x → Q (f x)) → (xs : List A) → EachOf P xs → EachOf Q (map f xs)

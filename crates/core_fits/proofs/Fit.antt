@@ -4,12 +4,12 @@ use Rattle.core_model.specs.ClockWork.{clock_work}
 use Rattle.core_model.specs.Fits.{CoreOk}
 use Rattle.core_model.specs.State.{Core, first_core}
 use Rattle.core_model.specs.Step.{stepped}
-use Rattle.core_laws.specs.Kept.{after, ran, Timed, AllHeard}
-use Rattle.core_laws.proofs.Middle.{clock_whole}
-use Rattle.core_laws.proofs.Start.{start_fits}
-use Rattle.core_laws.proofs.Staying.{steps_stay}
-use Rattle.core_laws.proofs.Stepping.{steps_keep}
-use Rattle.core_laws.proofs.Whole.{of_ok}
+use Rattle.core_laws.specs.Steps.Kept.{after, ran, Timed, AllHeard}
+use Rattle.core_laws.proofs.Steps.Middle.{clock_whole}
+use Rattle.core_laws.proofs.Steps.Start.{start_fits}
+use Rattle.core_laws.proofs.Steps.Staying.{steps_stay}
+use Rattle.core_laws.proofs.Steps.Stepping.{steps_keep}
+use Rattle.core_laws.proofs.Steps.Whole.{of_ok}
 use Rattle.core_fits.specs.Fits.{IsOfLeasing, CoreFits}
 use Rattle.core_fits.specs.Laws.{Starts, Lasts, RunsFit}
 use Rattle.core_fits.proofs.Beside.{stepped_beside}

@@ -12,8 +12,8 @@ use Rattle.core_model.specs.Fits.{has_number, writing_tickets, write_tickets, pa
 use Rattle.core_model.specs.Lookups.{ask_at, out_at}
 use Rattle.core_model.specs.Sessions.{is_sent_as}
 use Rattle.core_model.specs.State.{Seat}
-use Rattle.core_laws.proofs.Comes.{by_test}
-use Rattle.core_laws.proofs.Lists.{same_number, number_itself}
+use Rattle.core_laws.proofs.Steps.Comes.{by_test}
+use Rattle.core_laws.proofs.Steps.Lists.{same_number, number_itself}
 use Rattle.core_fits.specs.Fits.{EachOf, IsSame, IsSeatsCall, SeatHasItsJob}
 use Rattle.core_fits.specs.Found.{WritingRequestsHaveWrites, SessionsCallIsOut}
 

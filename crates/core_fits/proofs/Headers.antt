@@ -5,7 +5,7 @@ use Rattle.etcd_types.specs.declared.record.Header.{Header}
 use Rattle.proxy_model.specs.Members.{Members, next_member, failed}
 use Rattle.core_model.specs.Heard.{later_header, header_taken}
 use Rattle.core_model.specs.State.{Core}
-use Rattle.core_laws.proofs.Comes.{by_test}
+use Rattle.core_laws.proofs.Steps.Comes.{by_test}
 use Rattle.core_fits.specs.Fits.{HeaderIsSeen}
 
 pub failed_seen : (m : Members) (member : ℕ) → (failed m member).seen ≡ m.seen

@@ -19,7 +19,7 @@ use Rattle.core_model.specs.Kinds.{writes_keys}
 use Rattle.core_model.specs.Lookups.{leases, is_known, moment, reads_of, with_reads}
 use Rattle.core_model.specs.Refusals.{refusal_of}
 use Rattle.core_model.specs.State.{Core}
-use Rattle.core_laws.proofs.Comes.{by_test}
+use Rattle.core_laws.proofs.Steps.Comes.{by_test}
 use Rattle.core_fits.specs.Fits.{EachOf, Serves, is_reading}
 use Rattle.core_fits.proofs.Eachs.{each_pushed}
 use Rattle.core_fits.proofs.ReadRows.{decided_writes}

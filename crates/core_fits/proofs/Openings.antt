@@ -16,7 +16,7 @@ use Rattle.watch_model.specs.declared.stream.StreamPhase.TheVariants as phase
 use Rattle.watch_model.specs.State.{Stream}
 use Rattle.core_model.specs.DueJobs.{DueJob, ForAcquire, ToOpen, Placed, due_writes, due_acquire, if_due, placed, due_ask, due_stage, due_at, due_opening, due_phase, due_stream, due_jobs, earlier, earliest, job_of, session_job_of, session_job, rescind_or, or_else, first_job}
 use Rattle.core_model.specs.State.{Seat, Opening, Core}
-use Rattle.core_laws.proofs.Comes.{by_test}
+use Rattle.core_laws.proofs.Steps.Comes.{by_test}
 use Rattle.core_fits.specs.Fits.{EachOf, IsOfLeasing}
 
 -- of an opening, that it is of the ownership keys

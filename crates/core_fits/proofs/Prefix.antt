@@ -4,8 +4,8 @@ use Rattle.core_model.specs.ClockWork.{begun, clock_work, times_out, timed_out_a
 use Rattle.core_model.specs.Lookups.{moment, reads_of}
 use Rattle.core_model.specs.Sessions.{seat_is_over, without_session, deadline_passed}
 use Rattle.core_model.specs.State.{Core}
-use Rattle.core_laws.proofs.Comes.{by_test}
-use Rattle.core_laws.proofs.Prefixes.{session_over_same, taken_off_same}
+use Rattle.core_laws.proofs.Steps.Comes.{by_test}
+use Rattle.core_laws.proofs.Steps.Prefixes.{session_over_same, taken_off_same}
 
 pub clock_prefix : (now : ℕ) (c : Core) → (clock_work now c).own.waits.prefix ≡ c.own.waits.prefix
 unfolding clock_work

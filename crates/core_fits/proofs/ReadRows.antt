@@ -25,7 +25,7 @@ use Rattle.read_model.specs.SessionEnd.{over, session_over, dropped}
 use Rattle.read_model.specs.State.{Reads, Moment, Ground, ground_of, on}
 use Rattle.read_model.specs.TakingOff.{is_writes, forgotten_all, falls, taken_off}
 use Rattle.read_model.specs.WriteAnswers.{settled_ask, ending, answered_by, wait_answered, wait_lost}
-use Rattle.core_laws.proofs.Comes.{by_test}
+use Rattle.core_laws.proofs.Steps.Comes.{by_test}
 use Rattle.core_fits.specs.Fits.{EachOf}
 use Rattle.core_fits.proofs.Eachs.{each_mapped}
 use Rattle.core_fits.proofs.AskRows.{Goes, Carries, told_goes, told_lost_goes, released_each, settled_goes}

@@ -22,10 +22,10 @@ use Rattle.core_model.specs.Step.{happened, is_worn, stepped}
 use Rattle.core_model.specs.Stepped.{Stepped, faults, counted}
 use Rattle.core_model.specs.Takes.{taken_from, taken, on_take, lesser, least_ready, ready}
 use Rattle.core_model.specs.Verdicts.{reply_of}
-use Rattle.core_laws.proofs.Comes.{by_test}
-use Rattle.core_laws.proofs.Lists.{same_number, number_itself}
-use Rattle.core_laws.proofs.Middle.{clock_whole}
-use Rattle.core_laws.proofs.Whole.{of_ok}
+use Rattle.core_laws.proofs.Steps.Comes.{by_test}
+use Rattle.core_laws.proofs.Steps.Lists.{same_number, number_itself}
+use Rattle.core_laws.proofs.Steps.Middle.{clock_whole}
+use Rattle.core_laws.proofs.Steps.Whole.{of_ok}
 use Rattle.core_fits.specs.Fits.{EachOf}
 use Rattle.core_fits.specs.Ready.{NothingReadyIsNoneReplied, ReadyIsTaken}
 

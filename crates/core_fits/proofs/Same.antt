@@ -18,11 +18,11 @@ use Rattle.core_model.specs.State.{Core}
 use Rattle.core_model.specs.Step.{happened, is_worn, stepped}
 use Rattle.core_model.specs.Stepped.{Stepped, faults, counted}
 use Rattle.watch_model.specs.Lookups.{watch_at}
-use Rattle.core_laws.proofs.Asks.{unknown}
-use Rattle.core_laws.proofs.Comes.{by_test}
-use Rattle.core_laws.proofs.Lists.{number_itself}
-use Rattle.core_laws.proofs.Middle.{clock_whole}
-use Rattle.core_laws.proofs.Whole.{of_ok}
+use Rattle.core_laws.proofs.Steps.Asks.{unknown}
+use Rattle.core_laws.proofs.Steps.Comes.{by_test}
+use Rattle.core_laws.proofs.Steps.Lists.{number_itself}
+use Rattle.core_laws.proofs.Steps.Middle.{clock_whole}
+use Rattle.core_laws.proofs.Steps.Whole.{of_ok}
 use Rattle.core_fits.specs.Fits.{EachOf, IsSame, WritesAreAsked}
 use Rattle.core_fits.specs.Laws.{Starts, Lasts}
 use Rattle.core_fits.proofs.Eachs.{each_kept, each_pushed, each_before}

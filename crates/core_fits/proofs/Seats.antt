@@ -14,9 +14,9 @@ use Rattle.core_model.specs.Lookups.{without_out}
 use Rattle.core_model.specs.Sending.{next_call, out_call, session_out, seat_sent}
 use Rattle.core_model.specs.Sessions.{call_ticked, seat_ticked, is_sent_as, seat_granted, seat_free, seat_renewed}
 use Rattle.core_model.specs.State.{Seat, Core}
-use Rattle.core_laws.proofs.Calls.{not_given, is_new}
-use Rattle.core_laws.proofs.Comes.{by_test}
-use Rattle.core_laws.proofs.Lists.{same_number, number_turned}
+use Rattle.core_laws.proofs.Steps.Calls.{not_given, is_new}
+use Rattle.core_laws.proofs.Steps.Comes.{by_test}
+use Rattle.core_laws.proofs.Steps.Lists.{same_number, number_turned}
 use Rattle.core_fits.specs.Fits.{EachOf, IsSeatsCall, SeatHasItsJob, SeatIsNumbered}
 use Rattle.core_fits.proofs.Eachs.{each_filtered, each_pushed}
 

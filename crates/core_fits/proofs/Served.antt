@@ -10,7 +10,7 @@ use Rattle.core_model.specs.ClockWork.{clock_work}
 use Rattle.core_model.specs.Refusals.{refusal_of}
 use Rattle.core_model.specs.State.{Core}
 use Rattle.core_model.specs.Step.{stepped}
-use Rattle.core_laws.proofs.Staying.{steps_stay}
+use Rattle.core_laws.proofs.Steps.Staying.{steps_stay}
 use Rattle.core_fits.specs.Fits.{EachOf, Serves, AreServed, is_reading, ReadsAlone}
 use Rattle.core_fits.specs.Laws.{Starts, Lasts}
 use Rattle.core_fits.proofs.CallRows.{CoreHas, Last, clock_has}

@@ -5,7 +5,7 @@ use Rattle.core_model.specs.declared.settings.Settings.{Settings}
 use Rattle.core_model.specs.Fits.{CoreOk}
 use Rattle.core_model.specs.State.{Core, first_core}
 use Rattle.core_model.specs.Step.{stepped}
-use Rattle.core_laws.specs.Kept.{Timed, ran, AllHeard}
+use Rattle.core_laws.specs.Steps.Kept.{Timed, ran, AllHeard}
 use Rattle.core_fits.specs.Fits.{CoreFits}
 
 -- it holds of each proxy at its start

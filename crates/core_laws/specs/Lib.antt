@@ -1,4 +1,4 @@
-pub mod Laws
-pub mod Outcomes
-pub mod Kept
-pub mod Staying
+pub mod Writes
+pub mod PlainReads
+pub mod Steps
+pub mod Watches

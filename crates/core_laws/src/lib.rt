@@ -1,39 +1,12 @@
-//! Laws of the whole machine of one proxy, over its definitions.
+//! Laws of the machine of one proxy: waiting writes, plain reads, whole steps, and watches. Each is a public function without a body.
 #![tactic(auto)]
 
-ghost use Rattle.core_laws.specs.Kept.{StepsKeep, RunsKeep, RunsLeaveNoneIdle, RunsShareKeepalives};
-ghost use Rattle.core_laws.specs.Laws.{NoRequestIsIdle, StartFits, HeldReadIsReplied, AcquirableReadAcquires};
-ghost use Rattle.core_laws.specs.Staying.{StepsStay};
-ghost use Rattle.core_laws.specs.Outcomes.{WornDoesNothing, StepsGive};
+mod laws_of_reads;
+mod laws_of_steps;
+mod laws_of_watches;
+mod laws_of_writes;
 
-/// All that is to hold of a proxy holds at its start, and where it holds, each request that has no reply waits for something.
-pub fn no_request_is_idle()
-    ensures start { StartFits }
-    ensures none { NoRequestIsIdle }
-{}
-
-/// What a plain read comes to at its own step.
-pub fn plain_reads()
-    ensures held_read_is_replied { HeldReadIsReplied }
-    ensures acquirable_read_acquires { AcquirableReadAcquires }
-{}
-
-/// A step gives an outcome of its event's kind, or a fault that leaves only the clock work; of a worn proxy it does nothing.
-pub fn steps_give()
-    ensures worn_does_nothing { WornDoesNothing }
-    ensures gives { StepsGive }
-{}
-
-/// Every step keeps all that is to hold of a proxy; so it holds after each step of a run, no request waits for nothing then, and of
-/// each lease one keepalive is out at most, and none is due beside it.
-pub fn steps_keep()
-    ensures steps { StepsKeep }
-    ensures runs { RunsKeep }
-    ensures none_is_idle { RunsLeaveNoneIdle }
-    ensures keepalives_share { RunsShareKeepalives }
-{}
-
-/// Every step leaves the settings, the leasing prefix, and the leasing stream once there is one.
-pub fn steps_stay()
-    ensures { StepsStay }
-{}
+pub use laws_of_reads::{reads_keep, reads_wait, release_stands, released_in_place};
+pub use laws_of_steps::{no_request_is_idle, plain_reads, steps_give, steps_keep, steps_stay};
+pub use laws_of_watches::{no_watch_is_idle, steps_keep_streams};
+pub use laws_of_writes::{each_step, one_pass, owners_shown, ranges_stay};

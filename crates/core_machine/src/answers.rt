@@ -1,5 +1,5 @@
 ghost use Rattle.std.specs.Prelude.{◌≡◌, ℕ, Some, true, is_some, IsOk, OnOk, OnErr};
-ghost use Rattle.core_laws.specs.Kept.{HeardBytes};
+ghost use Rattle.core_laws.specs.Steps.Kept.{HeardBytes};
 ghost use Rattle.core_model.specs.Ends.{on_answer, answer_of, is_keepalive};
 ghost use Rattle.core_model.specs.Fits.{CoreOk};
 ghost use Rattle.core_model.specs.Heard.{heard};

@@ -1,5 +1,5 @@
-ghost use Rattle.core_laws.specs.Kept.{HeardBytes};
-ghost use Rattle.wait_laws.specs.Written.{ShowsBytes};
+ghost use Rattle.core_laws.specs.Steps.Kept.{HeardBytes};
+ghost use Rattle.core_laws.specs.Writes.Written.{ShowsBytes};
 
 use etcd_types::Answer;
 use shown_bytes::show_body;

@@ -2,7 +2,7 @@ ghost use Rattle.std.specs.Prelude.{◌≡◌};
 ghost use Rattle.core_model.specs.ClockWork.{begun, requests_timed_out, clock_work, writes_go_on};
 ghost use Rattle.core_model.specs.Lookups.{reads_of};
 ghost use Rattle.core_model.specs.Sessions.{without_session, deadline_passed};
-ghost use Rattle.core_laws.proofs.Whole.{Mid};
+ghost use Rattle.core_laws.proofs.Steps.Whole.{Mid};
 ghost use Rattle.read_steps.specs.Steps.{FitTogether};
 ghost use Rattle.core_machine.specs.Keeping.{on};
 

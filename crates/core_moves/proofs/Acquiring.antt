@@ -22,11 +22,11 @@ use Rattle.read_model.specs.State.{Moment, Reads, ground_of, on}
 use Rattle.core_model.specs.Ends.{acquire_ended, acquire_if}
 use Rattle.core_model.specs.Lookups.{moment, reads_of, with_reads}
 use Rattle.core_model.specs.State.{Core}
-use Rattle.store_moves.specs.ToldAnswers.{TellsOwner, TellsClaim}
-use Rattle.lease_moves.specs.View.{Outcome, View}
-use Rattle.lease_moves.specs.Invariant.{Inv}
-use Rattle.lease_moves.specs.Answers.{in_answer, Reaches}
-use Rattle.lease_moves.specs.Sessions.{session_ended}
+use Rattle.cache_laws.specs.Store.ToldAnswers.{TellsOwner, TellsClaim}
+use Rattle.cache_laws.specs.Moves.View.{Outcome, View}
+use Rattle.cache_laws.specs.Moves.Invariant.{Inv}
+use Rattle.cache_laws.specs.Moves.Answers.{in_answer, Reaches}
+use Rattle.cache_laws.specs.Moves.Sessions.{session_ended}
 use Rattle.row_laws.specs.Rows.{row_of}
 use Rattle.row_laws.specs.Laws.{IsLive, Won, is_held_then}
 use Rattle.row_laws.specs.Endings.{ShowsOwner}

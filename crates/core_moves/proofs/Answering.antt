@@ -12,8 +12,8 @@ use Rattle.read_model.specs.declared.asked.Verdict.TheVariants as verdict
 use Rattle.core_model.specs.Groups.{groups_ended}
 use Rattle.core_model.specs.Kinds.{is_body_of}
 use Rattle.core_model.specs.State.{Seat, Core}
-use Rattle.lease_moves.specs.View.{View}
-use Rattle.lease_moves.specs.Invariant.{Inv}
+use Rattle.cache_laws.specs.Moves.View.{View}
+use Rattle.cache_laws.specs.Moves.Invariant.{Inv}
 use Rattle.call_laws.specs.Forms.{Form, Acquires, Grants, Keeps, IsFormed, Tells}
 use Rattle.core_moves.specs.Answers.{form_of_job, HasAnswer, SeatCalls, Hears, MovesIf, AnswersMove}
 use Rattle.core_moves.specs.Losses.{AwaitsIt}

@@ -18,7 +18,7 @@ use Rattle.read_model.specs.declared.asked.Stage.TheVariants as stage
 use Rattle.read_model.specs.Acquires.{read_asked}
 use Rattle.read_model.specs.PlainRead.{decided_ask}
 use Rattle.read_model.specs.State.{Moment, ground_of}
-use Rattle.read_laws.proofs.Kept.{asks_keep, taking_off_keeps}
+use Rattle.core_laws.proofs.PlainReads.Kept.{asks_keep, taking_off_keeps}
 use Rattle.watch_model.specs.Lookups.{stream_at, watch_at}
 use Rattle.watch_model.specs.State.{Stream, Watch, Broadcasts}
 use Rattle.watch_model.specs.Takes as watches
@@ -34,12 +34,12 @@ use Rattle.core_model.specs.Stepped.{Stepped, faults}
 use Rattle.core_model.specs.Takes.{taken_from, item_taken, taken, on_take, has_left, watcher_left, left, on_leave}
 use Rattle.core_model.specs.Watching.{taken_item, watch_taken}
 use Rattle.core_model.specs.declared.event.StepFault.TheVariants as fault
-use Rattle.lease_moves.specs.View.{View}
-use Rattle.lease_moves.specs.Invariant.{Inv}
+use Rattle.cache_laws.specs.Moves.View.{View}
+use Rattle.cache_laws.specs.Moves.Invariant.{Inv}
 use Rattle.row_laws.specs.Rows.{write_number, slot_of, row_of}
 use Rattle.row_laws.proofs.EndRows.{decided_row, taken_off_turns}
-use Rattle.core_laws.proofs.Asks.{unknown, write_mid}
-use Rattle.core_laws.proofs.Whole.{of_ok}
+use Rattle.core_laws.proofs.Steps.Asks.{unknown, write_mid}
+use Rattle.core_laws.proofs.Steps.Whole.{of_ok}
 use Rattle.core_moves.specs.Clients.{AsksMove, TakesMove, LeavesMove, CutsMove}
 use Rattle.core_moves.specs.Sees.{term_of, ground_in, Sees, Moves}
 use Rattle.core_moves.proofs.Clocks.{stays_so, rows_move, moves_on, pass_moves}

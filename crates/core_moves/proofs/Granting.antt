@@ -16,11 +16,11 @@ use Rattle.core_model.specs.Lookups.{moment, reads_of}
 use Rattle.core_model.specs.Sending.{session_out}
 use Rattle.core_model.specs.Sessions.{without_session, is_over, seat_is_over, seat_calls, seat_granted, granted_by, grant_answered, seat_renewed, kept, kept_by, keep_answered}
 use Rattle.core_model.specs.State.{Seat, Core}
-use Rattle.lease_moves.specs.View.{Slot, Term, View, live, live_by}
-use Rattle.lease_moves.specs.Invariant.{Inv}
-use Rattle.lease_moves.specs.Sessions.{Begins, Renews, session_ended}
-use Rattle.lease_moves.proofs.Numbers.{other_number}
-use Rattle.lease_moves.proofs.SessionProofs.{begins_keep, renews_keep}
+use Rattle.cache_laws.specs.Moves.View.{Slot, Term, View, live, live_by}
+use Rattle.cache_laws.specs.Moves.Invariant.{Inv}
+use Rattle.cache_laws.specs.Moves.Sessions.{Begins, Renews, session_ended}
+use Rattle.cache_laws.proofs.Moves.Numbers.{other_number}
+use Rattle.cache_laws.proofs.Moves.SessionProofs.{begins_keep, renews_keep}
 use Rattle.row_laws.specs.Rows.{row_of}
 use Rattle.row_laws.proofs.EndRows.{session_over_turns}
 use Rattle.call_laws.specs.Forms.{Grants, Keeps, IsFormed, GrantTold, KeepTold, Tells}

@@ -19,9 +19,9 @@ use Rattle.core_model.specs.Ends as ends
 use Rattle.core_model.specs.Lookups.{moment, reads_of, with_reads}
 use Rattle.core_model.specs.Sessions.{seat_calls, seat_free, grant_failed, keep_failed}
 use Rattle.core_model.specs.State.{Seat, Core}
-use Rattle.lease_moves.specs.View.{View}
-use Rattle.lease_moves.specs.Invariant.{Inv}
-use Rattle.lease_moves.specs.Sessions.{session_ended}
+use Rattle.cache_laws.specs.Moves.View.{View}
+use Rattle.cache_laws.specs.Moves.Invariant.{Inv}
+use Rattle.cache_laws.specs.Moves.Sessions.{session_ended}
 use Rattle.row_laws.specs.Laws.{Rows, with_own}
 use Rattle.row_laws.proofs.Reaching.{same_slot, reaches_on}
 use Rattle.row_laws.proofs.EndRows.{releases_turn}

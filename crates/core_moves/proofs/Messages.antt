@@ -11,8 +11,8 @@ use Rattle.wait_model.specs.Notices.{all_noticed}
 use Rattle.wait_model.specs.State.{Ownership}
 use Rattle.proxy_model.specs.Upstream.{opened, created, advance}
 use Rattle.read_model.specs.State.{Ground}
-use Rattle.read_laws.specs.Kept.{NoticesOk}
-use Rattle.read_laws.proofs.Kept.{notices_keep}
+use Rattle.core_laws.specs.PlainReads.Kept.{NoticesOk}
+use Rattle.core_laws.proofs.PlainReads.Kept.{notices_keep}
 use Rattle.watch_model.specs.Lookups.{stream_at, is_begun}
 use Rattle.watch_model.specs.State.{Stream}
 use Rattle.core_model.specs.ClockWork.{writes_go_on}
@@ -26,12 +26,12 @@ use Rattle.core_model.specs.State.{Seat, Opening, Core}
 use Rattle.core_model.specs.Step.{opening_at, client_item, item_of, on_item, ticked, on_tick}
 use Rattle.core_model.specs.Watching.{stream_message, message_if_begun, stream_item}
 use Rattle.core_model.specs.Watching as watching
-use Rattle.lease_moves.specs.View.{Term, View}
-use Rattle.lease_moves.specs.Answers.{Reaches}
-use Rattle.lease_moves.specs.Invariant.{Inv}
-use Rattle.lease_moves.specs.Sessions.{Draws, session_drawn}
-use Rattle.lease_moves.proofs.Numbers.{same_number}
-use Rattle.lease_moves.proofs.SessionProofs.{draws_keep}
+use Rattle.cache_laws.specs.Moves.View.{Term, View}
+use Rattle.cache_laws.specs.Moves.Answers.{Reaches}
+use Rattle.cache_laws.specs.Moves.Invariant.{Inv}
+use Rattle.cache_laws.specs.Moves.Sessions.{Draws, session_drawn}
+use Rattle.cache_laws.proofs.Moves.Numbers.{same_number}
+use Rattle.cache_laws.proofs.Moves.SessionProofs.{draws_keep}
 use Rattle.row_laws.specs.Rows.{row_of}
 use Rattle.row_laws.specs.Laws.{Rows}
 use Rattle.row_laws.specs.Notices.{AreTold}

@@ -29,19 +29,19 @@ use Rattle.wait_model.specs.ForeignOwnership.{stage_asked}
 use Rattle.wait_model.specs.Stages.{is_waiting, is_owner}
 use Rattle.wait_model.specs.State.{Ownership}
 use Rattle.wait_model.specs.Writes.{first_by, sends, asks, stage_asks, job_of}
-use Rattle.wait_laws.specs.Laws.{AreWritten, OwnersCovered}
-use Rattle.wait_laws.proofs.FoundWrite.{head_found, rest_found}
-use Rattle.wait_laws.proofs.Kept.{first_passes}
+use Rattle.core_laws.specs.Writes.Laws.{AreWritten, OwnersCovered}
+use Rattle.core_laws.proofs.Writes.FoundWrite.{head_found, rest_found}
+use Rattle.core_laws.proofs.Writes.Kept.{first_passes}
 use Rattle.read_model.specs.Fits.{GroundOk}
 use Rattle.read_model.specs.State.{Ground, Moment, ground_of}
 use Rattle.read_model.specs.WriteAnswers.{answered_by, wait_answered, ending}
 use Rattle.core_model.specs.Ends.{reads_if}
 use Rattle.core_model.specs.Lookups.{moment, reads_of, with_reads}
 use Rattle.core_model.specs.State.{Core}
-use Rattle.store_moves.specs.ToldAnswers.{TellsOwners, TellsWritten}
-use Rattle.lease_moves.specs.View.{View}
-use Rattle.lease_moves.specs.Invariant.{Inv}
-use Rattle.lease_moves.specs.Answers.{in_answer}
+use Rattle.cache_laws.specs.Store.ToldAnswers.{TellsOwners, TellsWritten}
+use Rattle.cache_laws.specs.Moves.View.{View}
+use Rattle.cache_laws.specs.Moves.Invariant.{Inv}
+use Rattle.cache_laws.specs.Moves.Answers.{in_answer}
 use Rattle.row_laws.specs.Laws as laws
 use Rattle.row_laws.specs.Laws.{Rows, IsLive, AreMarked, with_own, AreFound}
 use Rattle.row_laws.proofs.Reaching.{same_slot, reaches_on}

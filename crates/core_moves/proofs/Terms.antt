@@ -16,11 +16,11 @@ use Rattle.core_model.specs.declared.out_call.OutCall.{OutCall}
 use Rattle.core_model.specs.Fits.{is_standing}
 use Rattle.core_model.specs.Lookups.{number_if, live_number}
 use Rattle.core_model.specs.State.{Seat, Core}
-use Rattle.lease_moves.specs.View as view
-use Rattle.lease_moves.specs.View.{Term, View, live, live_by, put}
-use Rattle.lease_moves.specs.Invariant.{Inv}
-use Rattle.lease_moves.specs.Sessions.{Begins, session_begun, Renews, session_renewed}
-use Rattle.lease_moves.proofs.SessionProofs.{begins_keep, renews_keep}
+use Rattle.cache_laws.specs.Moves.View as view
+use Rattle.cache_laws.specs.Moves.View.{Term, View, live, live_by, put}
+use Rattle.cache_laws.specs.Moves.Invariant.{Inv}
+use Rattle.cache_laws.specs.Moves.Sessions.{Begins, session_begun, Renews, session_renewed}
+use Rattle.cache_laws.proofs.Moves.SessionProofs.{begins_keep, renews_keep}
 use Rattle.row_laws.specs.Rows.{phase_of, row_of}
 use Rattle.row_laws.specs.Laws.{IsLive}
 use Rattle.core_moves.specs.Terms.{HasNumber}

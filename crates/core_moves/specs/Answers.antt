@@ -7,7 +7,7 @@ use Rattle.proxy_model.specs.SeveralKeys.{written_ranges}
 use Rattle.wait_model.specs.declared.write.Write.{Write}
 use Rattle.wait_model.specs.Fits.{are_proper}
 use Rattle.wait_model.specs.Writes.{first_by, sends}
-use Rattle.wait_laws.specs.Laws.{OwnersCovered, AreWritten}
+use Rattle.core_laws.specs.Writes.Laws.{OwnersCovered, AreWritten}
 use Rattle.read_model.specs.declared.acquire.Acquire.{Acquire}
 use Rattle.read_model.specs.Fits.{GroundOk}
 use Rattle.core_model.specs.declared.out_call.OutCall.{OutCall}
@@ -18,8 +18,8 @@ use Rattle.core_model.specs.Fits.{is_standing}
 use Rattle.core_model.specs.Sending.{session_out}
 use Rattle.core_model.specs.Sessions.{is_sent_as, seat_is_over}
 use Rattle.core_model.specs.State.{Seat, Core}
-use Rattle.lease_moves.specs.View.{View}
-use Rattle.lease_moves.specs.Invariant.{Inv}
+use Rattle.cache_laws.specs.Moves.View.{View}
+use Rattle.cache_laws.specs.Moves.Invariant.{Inv}
 use Rattle.call_laws.specs.Forms.{Form, Writes, Acquires, Grants, Keeps, IsFormed, Tells}
 use Rattle.core_moves.specs.Losses.{AwaitsIt}
 use Rattle.core_moves.specs.Sees.{ground_in, Sees, Moves}

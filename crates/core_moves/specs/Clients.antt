@@ -13,9 +13,9 @@ use Rattle.core_model.specs.Sessions.{drawn_session}
 use Rattle.core_model.specs.State.{Opening, Core}
 use Rattle.core_model.specs.Step.{opening_at, on_tick, on_item, on_cut}
 use Rattle.core_model.specs.Takes.{on_take, on_leave}
-use Rattle.lease_moves.specs.Sessions.{Draws}
-use Rattle.lease_moves.specs.View.{View}
-use Rattle.lease_moves.specs.Invariant.{Inv}
+use Rattle.cache_laws.specs.Moves.Sessions.{Draws}
+use Rattle.cache_laws.specs.Moves.View.{View}
+use Rattle.cache_laws.specs.Moves.Invariant.{Inv}
 use Rattle.row_laws.specs.Laws.{IsLive}
 use Rattle.row_laws.specs.Notices.{AreTold}
 use Rattle.core_moves.specs.Terms.{HasNumber}

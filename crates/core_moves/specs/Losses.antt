@@ -9,8 +9,8 @@ use Rattle.core_model.specs.declared.out_call.OutJob.{OutJob}
 use Rattle.core_model.specs.declared.out_call.OutJob.TheVariants as job
 use Rattle.core_model.specs.Ends.{lost_call}
 use Rattle.core_model.specs.State.{Core}
-use Rattle.lease_moves.specs.View.{View}
-use Rattle.lease_moves.specs.Invariant.{Inv}
+use Rattle.cache_laws.specs.Moves.View.{View}
+use Rattle.cache_laws.specs.Moves.Invariant.{Inv}
 use Rattle.core_moves.specs.Sees.{ground_in, Sees, Moves}
 
 -- an acquire that is out under this number

@@ -1,7 +1,13 @@
-//! Tables of steps on the machine of one proxy and on two of its parts, and of what comes of each.
+//! Tables of steps on the small store, on the machine of one proxy and on two of its parts, and of what comes of each.
 //!
 //! The standard input has tables, each after a line `table NAME`: steps, one a line. A line `= OUTCOME` below a step says what is to
 //! come of it. Each outcome that differs is printed, and of each table the number of its outcomes and of those that differ.
+//!
+//! `stores`, requests to a store:
+//! - `store MEMBERS`, which begins anew; `exec MEMBER REQUEST`, `compact REVISION`, `expire LEASE`, `apply MEMBER REVISION`,
+//!   `open MEMBER WATCH`, `push WATCH`, `progress WATCH`;
+//! - `times COUNT WATCH MEMBER REQUEST`: a request so many times, with a push of the watch after each, of which the last is shown;
+//! - `kept`: how many versions the store keeps.
 //!
 //! `proxies`, events of one proxy:
 //! - `new MEMBERS NAMESPACE LEASING TTL`, which begins anew, with the clock at 0; `at NOW`, by which the clock goes on;
@@ -42,6 +48,7 @@ mod proxies;
 mod proxy;
 mod random;
 mod store;
+mod stores;
 mod tables;
 mod taker;
 mod told;

@@ -5,9 +5,9 @@ use Rattle.core_model.specs.ClockWork.{begun, clock_work}
 use Rattle.core_model.specs.Fits.{CoreOk}
 use Rattle.core_model.specs.Sessions.{without_session, seat_is_over}
 use Rattle.core_model.specs.State.{Seat, Core}
-use Rattle.core_laws.proofs.Comes.{by_test}
-use Rattle.core_laws.proofs.Middle.{clock_whole}
-use Rattle.core_laws.proofs.Whole.{of_ok, is_ok}
+use Rattle.core_laws.proofs.Steps.Comes.{by_test}
+use Rattle.core_laws.proofs.Steps.Middle.{clock_whole}
+use Rattle.core_laws.proofs.Steps.Whole.{of_ok, is_ok}
 use Rattle.core_fits.specs.Fits.{SeatIsNumbered, CoreFits}
 use Rattle.core_fits.proofs.CallsBeside.{clock_beside}
 use Rattle.core_fits.proofs.Seats.{SeatFits}

@@ -7,9 +7,9 @@ use Rattle.proxy_model.specs.Keyed.{Keyed}
 use Rattle.proxy_model.specs.Members.{Members, take_seen}
 use Rattle.wait_model.specs.State.{Ownership}
 use Rattle.wait_model.specs.Writes.{sends}
-use Rattle.wait_laws.specs.Laws.{AreWritten, OwnersCovered}
-use Rattle.wait_laws.specs.Written.{ShowsBytes}
-use Rattle.wait_laws.proofs.OwnersShown.{owners_are_covered}
+use Rattle.core_laws.specs.Writes.Laws.{AreWritten, OwnersCovered}
+use Rattle.core_laws.specs.Writes.Written.{ShowsBytes}
+use Rattle.core_laws.proofs.Writes.OwnersShown.{owners_are_covered}
 use Rattle.read_model.specs.declared.acquire.Acquire.{Acquire}
 use Rattle.core_model.specs.declared.out_call.OutCall.{OutCall}
 use Rattle.core_model.specs.declared.out_call.OutJob.{OutJob}
@@ -20,17 +20,17 @@ use Rattle.core_model.specs.Fits.{job_at, is_standing}
 use Rattle.core_model.specs.Heard.{heard, later_header}
 use Rattle.core_model.specs.Lookups.{out_at, without_out}
 use Rattle.core_model.specs.State.{Seat, Core}
-use Rattle.core_laws.specs.Kept.{HeardBytes}
-use Rattle.core_laws.proofs.Agreeing.{to_written}
-use Rattle.core_laws.proofs.Calls.{IsFound, found_is}
-use Rattle.core_laws.proofs.Middle.{lost_mid, answered_mid}
-use Rattle.core_laws.proofs.Whole.{Mid, of_ok}
+use Rattle.core_laws.specs.Steps.Kept.{HeardBytes}
+use Rattle.core_laws.proofs.Steps.Agreeing.{to_written}
+use Rattle.core_laws.proofs.Steps.Calls.{IsFound, found_is}
+use Rattle.core_laws.proofs.Steps.Middle.{lost_mid, answered_mid}
+use Rattle.core_laws.proofs.Steps.Whole.{Mid, of_ok}
 use Rattle.core_fits.specs.Fits.{IsSeatsCall}
 use Rattle.core_fits.proofs.Found.{each_out}
 use Rattle.core_fits.proofs.Seats.{SeatFits}
 use Rattle.owner_fits.specs.Acquires.{AcquiresFit}
-use Rattle.lease_moves.specs.Invariant.{Inv}
-use Rattle.lease_moves.specs.View.{View}
+use Rattle.cache_laws.specs.Moves.Invariant.{Inv}
+use Rattle.cache_laws.specs.Moves.View.{View}
 use Rattle.call_laws.specs.Forms.{Form}
 use Rattle.core_moves.specs.Answers.{form_of_job, SeatCalls, Hears, MovesIf}
 use Rattle.core_moves.specs.Losses.{AwaitsIt}

@@ -10,11 +10,11 @@ use Rattle.core_model.specs.Fits.{is_standing}
 use Rattle.core_model.specs.State.{Core}
 use Rattle.core_model.specs.Step.{happened, is_worn, stepped}
 use Rattle.core_model.specs.Stepped.{Stepped, faults, counted_by, counted}
-use Rattle.core_laws.specs.Kept.{IsHeard}
-use Rattle.core_laws.proofs.Comes.{by_test}
+use Rattle.core_laws.specs.Steps.Kept.{IsHeard}
+use Rattle.core_laws.proofs.Steps.Comes.{by_test}
 use Rattle.owner_fits.proofs.Hearing.{still_heard}
-use Rattle.lease_moves.specs.Invariant.{Inv}
-use Rattle.lease_moves.specs.View.{View}
+use Rattle.cache_laws.specs.Moves.Invariant.{Inv}
+use Rattle.cache_laws.specs.Moves.View.{View}
 use Rattle.core_moves.specs.Sees.{Sees, Moves}
 use Rattle.core_moves.proofs.Clients.{asks_move, takes_move, leaves_move, cuts_move}
 use Rattle.core_moves.proofs.Clocks.{stays_so, moves_on, clocks_move}

@@ -9,8 +9,8 @@ use Rattle.core_model.specs.declared.event.CoreEvent.TheVariants as event
 use Rattle.core_model.specs.declared.out_call.OutCall.{OutCall}
 use Rattle.core_model.specs.Sessions.{drawn_session}
 use Rattle.core_model.specs.State.{Core}
-use Rattle.lease_moves.specs.Answers.{IsShown, in_answer, in_event}
-use Rattle.lease_moves.specs.View.{Owner, Call, Outcome, View}
+use Rattle.cache_laws.specs.Moves.Answers.{IsShown, in_answer, in_event}
+use Rattle.cache_laws.specs.Moves.View.{Owner, Call, Outcome, View}
 use Rattle.call_laws.specs.Forms.{IsFormed, Tells}
 use Rattle.row_laws.specs.Notices.{TellsChange, AreTold}
 use Rattle.core_moves.specs.Sees.{Alike}

@@ -11,12 +11,12 @@ use Rattle.core_model.specs.Lookups.{out_at}
 use Rattle.core_model.specs.Sessions.{drawn_session}
 use Rattle.core_model.specs.State.{Core}
 use Rattle.core_model.specs.Step.{stepped}
-use Rattle.core_laws.specs.Kept.{IsHeard}
+use Rattle.core_laws.specs.Steps.Kept.{IsHeard}
 use Rattle.core_fits.specs.Fits.{CoreFits}
 use Rattle.owner_fits.specs.Laws.{OwnersFit}
-use Rattle.lease_moves.specs.Invariant.{Inv}
-use Rattle.lease_moves.specs.Sessions.{Draws}
-use Rattle.lease_moves.specs.View.{View}
+use Rattle.cache_laws.specs.Moves.Invariant.{Inv}
+use Rattle.cache_laws.specs.Moves.Sessions.{Draws}
+use Rattle.cache_laws.specs.Moves.View.{View}
 use Rattle.call_laws.specs.Forms.{Form}
 use Rattle.core_moves.specs.Answers.{form_of_job, HasAnswer}
 use Rattle.core_moves.specs.Clients.{TellsItem, TickMoves}

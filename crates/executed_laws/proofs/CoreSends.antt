@@ -60,7 +60,7 @@ use Rattle.core_model.specs.Takes.{has_left, item_taken, taken, on_take, watcher
 use Rattle.core_model.specs.Takes as takes
 use Rattle.core_model.specs.Watching.{stream_message, stream_item, taken_item}
 use Rattle.core_model.specs.Watching as watching
-use Rattle.core_laws.proofs.Comes.{by_test}
+use Rattle.core_laws.proofs.Steps.Comes.{by_test}
 use Rattle.core_fits.specs.Fits.{EachOf}
 use Rattle.core_fits.proofs.Eachs.{each_pushed}
 use Rattle.core_fits.proofs.ReadRows.{decided_writes}

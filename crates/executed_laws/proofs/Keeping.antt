@@ -13,8 +13,8 @@ use Rattle.core_model.specs.ClockWork.{clock_work}
 use Rattle.core_model.specs.Fits.{CoreOk}
 use Rattle.core_model.specs.State.{Core}
 use Rattle.core_model.specs.Step.{stepped}
-use Rattle.core_laws.proofs.Staying.{steps_stay}
-use Rattle.core_laws.proofs.Stepping.{steps_keep}
+use Rattle.core_laws.proofs.Steps.Staying.{steps_stay}
+use Rattle.core_laws.proofs.Steps.Stepping.{steps_keep}
 use Rattle.core_fits.specs.Fits.{WritesAreAsked}
 use Rattle.script_text.specs.declared.item.Item.{Item}
 use Rattle.world_model.specs.declared.sent_call.SentCall.{SentCall}

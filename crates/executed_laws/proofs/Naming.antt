@@ -37,10 +37,10 @@ use Rattle.core_model.specs.Sending.{next_call, writes_sent, sent_by, on_work}
 use Rattle.core_model.specs.State.{Core}
 use Rattle.core_model.specs.Step.{stepped}
 use Rattle.core_model.specs.Watching.{with_watches, stream_job}
-use Rattle.core_laws.proofs.Lists.{same_number, number_turned}
-use Rattle.core_laws.proofs.Middle.{clock_whole}
-use Rattle.core_laws.proofs.WaitEnds.{found_ticket}
-use Rattle.core_laws.proofs.Whole.{Whole, of_ok}
+use Rattle.core_laws.proofs.Steps.Lists.{same_number, number_turned}
+use Rattle.core_laws.proofs.Steps.Middle.{clock_whole}
+use Rattle.core_laws.proofs.Steps.WaitEnds.{found_ticket}
+use Rattle.core_laws.proofs.Steps.Whole.{Whole, of_ok}
 use Rattle.script_text.specs.declared.item.Item.{Item}
 use Rattle.script_text.specs.declared.item.Item.TheVariants as item
 use Rattle.world_model.specs.Gains.{Replies, body_if, line_if, reply_items, taken_items}

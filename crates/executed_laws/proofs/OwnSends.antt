@@ -26,8 +26,8 @@ use Rattle.wait_model.specs.Stages.{staged}
 use Rattle.wait_model.specs.State.{Ownership}
 use Rattle.wait_model.specs.Writes.{first_by, without_first, has_ticket, sends, asks}
 use Rattle.core_model.specs.Fits.{WritesOk}
-use Rattle.core_laws.proofs.Comes.{by_test, Calms, stage_gone_calms, stage_ended_calms, Comes, AllCome, passed_come}
-use Rattle.core_laws.proofs.WaitEnds.{IsRemoved, EndsAs, EndedIf, answered_ends, lost_ends}
+use Rattle.core_laws.proofs.Steps.Comes.{by_test, Calms, stage_gone_calms, stage_ended_calms, Comes, AllCome, passed_come}
+use Rattle.core_laws.proofs.Steps.WaitEnds.{IsRemoved, EndsAs, EndedIf, answered_ends, lost_ends}
 use Rattle.core_fits.specs.Fits.{EachOf}
 
 -- ---- what lasts of a write

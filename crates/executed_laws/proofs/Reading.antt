@@ -49,9 +49,9 @@ use Rattle.core_model.specs.Takes.{item_taken, taken, on_take, watcher_left, lef
 use Rattle.core_model.specs.Takes as takes
 use Rattle.core_model.specs.Watching.{with_watches, stream_message, stream_item, taken_item, stream_job}
 use Rattle.core_model.specs.Watching as watching
-use Rattle.core_laws.proofs.Comes.{by_test}
-use Rattle.core_laws.proofs.Middle.{clock_whole}
-use Rattle.core_laws.proofs.Whole.{Whole, of_ok}
+use Rattle.core_laws.proofs.Steps.Comes.{by_test}
+use Rattle.core_laws.proofs.Steps.Middle.{clock_whole}
+use Rattle.core_laws.proofs.Steps.Whole.{Whole, of_ok}
 use Rattle.core_fits.specs.Fits.{is_reading}
 use Rattle.keep_laws.proofs.Rows.{All, all_mapped, all_filtered, all_pushed}
 use Rattle.reply_laws.proofs.Before as before

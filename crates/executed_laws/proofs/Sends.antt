@@ -27,7 +27,7 @@ use Rattle.wait_model.specs.State.{Ownership}
 use Rattle.wait_model.specs.Writes as writes
 use Rattle.wait_model.specs.Writes.{first_by, with_first, stage_sends, sends}
 use Rattle.wait_model.proofs.Tables.{at-without}
-use Rattle.wait_laws.proofs.FoundWrite.{head_found, rest_found}
+use Rattle.core_laws.proofs.Writes.FoundWrite.{head_found, rest_found}
 use Rattle.read_model.specs.declared.acquire.Acquire.{Acquire}
 use Rattle.read_model.specs.declared.asked.Asked.{Asked}
 use Rattle.read_model.specs.declared.asked.Stage.{Stage}
@@ -55,10 +55,10 @@ use Rattle.core_model.specs.State.{Core}
 use Rattle.core_model.specs.Step.{is_worn, happened, stepped}
 use Rattle.core_model.specs.Stepped.{Stepped, faults, counted, counted_by}
 use Rattle.core_model.specs.Watching.{with_watches, stream_job}
-use Rattle.core_laws.proofs.Comes.{by_test}
-use Rattle.core_laws.proofs.Lists.{same_number}
-use Rattle.core_laws.proofs.Middle.{clock_whole}
-use Rattle.core_laws.proofs.Whole.{Whole, of_ok}
+use Rattle.core_laws.proofs.Steps.Comes.{by_test}
+use Rattle.core_laws.proofs.Steps.Lists.{same_number}
+use Rattle.core_laws.proofs.Steps.Middle.{clock_whole}
+use Rattle.core_laws.proofs.Steps.Whole.{Whole, of_ok}
 use Rattle.core_fits.specs.Fits.{EachOf}
 use Rattle.core_fits.proofs.Eachs.{each_kept}
 use Rattle.keep_laws.proofs.Rows.{All, all_mapped, all_kept}

@@ -15,7 +15,7 @@ use Rattle.proxy_model.specs.Keyed.{at}
 use Rattle.wait_model.specs.declared.sending.Sending.TheVariants as sending
 use Rattle.wait_model.specs.declared.write.Write.{Write}
 use Rattle.wait_model.specs.Writes.{first_by, sends}
-use Rattle.wait_laws.proofs.Kept.{first_passes}
+use Rattle.core_laws.proofs.Writes.Kept.{first_passes}
 use Rattle.read_model.specs.declared.asked.Asked.{Asked}
 use Rattle.read_model.specs.declared.asked.Stage.{Stage}
 use Rattle.read_model.specs.declared.asked.Stage.TheVariants as stage
@@ -35,7 +35,7 @@ use Rattle.core_model.specs.Lookups.{ask_at, out_at, reads_of}
 use Rattle.core_model.specs.State.{Core}
 use Rattle.core_model.specs.Step.{is_worn, stepped}
 use Rattle.core_model.specs.Takes.{ready}
-use Rattle.core_laws.proofs.Lists.{same_number}
+use Rattle.core_laws.proofs.Steps.Lists.{same_number}
 use Rattle.core_fits.specs.Fits.{CoreFits, is_reading}
 use Rattle.core_fits.proofs.Prefix.{clock_prefix}
 use Rattle.core_fits.proofs.Ready.{nothing_ready}

@@ -33,9 +33,9 @@ use Rattle.core_model.specs.Lookups.{stage_calls, ask_at, out_at}
 use Rattle.core_model.specs.State.{Core}
 use Rattle.core_model.specs.Step.{is_worn, happened, stepped}
 use Rattle.core_model.specs.Stepped.{faults, counted, counted_by}
-use Rattle.core_laws.proofs.Lists.{same_number}
-use Rattle.core_laws.proofs.Middle.{clock_whole}
-use Rattle.core_laws.proofs.Whole.{of_ok}
+use Rattle.core_laws.proofs.Steps.Lists.{same_number}
+use Rattle.core_laws.proofs.Steps.Middle.{clock_whole}
+use Rattle.core_laws.proofs.Steps.Whole.{of_ok}
 use Rattle.core_fits.specs.Fits.{is_reading}
 use Rattle.keep_laws.proofs.Rows.{All, all_kept}
 use Rattle.keep_laws.proofs.Runs.{found}

@@ -33,10 +33,10 @@ use Rattle.core_model.specs.Fits.{CoreOk, has_number, is_awaited, awaits, writin
 use Rattle.core_model.specs.Lookups.{ask_at, has_ticket}
 use Rattle.core_model.specs.Sending.{next_call}
 use Rattle.core_model.specs.State.{Core}
-use Rattle.core_laws.proofs.Lists.{same_number}
-use Rattle.core_laws.proofs.Middle.{clock_whole}
-use Rattle.core_laws.proofs.WaitEnds.{found_ticket}
-use Rattle.core_laws.proofs.Whole.{Whole, of_ok}
+use Rattle.core_laws.proofs.Steps.Lists.{same_number}
+use Rattle.core_laws.proofs.Steps.Middle.{clock_whole}
+use Rattle.core_laws.proofs.Steps.WaitEnds.{found_ticket}
+use Rattle.core_laws.proofs.Steps.Whole.{Whole, of_ok}
 use Rattle.core_fits.specs.Fits.{EachOf, IsSame, WritesAreAsked}
 use Rattle.core_fits.proofs.CallRows.{clock_has}
 use Rattle.core_fits.proofs.Prefix.{clock_prefix}

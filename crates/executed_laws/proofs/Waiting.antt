@@ -39,7 +39,7 @@ use Rattle.read_model.specs.SessionEnd.{session_over}
 use Rattle.read_model.specs.State.{Reads, Moment, Ground, ground_of, on}
 use Rattle.read_model.specs.TakingOff.{is_writes}
 use Rattle.read_model.specs.WriteAnswers.{settled_ask, ending, answered_by, wait_answered}
-use Rattle.read_laws.proofs.Grounds.{Grows, grown_stands, decided_grows, grows_itself}
+use Rattle.core_laws.proofs.PlainReads.Grounds.{Grows, grown_stands, decided_grows, grows_itself}
 use Rattle.core_model.specs.declared.out_call.CallKind.{CallKind}
 use Rattle.core_model.specs.declared.out_call.OutCall.{OutCall}
 use Rattle.core_model.specs.declared.out_call.OutJob.{OutJob}
@@ -53,8 +53,8 @@ use Rattle.core_model.specs.Kinds.{is_read, is_body_of}
 use Rattle.core_model.specs.Lookups.{moment, reads_of, stage_calls, calls_as, out_at}
 use Rattle.core_model.specs.Sessions.{without_session, seat_calls, granted_by, grant_failed, keep_failed, kept, kept_by}
 use Rattle.core_model.specs.State.{Core}
-use Rattle.core_laws.proofs.Comes.{by_test}
-use Rattle.core_laws.proofs.WaitEnds.{IsRemoved, EndsAs, EndedIf, answered_ends, lost_ends, found_ticket}
+use Rattle.core_laws.proofs.Steps.Comes.{by_test}
+use Rattle.core_laws.proofs.Steps.WaitEnds.{IsRemoved, EndsAs, EndedIf, answered_ends, lost_ends, found_ticket}
 use Rattle.core_fits.specs.Fits.{is_reading}
 use Rattle.keep_laws.proofs.Rows.{All, all_mapped, all_kept, Settles, all_write}
 use Rattle.reply_laws.proofs.Before.{is_quiet}

@@ -21,7 +21,7 @@ use Rattle.core_model.specs.Lookups.{leases, moment, reads_of, with_reads, ask_a
 use Rattle.core_model.specs.Refusals.{refusal_of}
 use Rattle.core_model.specs.State.{Core}
 use Rattle.core_model.specs.Stepped.{Stepped}
-use Rattle.core_laws.proofs.Comes.{by_test, passed_goes}
+use Rattle.core_laws.proofs.Steps.Comes.{by_test, passed_goes}
 
 -- it was answered at once, or stands behind the others
 pub data Joins (ticket now : ℕ) (xs ys : List Asked) : Type 0 where

@@ -30,7 +30,7 @@ use Rattle.core_model.specs.Sessions.{without_session, deadline_passed}
 use Rattle.core_model.specs.State.{Seat, Opening, Core}
 use Rattle.generated_laws.specs.OnTime.{is_in_time, IsOnTime}
 use Rattle.generated_laws.proofs.Passing.{some_first, some_second, some_either, passed_rescinds, passed_due, place_some, some_place}
-use Rattle.core_laws.proofs.Comes.{by_test}
+use Rattle.core_laws.proofs.Steps.Comes.{by_test}
 
 -- ---- none ends
 

@@ -36,7 +36,7 @@ use Rattle.core_model.specs.Lookups.{moment, reads_of, with_reads, calls_as}
 use Rattle.core_model.specs.Sessions.{without_session, is_over, seat_is_over, seat_calls, seat_granted, granted_by, grant_failed, seat_free, keep_failed, seat_renewed, kept, kept_by}
 use Rattle.core_model.specs.State.{Seat, Core}
 use Rattle.generated_laws.proofs.Requests.{AllGo, all_itself, all_on, all_mapped, told_goes, told_lost_goes, released_all, settled_goes, Keeps, caller_goes, group_goes}
-use Rattle.core_laws.proofs.Comes.{by_test}
+use Rattle.core_laws.proofs.Steps.Comes.{by_test}
 
 -- ---- what it leaves
 

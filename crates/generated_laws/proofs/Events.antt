@@ -40,8 +40,8 @@ use Rattle.generated_laws.proofs.Clock.{clock_stays, job_stays}
 use Rattle.generated_laws.proofs.Ending.{Lives, IsEarly, GrantsIf, call_answered_leaves}
 use Rattle.generated_laws.proofs.Requests.{as_many, in_time_all, few_on, few_filtered, one_fewer}
 use Rattle.generated_laws.proofs.Stepping.{more_stands, clock_leaves, clock_stands, IsSmall, not_worn, counted_stands, Step, step_of}
-use Rattle.core_laws.proofs.Lists.{all_filtered}
-use Rattle.core_laws.proofs.Comes.{by_test, passed_goes}
+use Rattle.core_laws.proofs.Steps.Lists.{all_filtered}
+use Rattle.core_laws.proofs.Steps.Comes.{by_test, passed_goes}
 use Rattle.generated_laws.proofs.Working.{AsksFor, CallSent, StreamOpened, Works, by_call, by_opening, work_sends}
 use Rattle.generated_laws.specs.Proxies.{AreFew, IsFresh, Rests, Stands}
 

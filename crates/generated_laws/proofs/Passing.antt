@@ -32,7 +32,7 @@ use Rattle.wait_model.specs.State.{Ownership}
 use Rattle.wait_model.specs.Writes.{first_by, with_first, has_ticket}
 use Rattle.core_model.specs.Fits.{goes_on}
 use Rattle.core_model.specs.Kinds.{has_some}
-use Rattle.core_laws.proofs.Comes.{by_test}
+use Rattle.core_laws.proofs.Steps.Comes.{by_test}
 
 -- ---- lists with something in them
 

@@ -21,8 +21,8 @@ use Rattle.core_model.specs.Fits.{has_number, once, ask_tickets}
 use Rattle.core_model.specs.Groups.{keeps, is_out_stage, is_due_stage, waits_next, group_sent, group_ended}
 use Rattle.core_model.specs.Lookups.{has_ticket, ask_at, without_ask, stage_calls, calls_as}
 use Rattle.generated_laws.specs.OnTime.{is_in_time}
-use Rattle.core_laws.proofs.Comes.{by_test}
-use Rattle.core_laws.proofs.Lists.{all_kept, all_pushed, once_filtered, once_pushed, map_pushed}
+use Rattle.core_laws.proofs.Steps.Comes.{by_test}
+use Rattle.core_laws.proofs.Steps.Lists.{all_kept, all_pushed, once_filtered, once_pushed, map_pushed}
 use Rattle.generated_laws.specs.Proxies.{AreFew, below}
 
 pub record Goes (x y : Asked) : Type 0 where

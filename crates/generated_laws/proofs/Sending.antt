@@ -21,7 +21,7 @@ use Rattle.store_model.specs.State.{State}
 use Rattle.store_model.specs.Step as store
 use Rattle.store_model.specs.Step.{exec}
 use Rattle.etcd_types.specs.declared.answer.Body.TheVariants as body
-use Rattle.store_laws.proofs.RequestProofs.{whole-exec}
+use Rattle.store_laws.proofs.Requests.RequestProofs.{whole-exec}
 use Rattle.core_model.specs.declared.out_call.OutJob.{OutJob}
 use Rattle.core_model.specs.declared.out_call.OutJob.TheVariants as out
 use Rattle.core_model.specs.Heard.{is_known, heard}

@@ -25,8 +25,8 @@ use Rattle.generated_laws.specs.OnTime.{is_in_time, IsOnTime}
 use Rattle.generated_laws.proofs.Asking.{Joins, replied, stands, WasAsked, IsNoWatch, ask_joins}
 use Rattle.generated_laws.proofs.Ending.{Lives, Leaves}
 use Rattle.generated_laws.proofs.Requests.{AllGo, all_itself, all_on, all_mapped, released_all, times_go, as_many, in_time_all, all_timed, few_on, no_such_ticket, few_pushed, few_more}
-use Rattle.core_laws.proofs.Lists.{all_pushed}
-use Rattle.core_laws.proofs.Comes.{by_test, passed_goes}
+use Rattle.core_laws.proofs.Steps.Lists.{all_pushed}
+use Rattle.core_laws.proofs.Steps.Comes.{by_test, passed_goes}
 use Rattle.generated_laws.specs.Proxies.{AreFew, IsFresh, Rests, Stands}
 
 -- ---- what is to hold of a proxy

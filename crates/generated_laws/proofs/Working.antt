@@ -41,7 +41,7 @@ use Rattle.core_model.specs.Stepped.{Stepped}
 use Rattle.generated_laws.proofs.Passing.{some_place, write_job_sent, rescind_job_sent, SentGoes, sent_goes}
 use Rattle.generated_laws.proofs.Requests.{Goes, goes_itself, AllGo, all_itself, all_mapped, group_sent_goes}
 use Rattle.generated_laws.proofs.Ending.{Lives}
-use Rattle.core_laws.proofs.Comes.{by_test}
+use Rattle.core_laws.proofs.Steps.Comes.{by_test}
 
 -- ---- the first of all that is due
 

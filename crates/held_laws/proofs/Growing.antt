@@ -9,8 +9,8 @@ use Rattle.store_model.specs.Step.{exec}
 use Rattle.store_model.specs.Leases.{expired}
 use Rattle.store_model.specs.Members.{applied}
 use Rattle.store_model.specs.Watches.{Pushed, watch_of, pushed, progressed}
-use Rattle.store_laws.proofs.RequestProofs.{whole-exec}
-use Rattle.event_laws.proofs.LeavingProofs.{requests_leave_watches, expiries_leave_watches, applies_leave_watches, message_moves, messages_leave_other_watches}
+use Rattle.store_laws.proofs.Requests.RequestProofs.{whole-exec}
+use Rattle.store_laws.proofs.Events.LeavingProofs.{requests_leave_watches, expiries_leave_watches, applies_leave_watches, message_moves, messages_leave_other_watches}
 use Rattle.world_laws.proofs.Watches.{KeepsStore, pushes_keep, progress_keeps, LeavesStore, expiries_leave, applies_leave}
 use Rattle.core_model.specs.declared.event.CoreEvent.{CoreEvent}
 use Rattle.core_model.specs.declared.event.Outcome.{Outcome}

@@ -10,10 +10,10 @@ use Rattle.core_model.specs.declared.event.Outcome.{Outcome}
 use Rattle.core_model.specs.declared.event.StepFault.{StepFault}
 use Rattle.core_model.specs.Heard.{later_header}
 use Rattle.core_model.specs.LeasingStream.{item_header}
-use Rattle.idle_laws.specs.Streams as streams
-use Rattle.idle_laws.specs.Streams.{IsNew, received_by}
-use Rattle.idle_laws.proofs.Holding.{step_both, touch_both}
-use Rattle.idle_laws.proofs.Touches.{Side, with_step, Touch, leaves, hears, ticks, joins, heard_leasing, broke_leasing, cut_leasing, told, cut, took, left_it, opens_leasing, sends}
+use Rattle.core_laws.specs.Watches.Streams as streams
+use Rattle.core_laws.specs.Watches.Streams.{IsNew, received_by}
+use Rattle.core_laws.proofs.Watches.Holding.{step_both, touch_both}
+use Rattle.core_laws.proofs.Watches.Touches.{Side, with_step, Touch, leaves, hears, ticks, joins, heard_leasing, broke_leasing, cut_leasing, told, cut, took, left_it, opens_leasing, sends}
 use Rattle.held_laws.proofs.StreamSteps.{Stays, told_stays, cut_stays, taken_stays, removed_stays, joined_stays, sent_stays, told_grows, cuts_grow, joined_grows, taken_grows, removed_grows, sent_grows}
 
 -- the leasing stream has a number that was given, and to no client stream

@@ -25,7 +25,7 @@ use Rattle.watch_model.specs.Leaving.{removed}
 use Rattle.watch_model.specs.Takes.{is_last, after_take, taken_from}
 use Rattle.watch_model.specs.Due.{begun, sent, next_job}
 use Rattle.watch_laws.proofs.Seating.{EachStream, AllSome, best_is, opening_is}
-use Rattle.idle_laws.proofs.Touches.{told_unwrapped, told_stream}
+use Rattle.core_laws.proofs.Watches.Touches.{told_unwrapped, told_stream}
 
 abbrev pub IsKnown : Stream → Type 0
 IsKnown s = s.stream.created ≡ true → (s.stream.next == 0) ≡ false

@@ -14,7 +14,7 @@ use Rattle.watch_model.specs.Lookups.{stream_at, numbered}
 use Rattle.watch_model.specs.State.{Stream}
 use Rattle.watch_model.proofs.Streams.{none_above}
 use Rattle.watch_laws.proofs.Seating.{each_along}
-use Rattle.event_laws.proofs.LeavingProofs.{openings_leave_watches}
+use Rattle.store_laws.proofs.Events.LeavingProofs.{openings_leave_watches}
 use Rattle.core_model.specs.declared.event.CoreEvent.{CoreEvent}
 use Rattle.core_model.specs.declared.event.CoreEvent.TheVariants as event
 use Rattle.core_model.specs.declared.event.Outcome.{Outcome}
@@ -44,8 +44,8 @@ use Rattle.held_laws.proofs.Seen.{SeenOk}
 use Rattle.world_model.specs.Answers.{seen}
 use Rattle.held_laws.proofs.Stories.{Strips, IsShort}
 use Rattle.held_laws.proofs.StreamSteps.{sent_grows}
-use Rattle.idle_laws.proofs.Touches.{Side, side, with_step, Aged, is_plain, Touch, opens_leasing, sends}
-use Rattle.idle_laws.proofs.Touches as touch
+use Rattle.core_laws.proofs.Watches.Touches.{Side, side, with_step, Aged, is_plain, Touch, opens_leasing, sends}
+use Rattle.core_laws.proofs.Watches.Touches as touch
 use Rattle.held_laws.proofs.Worlds.{StreamKnown, WorldOk, places_after, placed_itself, placed_other, known_after, Turning, behind, place_ok, step_of, gives_none, silent_all, unasking_all, others_quiet, fetched_stream, counted_ok, touched_stream, apart_counted, quiet_world, ask_world, asked_unasking, asked_asks, posted_asks, take_world, nth_changed, deliver_world, cut_world, close_world, equal, not_equal, no_place, set_many}
 
 -- ---- a stream is opened

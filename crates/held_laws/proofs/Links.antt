@@ -23,7 +23,7 @@ use Rattle.watch_model.specs.State.{Stream}
 use Rattle.watch_laws.specs.Calls.{TellsMessage}
 use Rattle.world_model.specs.Places.{kept_at}
 use Rattle.world_model.specs.State.{Numbered, OpenedStream}
-use Rattle.idle_laws.proofs.Touches.{Side}
+use Rattle.core_laws.proofs.Watches.Touches.{Side}
 use Rattle.held_laws.proofs.StreamSteps.{Stays, AfterEvents, AfterMessage}
 use Rattle.held_laws.proofs.Pushes.{Whole, Says, begins, tells, reaches, SaysAll, says-push}
 use Rattle.held_laws.proofs.Stories.{Strips, story_by, PassesAll, IsShort, Unwraps, unwraps, batch_fits, newest_front, next_is_last, message_told}

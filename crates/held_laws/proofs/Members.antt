@@ -33,7 +33,7 @@ use Rattle.held_laws.proofs.StreamSteps.{without_at}
 use Rattle.core_model.specs.declared.event.CoreEvent.{CoreEvent}
 use Rattle.core_model.specs.declared.event.Outcome.{Outcome}
 use Rattle.core_model.specs.declared.event.StepFault.{StepFault}
-use Rattle.idle_laws.proofs.Touches.{Side, told_unwrapped, told_stream, Touch, leaves, hears, ticks, joins, heard_leasing, broke_leasing, cut_leasing, told as told_it, cut, took, left_it, opens_leasing, sends}
+use Rattle.core_laws.proofs.Watches.Touches.{Side, told_unwrapped, told_stream, Touch, leaves, hears, ticks, joins, heard_leasing, broke_leasing, cut_leasing, told as told_it, cut, took, left_it, opens_leasing, sends}
 
 -- A created stream's members were told so: of a watch, where `o` is its stream.
 abbrev pub IsTold : Option Stream → Watch → Type 0

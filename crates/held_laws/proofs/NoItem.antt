@@ -12,7 +12,7 @@ use Rattle.core_model.specs.declared.event.Outcome.TheVariants as outcome
 use Rattle.core_model.specs.declared.event.StepFault.{StepFault}
 use Rattle.core_model.specs.State.{Core}
 use Rattle.core_model.specs.Watching.{stream_job, with_watches}
-use Rattle.idle_laws.proofs.Touches.{Side, is_plain, Touch, leaves, hears, ticks, joins, heard_leasing, broke_leasing, cut_leasing, told, cut, took, left_it, opens_leasing, sends}
+use Rattle.core_laws.proofs.Watches.Touches.{Side, is_plain, Touch, leaves, hears, ticks, joins, heard_leasing, broke_leasing, cut_leasing, told, cut, took, left_it, opens_leasing, sends}
 
 abbrev pub is_take : CoreEvent → Bool
 is_take (event.Take ticket) = true

@@ -17,7 +17,7 @@ use Rattle.world_model.specs.Received.{is_from, history_events, stored_change, T
 use Rattle.world_model.specs.State.{Place, World}
 use Rattle.world_model.specs.Transcript.{transcript, world_behind}
 use Rattle.held_laws.specs.Laws.{is_below, HoldsNothingBack}
-use Rattle.idle_laws.proofs.Holding.{watch_itself}
+use Rattle.core_laws.proofs.Watches.Holding.{watch_itself}
 use Rattle.held_laws.proofs.Places.{got_of, taken_of, Known, PlaceOk}
 use Rattle.held_laws.proofs.Pushes.{Whole}
 use Rattle.script_text.specs.declared.item.Item.{Item}

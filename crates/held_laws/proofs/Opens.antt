@@ -27,7 +27,7 @@ use Rattle.held_laws.proofs.Holding.{IsApart}
 use Rattle.held_laws.proofs.Links.{waits, Linked, StreamOk}
 use Rattle.held_laws.proofs.Stories.{PassesAll}
 use Rattle.held_laws.proofs.Streams.{nothing_there, apart_none, found_is}
-use Rattle.idle_laws.proofs.Touches.{Side, is_plain, Touch, leaves, opens_leasing, sends}
+use Rattle.core_laws.proofs.Watches.Touches.{Side, is_plain, Touch, leaves, opens_leasing, sends}
 use Rattle.watch_model.specs.Lookups.{numbered}
 
 -- ---- the lists grow by one

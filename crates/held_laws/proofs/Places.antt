@@ -24,7 +24,7 @@ use Rattle.core_model.specs.State.{Core}
 use Rattle.core_model.specs.Step.{stepped}
 use Rattle.core_model.specs.Stepped.{Stepped, faults}
 use Rattle.core_model.specs.Takes.{ready}
-use Rattle.core_laws.proofs.Staying.{steps_stay}
+use Rattle.core_laws.proofs.Steps.Staying.{steps_stay}
 use Rattle.script_text.specs.declared.item.Item.{Item}
 use Rattle.world_model.specs.Gains.{Replies, fetched_as, fetched_if, fetched, all_fetched}
 use Rattle.world_model.specs.Lives.{life, asked_as}
@@ -34,14 +34,14 @@ use Rattle.world_model.specs.State.{Place}
 use Rattle.held_laws.proofs.Pushes.{Whole}
 use Rattle.held_laws.proofs.Firm.{Firm, NewHas, touch_firm}
 use Rattle.held_laws.proofs.Holding.{SideOk, stepped_ok, IsTold, touch_ok}
-use Rattle.idle_laws.specs.Streams.{received_by, IsNew}
-use Rattle.idle_laws.proofs.Holding.{watch_itself}
+use Rattle.core_laws.specs.Watches.Streams.{received_by, IsNew}
+use Rattle.core_laws.proofs.Watches.Holding.{watch_itself}
 use Rattle.held_laws.proofs.Items.{IsSilent, IsUnasking, life_still, taken_still, taken-append, queued-append, asked_still, asked_same, asked-append, or_later}
 use Rattle.held_laws.proofs.Kept.{among_new, among_still, not_among}
 use Rattle.held_laws.proofs.Stories.{Strips, story_by, story_by_rises}
 use Rattle.held_laws.proofs.Told.{HasTold, IsBatchTold, IsUntaken, taken_more, taken_by as taken_after, touch_told}
 use Rattle.held_laws.proofs.Writing.{IsSaid, MessagesOk, stepped_messages, touch_messages}
-use Rattle.idle_laws.proofs.Touches.{Side, side, with_step, Aged, aged_itself, aged_on, fetch_ages, step_touches, Touch, leaves, took}
+use Rattle.core_laws.proofs.Watches.Touches.{Side, side, with_step, Aged, aged_itself, aged_on, fetch_ages, step_touches, Touch, leaves, took}
 
 -- what the takers of a proxy have, by what was told of its life
 abbrev pub got_of : ℕ → List Item → Received

@@ -4,8 +4,8 @@ use Rattle.etcd_types.specs.declared.watch.Change.{Change}
 use Rattle.store_model.specs.declared.history.KeyChange.{KeyChange}
 use Rattle.store_model.specs.History.{History, newest, with_revision}
 use Rattle.store_model.specs.State.{State}
-use Rattle.store_laws.specs.Requests.{GainsOneRevision}
-use Rattle.store_laws.proofs.RequestProofs.{whole-exec, expiries_make_one_revision}
+use Rattle.store_laws.specs.Requests.Requests.{GainsOneRevision}
+use Rattle.store_laws.proofs.Requests.RequestProofs.{whole-exec, expiries_make_one_revision}
 use Rattle.store_model.specs.declared.store_fault.StoreFault.{StoreFault}
 use Rattle.store_model.specs.Members.{lacks_member, applied}
 use Rattle.store_model.specs.State.{applied_by as applied_at}

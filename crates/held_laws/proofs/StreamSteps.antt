@@ -27,7 +27,7 @@ use Rattle.watch_model.specs.Due.{begun, sent, next_job}
 use Rattle.watch_laws.proofs.Bounds.{back}
 use Rattle.watch_model.proofs.Numbers.{merged-keeps}
 use Rattle.watch_model.proofs.Streams.{at-map, number_itself, changed-keeps, at-with_stream, others-with_stream, at-without, or_stream, at-push}
-use Rattle.idle_laws.proofs.Touches.{told_unwrapped, told_stream}
+use Rattle.core_laws.proofs.Watches.Touches.{told_unwrapped, told_stream}
 
 -- Of the numbers that were given: a stream that isn't due to be closed was there before as it is, but for the one numbered `m`; and
 -- where there was none there is none.

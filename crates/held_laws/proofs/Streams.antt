@@ -34,14 +34,14 @@ use Rattle.world_model.specs.Received.{WasPushed}
 use Rattle.world_model.specs.State.{Numbered, OpenedStream}
 use Rattle.held_laws.proofs.Pushes.{Whole, Says, ends, tells, reaches}
 use Rattle.held_laws.proofs.Holding.{IsApart, IsTold}
-use Rattle.idle_laws.proofs.Runs.{among}
+use Rattle.core_laws.proofs.Watches.Runs.{among}
 use Rattle.held_laws.proofs.Links.{Stands, waits, goes, never, Linked, StreamOk, moved, reopened, delivered_link, delivered_true}
 use Rattle.held_laws.proofs.Records.{TellsEach, in_span, message_tells}
 use Rattle.held_laws.proofs.Told.{BatchTold, IsBatchTold}
 use Rattle.held_laws.proofs.Stories.{Strips, story_by, IsShort, newest_front}
 use Rattle.held_laws.proofs.Writing.{Fits, SaidOk, IsSaid}
 use Rattle.held_laws.proofs.StreamSteps.{Stays, stays_same, told_stays, told_at, told_grows, cut_stays, cut_gone, cuts_grow, taken_stays, taken_grows, removed_stays, removed_grows, joined_stays, joined_grows, sent_stays, sent_grows, AfterMessage}
-use Rattle.idle_laws.proofs.Touches.{Side, with_step, is_other, is_plain, told_unwrapped, told_stream, Touch, leaves, hears, ticks, joins, heard_leasing, broke_leasing, cut_leasing, told, cut, took, left_it, opens_leasing, sends, IsAmong}
+use Rattle.core_laws.proofs.Watches.Touches.{Side, with_step, is_other, is_plain, told_unwrapped, told_stream, Touch, leaves, hears, ticks, joins, heard_leasing, broke_leasing, cut_leasing, told, cut, took, left_it, opens_leasing, sends, IsAmong}
 
 fresh_number : (n g : ℕ) → n ≤ g → (n == g + 1) ≡ false
 fresh_number n g l = grind (arith, nat_tests)

@@ -38,11 +38,11 @@ use Rattle.core_model.specs.Watching.{stream_job, with_watches}
 use Rattle.watch_model.specs.declared.stream.StreamJob.{StreamJob}
 use Rattle.watch_model.specs.declared.stream.StreamJob.TheVariants as stream
 use Rattle.held_laws.proofs.Firm.{sent_firm}
-use Rattle.idle_laws.specs.Streams.{ticket_of}
-use Rattle.idle_laws.proofs.Holding.{watch_itself}
+use Rattle.core_laws.specs.Watches.Streams.{ticket_of}
+use Rattle.core_laws.proofs.Watches.Holding.{watch_itself}
 use Rattle.held_laws.proofs.Pushes.{Whole}
 use Rattle.held_laws.proofs.Records.{TellsEach, in_span, given_tells, chosen_span}
-use Rattle.idle_laws.proofs.Touches.{Side, is_plain, told_unwrapped, told_stream, Touch, leaves, hears, ticks, joins, heard_leasing, broke_leasing, cut_leasing, told, cut, took, left_it, opens_leasing, sends}
+use Rattle.core_laws.proofs.Watches.Touches.{Side, is_plain, told_unwrapped, told_stream, Touch, leaves, hears, ticks, joins, heard_leasing, broke_leasing, cut_leasing, told, cut, took, left_it, opens_leasing, sends}
 
 -- what an item tells a watch that was asked for so
 abbrev pub EventsTold : Whole → List ℕ → WatchAsk → List Event → Type 0

@@ -34,7 +34,7 @@ use Rattle.held_laws.proofs.Links.{StreamOk, restored}
 use Rattle.held_laws.proofs.Places.{Truth, PlaceOk, later_ok, counted_side, Stepping, stepping, IsFetched, all_so, Turned, is_ask, NoItem, quiet_turn, Asking, asked_turn, taken_turn, taken_among}
 use Rattle.held_laws.proofs.Stories.{Strips, IsShort}
 use Rattle.held_laws.proofs.Streams.{aged_ok, touch_streams, delivered_itself, delivered_others, delivered_tells, delivered_batch, delivered_said, cut_itself, cut_others}
-use Rattle.idle_laws.proofs.Touches.{Side, side, with_step, Aged, is_other}
+use Rattle.core_laws.proofs.Watches.Touches.{Side, side, with_step, Aged, is_other}
 use Rattle.held_laws.proofs.NoItem.{is_take, no_item}
 
 -- of a stream: its proxy stands, and where it wasn't started since, they fit

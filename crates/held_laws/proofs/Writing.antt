@@ -39,7 +39,7 @@ use Rattle.core_model.specs.declared.event.StepFault.{StepFault}
 use Rattle.core_model.specs.Watching.{with_watches}
 use Rattle.held_laws.proofs.Firm.{sent_firm}
 use Rattle.held_laws.proofs.Holding.{IsTold as IsStoryTold}
-use Rattle.idle_laws.proofs.Holding.{watch_itself}
+use Rattle.core_laws.proofs.Watches.Holding.{watch_itself}
 use Rattle.held_laws.proofs.Items.{queued-append}
 use Rattle.held_laws.proofs.Knowing.{AreKnown, IsKnown, known_without, created_next, join_known, left_known, joined_known, cut_known, told_known, taken_known, removed_known, sent_known}
 use Rattle.held_laws.proofs.Messages.{AreMessages, is_over}
@@ -47,7 +47,7 @@ use Rattle.held_laws.proofs.Members.{AreTold, touch_members}
 use Rattle.held_laws.proofs.Pushes.{Whole}
 use Rattle.held_laws.proofs.Told.{both, taken_more, taken_by, IsUntaken, plain_taken, job_taken}
 use Rattle.held_laws.proofs.Written.{is_ended, HasMessages, placed_has, new_has, decided_has, decided_known, decided_place, told_if_has, created_has, given_has, progressed_has, leaving_has, ended_has}
-use Rattle.idle_laws.proofs.Touches.{Side, told_unwrapped, told_stream, Touch, leaves, hears, ticks, joins, heard_leasing, broke_leasing, cut_leasing, told, cut, took, left_it, opens_leasing, sends}
+use Rattle.core_laws.proofs.Watches.Touches.{Side, told_unwrapped, told_stream, Touch, leaves, hears, ticks, joins, heard_leasing, broke_leasing, cut_leasing, told, cut, took, left_it, opens_leasing, sends}
 
 pub record MessagesOk (story : Story) (whole : Whole) (got : ℕ → List WatchItem) (b : Broadcasts) : Type 0 where
   pub members : AreTold b.streams b.watches

@@ -84,7 +84,7 @@ item_parts ms h created canceled compact events known e f g = rw (known, e, f, g
 no_events : (fs : List Field) → distinct fs ≡ true → Found names.events fs None → events_in (members_of fs) ≡ Ok []
 no_events fs e is = list_back names.events fs event_of no_items [] e is refl
 
-message_back : (i : WatchItem) → ItemFits i → item_in (members_of (field names.result (Some (object (members_of (item_written i)))) ∷ [])) ≡ Ok i
+pub message_back : (i : WatchItem) → ItemFits i → item_in (members_of (field names.result (Some (object (members_of (item_written i)))) ∷ [])) ≡ Ok i
 unfolding created_written events_written canceled_written message_fields marks_in
 message_back (Created h) f =
     let fs = created_written h in

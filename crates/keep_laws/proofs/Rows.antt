@@ -20,8 +20,8 @@ use Rattle.core_model.specs.ClockWork.{times_out, timed_out_ask}
 use Rattle.core_model.specs.Fits.{has_number, once, ask_tickets, writing_tickets}
 use Rattle.core_model.specs.Groups.{keeps, is_out_stage, waits_next, group_ended}
 use Rattle.core_model.specs.Lookups.{stage_calls, calls_as}
-use Rattle.core_laws.proofs.Comes.{by_test}
-use Rattle.core_laws.proofs.Lists.{same_number}
+use Rattle.core_laws.proofs.Steps.Comes.{by_test}
+use Rattle.core_laws.proofs.Steps.Lists.{same_number}
 
 -- all of them
 abbrev pub All : (Asked → Type 0) → List Asked → Type 0

@@ -29,12 +29,12 @@ use Rattle.core_model.specs.Sending.{on_work}
 use Rattle.core_model.specs.State.{Core, first_core}
 use Rattle.core_model.specs.Step.{is_worn, stepped}
 use Rattle.core_model.specs.Stepped.{Stepped, faults, counted, counted_by}
-use Rattle.core_laws.specs.Kept.{Timed, after, ran, AllHeard}
-use Rattle.core_laws.proofs.Comes.{by_test}
-use Rattle.core_laws.proofs.Lists.{same_number, nothing_more}
-use Rattle.core_laws.proofs.Start.{start_fits}
-use Rattle.core_laws.proofs.Stepping.{steps_keep}
-use Rattle.core_laws.proofs.Staying.{steps_stay}
+use Rattle.core_laws.specs.Steps.Kept.{Timed, after, ran, AllHeard}
+use Rattle.core_laws.proofs.Steps.Comes.{by_test}
+use Rattle.core_laws.proofs.Steps.Lists.{same_number, nothing_more}
+use Rattle.core_laws.proofs.Steps.Start.{start_fits}
+use Rattle.core_laws.proofs.Steps.Stepping.{steps_keep}
+use Rattle.core_laws.proofs.Steps.Staying.{steps_stay}
 use Rattle.keep_laws.specs.Laws.{IsAsked, SentLater, Renews, RunsRenew}
 use Rattle.keep_laws.proofs.Rows.{All, is_grouped, is_silent, silent_grouped, stays, hushes, Lasts}
 use Rattle.keep_laws.proofs.Steps.{Turns, IsFresh, Tells, Sends, Brings, stepped_all}

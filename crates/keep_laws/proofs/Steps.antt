@@ -75,12 +75,12 @@ use Rattle.watch_model.specs.Due.{next_job}
 use Rattle.watch_model.specs.Lookups.{stream_at, watch_at, is_begun}
 use Rattle.watch_model.specs.State.{Stream, Watch, Broadcasts}
 use Rattle.watch_model.specs.Takes as watches
-use Rattle.core_laws.proofs.Comes.{by_test}
-use Rattle.core_laws.proofs.Due.{is_called_due, DueIf, first_due}
-use Rattle.core_laws.proofs.Lists.{same_number}
-use Rattle.core_laws.proofs.Middle.{clock_whole}
-use Rattle.core_laws.proofs.Whole.{of_ok}
-use Rattle.core_laws.proofs.WaitEnds.{IsRemoved, EndsAs, Ended, EndedIf, answered_ends, lost_ends, found_ticket}
+use Rattle.core_laws.proofs.Steps.Comes.{by_test}
+use Rattle.core_laws.proofs.Steps.Due.{is_called_due, DueIf, first_due}
+use Rattle.core_laws.proofs.Steps.Lists.{same_number}
+use Rattle.core_laws.proofs.Steps.Middle.{clock_whole}
+use Rattle.core_laws.proofs.Steps.Whole.{of_ok}
+use Rattle.core_laws.proofs.Steps.WaitEnds.{IsRemoved, EndsAs, Ended, EndedIf, answered_ends, lost_ends, found_ticket}
 use Rattle.keep_laws.proofs.Rows.{All, all_mapped, all_kept, all_filtered, all_pushed, is_grouped, is_silent, hushes, Lasts, all_go, Settles, all_settled, all_write, released_all, told_goes, told_lost_goes, times_go, Keeps, caller_goes, lost_group_goes}
 
 -- ---- the clock's work

@@ -16,7 +16,7 @@ use Rattle.core_model.specs.Heard.{heard}
 use Rattle.core_model.specs.Lookups.{ask_at}
 use Rattle.core_model.specs.State.{Core, first_core}
 use Rattle.core_model.specs.Step.{stepped}
-use Rattle.core_laws.specs.Kept.{Timed, ran, AllHeard}
+use Rattle.core_laws.specs.Steps.Kept.{Timed, ran, AllHeard}
 
 -- a client asks for a keepalive of the lease
 pub record IsAsked (x : Timed) (ticket lease : ℕ) : Type 0 where

@@ -9,9 +9,9 @@ use Rattle.core_model.specs.Fits.{is_standing}
 use Rattle.core_model.specs.Lookups.{live_number}
 use Rattle.core_model.specs.State.{Core}
 use Rattle.core_fits.proofs.Prefix.{clock_prefix}
-use Rattle.lease_moves.specs.View.{View, live}
+use Rattle.cache_laws.specs.Moves.View.{View, live}
 use Rattle.row_laws.specs.Laws.{IsLive}
-use Rattle.store_moves.specs.StoreView.{is_client}
+use Rattle.cache_laws.specs.Store.StoreView.{is_client}
 use Rattle.core_moves.specs.Sees.{ground_in, Moves}
 use Rattle.core_moves.proofs.Clocks.{clocks_move}
 use Rattle.core_moves.proofs.Terms.{seat_is_live}

@@ -21,7 +21,7 @@ use Rattle.read_model.specs.declared.acquire.Acquire.{Acquire}
 use Rattle.read_model.specs.Acquires.{won, acquire_gone, with_entry}
 use Rattle.read_model.specs.Fits.{is_owned}
 use Rattle.read_model.specs.State.{Ground}
-use Rattle.read_laws.proofs.Owned.{CalmIf, answered_calm}
+use Rattle.core_laws.proofs.PlainReads.Owned.{CalmIf, answered_calm}
 use Rattle.core_model.specs.declared.event.CoreEvent.{CoreEvent}
 use Rattle.core_model.specs.declared.event.CoreEvent.TheVariants as event
 use Rattle.core_model.specs.declared.out_call.OutCall.{OutCall}
@@ -32,17 +32,17 @@ use Rattle.core_model.specs.ClockWork.{clock_work}
 use Rattle.core_model.specs.Heard.{heard}
 use Rattle.core_model.specs.Lookups.{live_number, out_at}
 use Rattle.core_model.specs.State.{Core}
-use Rattle.core_laws.specs.Kept.{HeardBytes, IsHeard}
-use Rattle.core_laws.proofs.Agreeing.{to_written}
-use Rattle.core_laws.proofs.Calls.{found_is}
+use Rattle.core_laws.specs.Steps.Kept.{HeardBytes, IsHeard}
+use Rattle.core_laws.proofs.Steps.Agreeing.{to_written}
+use Rattle.core_laws.proofs.Steps.Calls.{found_is}
 use Rattle.core_fits.proofs.Prefix.{clock_prefix}
-use Rattle.wait_laws.specs.Written.{ShowsBytes}
+use Rattle.core_laws.specs.Writes.Written.{ShowsBytes}
 use Rattle.owner_fits.proofs.Hearing.{still_heard}
-use Rattle.lease_moves.specs.View.{View, live}
+use Rattle.cache_laws.specs.Moves.View.{View, live}
 use Rattle.row_laws.specs.Laws.{Rows, Won, is_held_then, with_own}
 use Rattle.row_laws.proofs.Wins.{wins_turn}
-use Rattle.store_moves.specs.StoreView.{is_client}
-use Rattle.store_moves.specs.ToldAnswers.{TellsClaim}
+use Rattle.cache_laws.specs.Store.StoreView.{is_client}
+use Rattle.cache_laws.specs.Store.ToldAnswers.{TellsClaim}
 use Rattle.call_laws.specs.Forms.{Form, Acquires, IsFormed, Tells}
 use Rattle.core_moves.specs.Answers.{form_of_job}
 use Rattle.core_moves.specs.Losses.{AwaitsIt}

@@ -17,15 +17,15 @@ use Rattle.core_model.specs.Fits.{has_standing, is_standing}
 use Rattle.core_model.specs.Lookups.{number_if, live_number}
 use Rattle.core_model.specs.Sessions.{is_over, seat_is_over}
 use Rattle.core_model.specs.State.{Seat}
-use Rattle.lease_moves.specs.View as view
-use Rattle.lease_moves.specs.View.{Slot, View, live}
-use Rattle.lease_moves.specs.Answers.{Reaches, turned}
-use Rattle.lease_moves.specs.Invariant.{Inv}
-use Rattle.lease_moves.proofs.AnswerProofs.{reaches_keep}
-use Rattle.lease_moves.proofs.TruthProofs.{held_is_true}
+use Rattle.cache_laws.specs.Moves.View as view
+use Rattle.cache_laws.specs.Moves.View.{Slot, View, live}
+use Rattle.cache_laws.specs.Moves.Answers.{Reaches, turned}
+use Rattle.cache_laws.specs.Moves.Invariant.{Inv}
+use Rattle.cache_laws.proofs.Moves.AnswerProofs.{reaches_keep}
+use Rattle.cache_laws.proofs.Moves.TruthProofs.{held_is_true}
 use Rattle.row_laws.specs.Laws.{Rows, IsLive}
 use Rattle.row_laws.specs.Rows.{phase_in, phase_of, record_of, row_of}
-use Rattle.store_moves.specs.StoreView.{is_client}
+use Rattle.cache_laws.specs.Store.StoreView.{is_client}
 use Rattle.core_moves.proofs.Clocks.{put_here}
 
 -- the view's rows of this proxy are of this ground

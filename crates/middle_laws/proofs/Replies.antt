@@ -31,8 +31,8 @@ use Rattle.core_model.specs.State.{Core}
 use Rattle.core_fits.specs.Fits.{is_reading}
 use Rattle.core_fits.proofs.Found.{each_ask}
 use Rattle.core_fits.proofs.Prefix.{clock_prefix}
-use Rattle.lease_moves.specs.View.{View}
-use Rattle.store_moves.specs.StoreView.{is_client}
+use Rattle.cache_laws.specs.Moves.View.{View}
+use Rattle.cache_laws.specs.Store.StoreView.{is_client}
 use Rattle.reply_laws.specs.Sources.{shows, IsHeld, stood, called, acquired, wrote, shared, cached, taken, held}
 use Rattle.reply_laws.specs.Sources as sources
 use Rattle.middle_laws.specs.Seen.{HoldsTrue}

@@ -7,18 +7,18 @@ use Rattle.store_model.specs.Records.{record_now}
 use Rattle.store_model.specs.State.{State}
 use Rattle.store_model.specs.Step.{Step}
 use Rattle.store_model.proofs.RefusalLemmas.{lacks_key_is_txn}
-use Rattle.store_laws.proofs.RangeProofs.{keyed-now}
+use Rattle.store_laws.proofs.Requests.RangeProofs.{keyed-now}
 use Rattle.proxy_laws.specs.Answers.{AreRecordsOf}
 use Rattle.proxy_laws.proofs.SnapshotProofs.{snapshots_are_true}
-use Rattle.guard_laws.proofs.AnsweredProofs.{snapshots_are_answered}
-use Rattle.space_laws.specs.Laws.{request_lacks}
-use Rattle.space_laws.specs.Stored.{stored_prev, stored_reply, stored_answer, stored}
-use Rattle.space_laws.proofs.Back.{replies_unwrap}
-use Rattle.space_laws.proofs.Records.{records_are_stored}
-use Rattle.space_laws.proofs.Steps.{stored_stores_answer}
-use Rattle.lease_moves.specs.View.{View}
-use Rattle.store_moves.specs.StoreView.{is_client, Shows}
-use Rattle.store_moves.proofs.Showing.{at_true}
+use Rattle.cache_laws.proofs.Guards.AnsweredProofs.{snapshots_are_answered}
+use Rattle.namespace_laws.specs.Stored.Laws.{request_lacks}
+use Rattle.namespace_laws.specs.Stored.Stored.{stored_prev, stored_reply, stored_answer, stored}
+use Rattle.namespace_laws.proofs.Stored.Back.{replies_unwrap}
+use Rattle.namespace_laws.proofs.Stored.Records.{records_are_stored}
+use Rattle.namespace_laws.proofs.Stored.Steps.{stored_stores_answer}
+use Rattle.cache_laws.specs.Moves.View.{View}
+use Rattle.cache_laws.specs.Store.StoreView.{is_client, Shows}
+use Rattle.cache_laws.proofs.Store.Showing.{at_true}
 use Rattle.reply_laws.specs.Sources.{shows}
 use Rattle.middle_laws.specs.Cached.{records_in}
 use Rattle.middle_laws.specs.Laws.{CachedReadsShowTheStore, CachedSnapshotsShowTheStore, with_key, CachedReadsUnwrap, CachedSnapshotsUnwrap}

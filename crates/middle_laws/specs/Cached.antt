@@ -14,8 +14,8 @@ use Rattle.core_model.specs.declared.event.CoreEvent.{CoreEvent}
 use Rattle.core_model.specs.Kinds.{writes_keys}
 use Rattle.core_model.specs.State.{Core}
 use Rattle.core_model.specs.Step.{stepped}
-use Rattle.lease_moves.specs.View.{View}
-use Rattle.store_moves.specs.StoreView.{is_client}
+use Rattle.cache_laws.specs.Moves.View.{View}
+use Rattle.cache_laws.specs.Store.StoreView.{is_client}
 use Rattle.reply_laws.specs.Sources.{shows, Source, stood, called, acquired, wrote, shared, cached, Given, taken, held}
 use Rattle.reply_laws.specs.Sources as sources
 

@@ -12,8 +12,8 @@ use Rattle.etcd_types.specs.declared.request.Request.TheVariants as request
 use Rattle.store_model.specs.Records.{record_now}
 use Rattle.store_model.specs.State.{State}
 use Rattle.store_model.specs.Step.{exec}
-use Rattle.store_laws.specs.Branches.{Answers}
-use Rattle.store_sound.specs.TestedKeys.{have_keys}
+use Rattle.store_laws.specs.Requests.Branches.{Answers}
+use Rattle.store_laws.specs.Lives.TestedKeys.{have_keys}
 use Rattle.proxy_model.specs.Unwrapped.{reply_without}
 use Rattle.proxy_model.specs.Wrapped.{request_under}
 use Rattle.read_model.specs.declared.asked.Asked.{Asked}
@@ -22,9 +22,9 @@ use Rattle.core_model.specs.declared.event.CoreEvent.{CoreEvent}
 use Rattle.core_model.specs.ClockWork.{clock_work}
 use Rattle.core_model.specs.Lookups.{reads_of}
 use Rattle.core_model.specs.State.{Core}
-use Rattle.lease_moves.specs.View.{View}
-use Rattle.store_moves.specs.StoreView.{Shows}
-use Rattle.space_laws.specs.Stored.{stored}
+use Rattle.cache_laws.specs.Moves.View.{View}
+use Rattle.cache_laws.specs.Store.StoreView.{Shows}
+use Rattle.namespace_laws.specs.Stored.Stored.{stored}
 use Rattle.reply_laws.specs.Sources.{shows, Decides, Source, Given}
 use Rattle.middle_laws.specs.Seen.{IsSeen, HoldsTrue}
 use Rattle.middle_laws.specs.Cached.{IsCachedRead, IsCachedSnapshot, TrueSource, TrueGiven}

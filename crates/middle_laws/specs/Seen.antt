@@ -8,12 +8,12 @@ use Rattle.core_model.specs.declared.event.CoreEvent.{CoreEvent}
 use Rattle.core_model.specs.ClockWork.{clock_work}
 use Rattle.core_model.specs.Fits.{CoreOk}
 use Rattle.core_model.specs.State.{Core}
-use Rattle.core_laws.specs.Kept.{IsHeard}
+use Rattle.core_laws.specs.Steps.Kept.{IsHeard}
 use Rattle.core_fits.specs.Fits.{CoreFits}
 use Rattle.owner_fits.specs.Laws.{OwnersFit}
-use Rattle.lease_moves.specs.Invariant.{Inv}
-use Rattle.lease_moves.specs.View.{View}
-use Rattle.store_moves.specs.StoreView.{is_client}
+use Rattle.cache_laws.specs.Moves.Invariant.{Inv}
+use Rattle.cache_laws.specs.Moves.View.{View}
+use Rattle.cache_laws.specs.Store.StoreView.{is_client}
 use Rattle.core_moves.specs.Sees.{Sees}
 use Rattle.event_moves.specs.Events.{HasEvent}
 

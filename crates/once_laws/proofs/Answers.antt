@@ -29,7 +29,7 @@ use Rattle.core_model.specs.Takes.{item_taken, taken, on_take}
 use Rattle.core_model.specs.Takes as takes
 use Rattle.core_model.specs.Verdicts.{reply_of}
 use Rattle.core_model.specs.Watching.{taken_item}
-use Rattle.core_laws.proofs.Lists.{same_number}
+use Rattle.core_laws.proofs.Steps.Lists.{same_number}
 use Rattle.keep_laws.proofs.Rows.{All}
 use Rattle.keep_laws.proofs.Runs.{found}
 use Rattle.script_text.specs.declared.item.Item.{Item}

@@ -59,7 +59,7 @@ use Rattle.core_model.specs.Takes.{has_left, item_taken, taken, on_take, watcher
 use Rattle.core_model.specs.Takes as takes
 use Rattle.core_model.specs.Watching.{stream_message, stream_item, taken_item}
 use Rattle.core_model.specs.Watching as watching
-use Rattle.core_laws.proofs.Comes.{by_test}
+use Rattle.core_laws.proofs.Steps.Comes.{by_test}
 use Rattle.core_fits.proofs.Eachs.{each_pushed}
 use Rattle.core_fits.proofs.ReadRows.{decided_writes}
 use Rattle.std.specs.Prelude.{is_some, nat_le}
@@ -89,7 +89,7 @@ use Rattle.core_model.specs.Ends.{stales_limit, lost_ask}
 use Rattle.core_model.specs.Groups.{keeps, is_out_stage, waits_next, group_ended}
 use Rattle.core_model.specs.Kinds.{kind_of, is_read, is_ordered, is_body_of, writes_keys}
 use Rattle.core_model.specs.Lookups.{stage_calls, calls_as}
-use Rattle.core_laws.proofs.Lists.{same_number}
+use Rattle.core_laws.proofs.Steps.Lists.{same_number}
 use Rattle.core_fits.specs.Fits.{EachOf, is_reading}
 use Rattle.keep_laws.proofs.Rows.{All, all_mapped, all_kept, all_filtered, all_pushed}
 use Rattle.once_laws.proofs.FreeWrites.{AreFree, OwnFree, SettledFree, EndFree, Settles, passed_free, answered_free, lost_free, forgotten_free, ended_free, gone_free, message_free}

@@ -23,8 +23,8 @@ use Rattle.wait_model.specs.Stages.{staged, is_due}
 use Rattle.wait_model.specs.State.{Ownership}
 use Rattle.wait_model.specs.Writes as writes
 use Rattle.wait_model.specs.Writes.{first_by, with_first}
-use Rattle.wait_laws.proofs.FoundWrite.{head_found, rest_found}
-use Rattle.wait_laws.proofs.Kept.{first_passes}
+use Rattle.core_laws.proofs.Writes.FoundWrite.{head_found, rest_found}
+use Rattle.core_laws.proofs.Writes.Kept.{first_passes}
 use Rattle.read_model.specs.declared.acquire.Acquire.{Acquire}
 use Rattle.read_model.specs.declared.asked.Asked.{Asked}
 use Rattle.read_model.specs.declared.asked.Stage.{Stage}
@@ -48,11 +48,11 @@ use Rattle.core_model.specs.Lookups.{has_ticket, ask_at}
 use Rattle.core_model.specs.Sending.{next_call, called_as, writes_sent, sent_by, on_work}
 use Rattle.core_model.specs.State.{Core}
 use Rattle.core_model.specs.Watching.{with_watches, stream_job}
-use Rattle.core_laws.proofs.Comes.{by_test}
-use Rattle.core_laws.proofs.Due.{is_called_due, DueIf, first_due}
-use Rattle.core_laws.proofs.Lists.{same_number, number_itself, number_turned}
-use Rattle.core_laws.proofs.Requests.{once_writing}
-use Rattle.core_laws.proofs.WaitEnds.{found_ticket}
+use Rattle.core_laws.proofs.Steps.Comes.{by_test}
+use Rattle.core_laws.proofs.Steps.Due.{is_called_due, DueIf, first_due}
+use Rattle.core_laws.proofs.Steps.Lists.{same_number, number_itself, number_turned}
+use Rattle.core_laws.proofs.Steps.Requests.{once_writing}
+use Rattle.core_laws.proofs.Steps.WaitEnds.{found_ticket}
 use Rattle.core_fits.specs.Fits.{EachOf}
 use Rattle.core_fits.proofs.Found.{each_write}
 use Rattle.keep_laws.proofs.Rows.{All, all_mapped, all_kept, Writes, all_write}

@@ -19,9 +19,9 @@ use Rattle.core_model.specs.Sending.{on_work}
 use Rattle.core_model.specs.State.{Core}
 use Rattle.core_model.specs.Step.{is_worn, happened, stepped}
 use Rattle.core_model.specs.Stepped.{Stepped, faults, counted, counted_by}
-use Rattle.core_laws.proofs.Comes.{by_test}
-use Rattle.core_laws.proofs.Middle.{clock_whole}
-use Rattle.core_laws.proofs.Whole.{Whole, of_ok}
+use Rattle.core_laws.proofs.Steps.Comes.{by_test}
+use Rattle.core_laws.proofs.Steps.Middle.{clock_whole}
+use Rattle.core_laws.proofs.Steps.Whole.{Whole, of_ok}
 use Rattle.once_laws.proofs.FreeCore as free
 use Rattle.once_laws.proofs.FreeCore.{CoreFree, Begins, EndsIf, KindsAt, clock_free}
 use Rattle.once_laws.proofs.FreeSends.{SendsFree, work_free}

@@ -47,10 +47,10 @@ use Rattle.wait_model.specs.Phases.{is_leaving}
 use Rattle.wait_model.specs.Stages.{staged, gone_on, is_owner, is_waiting, is_found_over, stage_on}
 use Rattle.wait_model.specs.State.{Ownership}
 use Rattle.wait_model.specs.Writes.{first_by, without_first, with_first, stage_sends, sends, stage_asks, asks, has_ticket, job_of}
-use Rattle.wait_laws.proofs.FoundWrite.{head_found, rest_found}
-use Rattle.wait_laws.proofs.Kept.{first_passes}
-use Rattle.core_laws.proofs.Comes.{by_test}
-use Rattle.core_laws.proofs.Lists.{same_number}
+use Rattle.core_laws.proofs.Writes.FoundWrite.{head_found, rest_found}
+use Rattle.core_laws.proofs.Writes.Kept.{first_passes}
+use Rattle.core_laws.proofs.Steps.Comes.{by_test}
+use Rattle.core_laws.proofs.Steps.Lists.{same_number}
 use Rattle.core_fits.specs.Fits.{EachOf}
 use Rattle.core_fits.proofs.Found.{each_write}
 

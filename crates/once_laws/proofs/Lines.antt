@@ -16,7 +16,7 @@ use Rattle.core_model.specs.declared.event.Outcome.TheVariants as outcome
 use Rattle.core_model.specs.Fits.{CoreOk}
 use Rattle.core_model.specs.State.{Core}
 use Rattle.core_model.specs.Step.{is_worn, stepped}
-use Rattle.core_laws.proofs.Stepping.{steps_keep}
+use Rattle.core_laws.proofs.Steps.Stepping.{steps_keep}
 use Rattle.owner_fits.specs.Laws.{OwnersFit}
 use Rattle.owner_fits.proofs.Runs.{steps_fit}
 use Rattle.read_model.specs.declared.asked.Asked.{Asked}

@@ -3,7 +3,7 @@ use Rattle.std.proofs.Common.{◌≡◌, ℕ, ◌==◌, ◌&&◌, ◌||◌, Bool
 use Rattle.etcd_types.proofs.Bools.{and_both, or_first, or_second}
 use Rattle.etcd_types.specs.declared.request.Request.{Request}
 use Rattle.etcd_types.specs.declared.request.Request.TheVariants as request
-use Rattle.core_laws.proofs.Lists.{number_itself}
+use Rattle.core_laws.proofs.Steps.Lists.{number_itself}
 use Rattle.script_text.specs.declared.item.Item.{Item}
 use Rattle.script_text.specs.declared.item.Item.TheVariants as item
 use Rattle.world_model.specs.Lives.{names, is_named}

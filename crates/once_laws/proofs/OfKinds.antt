@@ -33,13 +33,13 @@ use Rattle.core_model.specs.State.{Core}
 use Rattle.core_model.specs.Step.{is_worn, happened, stepped}
 use Rattle.core_model.specs.Stepped.{Stepped, faults, counted, counted_by}
 use Rattle.core_model.specs.Watching.{with_watches, stream_job}
-use Rattle.core_laws.specs.Kept.{IsHeard}
-use Rattle.core_laws.proofs.Calls.{job_last, found_is, is_new}
-use Rattle.core_laws.proofs.Comes.{by_test}
-use Rattle.core_laws.proofs.Lists.{same_number}
-use Rattle.core_laws.proofs.Middle.{clock_whole}
-use Rattle.core_laws.proofs.Stepping.{steps_keep}
-use Rattle.core_laws.proofs.Whole.{Whole, of_ok}
+use Rattle.core_laws.specs.Steps.Kept.{IsHeard}
+use Rattle.core_laws.proofs.Steps.Calls.{job_last, found_is, is_new}
+use Rattle.core_laws.proofs.Steps.Comes.{by_test}
+use Rattle.core_laws.proofs.Steps.Lists.{same_number}
+use Rattle.core_laws.proofs.Steps.Middle.{clock_whole}
+use Rattle.core_laws.proofs.Steps.Stepping.{steps_keep}
+use Rattle.core_laws.proofs.Steps.Whole.{Whole, of_ok}
 use Rattle.core_fits.specs.Fits.{EachOf}
 use Rattle.keep_laws.proofs.Rows.{All, all_mapped, all_kept}
 use Rattle.keep_laws.proofs.Runs.{found}

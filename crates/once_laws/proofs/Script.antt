@@ -18,8 +18,8 @@ use Rattle.core_model.specs.declared.event.StepFault.TheVariants as fault
 use Rattle.core_model.specs.State.{Core}
 use Rattle.core_model.specs.Step.{is_worn, stepped}
 use Rattle.core_model.specs.Stepped.{Stepped}
-use Rattle.core_laws.proofs.Lists.{number_turned}
-use Rattle.core_laws.proofs.Outcomes.{worn_does_nothing}
+use Rattle.core_laws.proofs.Steps.Lists.{number_turned}
+use Rattle.core_laws.proofs.Steps.Outcomes.{worn_does_nothing}
 use Rattle.store_model.specs.Step.{exec}
 use Rattle.script_text.specs.declared.item.Item.{Item}
 use Rattle.script_text.specs.declared.item.Item.TheVariants as item

@@ -36,10 +36,10 @@ use Rattle.core_model.specs.Lookups.{ask_at, has_ticket}
 use Rattle.core_model.specs.Sending.{next_call}
 use Rattle.core_model.specs.State.{Core}
 use Rattle.core_model.specs.Step.{is_worn, stepped}
-use Rattle.core_laws.proofs.Lists.{same_number, number_itself, number_turned}
-use Rattle.core_laws.proofs.Middle.{clock_whole}
-use Rattle.core_laws.proofs.WaitEnds.{found_ticket}
-use Rattle.core_laws.proofs.Whole.{Whole, of_ok}
+use Rattle.core_laws.proofs.Steps.Lists.{same_number, number_itself, number_turned}
+use Rattle.core_laws.proofs.Steps.Middle.{clock_whole}
+use Rattle.core_laws.proofs.Steps.WaitEnds.{found_ticket}
+use Rattle.core_laws.proofs.Steps.Whole.{Whole, of_ok}
 use Rattle.core_fits.specs.Fits.{WritesAreAsked}
 use Rattle.core_fits.proofs.Prefix.{clock_prefix}
 use Rattle.script_text.specs.declared.item.Item.{Item}

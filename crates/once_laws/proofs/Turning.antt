@@ -26,8 +26,8 @@ use Rattle.core_model.specs.Sending.{next_call}
 use Rattle.core_model.specs.State.{Core}
 use Rattle.core_model.specs.Step.{is_worn, stepped}
 use Rattle.core_model.specs.Takes.{ready}
-use Rattle.core_laws.proofs.Lists.{number_turned}
-use Rattle.core_laws.proofs.Stepping.{steps_keep}
+use Rattle.core_laws.proofs.Steps.Lists.{number_turned}
+use Rattle.core_laws.proofs.Steps.Stepping.{steps_keep}
 use Rattle.core_fits.specs.Fits.{CoreFits}
 use Rattle.core_fits.proofs.Prefix.{clock_prefix}
 use Rattle.owner_fits.specs.Laws.{OwnersFit}

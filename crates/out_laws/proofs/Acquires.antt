@@ -26,7 +26,7 @@ use Rattle.core_model.specs.State.{Core}
 use Rattle.core_model.specs.Step.{is_worn, happened, stepped}
 use Rattle.core_model.specs.Stepped.{Stepped, faults, counted, counted_by}
 use Rattle.core_model.specs.Watching.{with_watches, stream_job}
-use Rattle.core_laws.proofs.Comes.{by_test}
+use Rattle.core_laws.proofs.Steps.Comes.{by_test}
 use Rattle.keep_laws.proofs.Rows.{All}
 use Rattle.reply_laws.proofs.Lasting.{Lasts, clock_so, answered_so, lost_so, asked_so, take_so, leave_so, tick_so, item_so, cut_so}
 use Rattle.out_laws.proofs.Steps.{same_calls}

@@ -5,10 +5,10 @@ use Rattle.std.proofs.lemmas.List.Elements.{Contains-append_left, Contains-appen
 use Rattle.etcd_types.proofs.Bools.{and_first, and_second, or_first, or_second, not_true}
 use Rattle.wait_model.specs.declared.write.Write.{Write}
 use Rattle.wait_model.specs.Writes.{first_by}
-use Rattle.wait_laws.proofs.FoundWrite.{head_found, rest_found}
+use Rattle.core_laws.proofs.Writes.FoundWrite.{head_found, rest_found}
 use Rattle.core_model.specs.declared.out_call.OutCall.{OutCall}
 use Rattle.core_model.specs.Fits.{has_number, once, at_most_one, job_at, numbers_of}
-use Rattle.core_laws.proofs.Lists.{number_itself, number_turned, one, one_is}
+use Rattle.core_laws.proofs.Steps.Lists.{number_itself, number_turned, one, one_is}
 use Rattle.core_fits.specs.Fits.{EachOf}
 use Rattle.core_fits.proofs.Eachs.{each_kept}
 

@@ -7,7 +7,7 @@ use Rattle.wait_model.specs.declared.write.Write.{Write}
 use Rattle.wait_model.specs.declared.write.WriteStage.{WriteStage}
 use Rattle.wait_model.specs.declared.write.WriteStage.TheVariants.{Waiting, Sends, Finds}
 use Rattle.wait_model.specs.Writes.{first_by, stage_sends, sends}
-use Rattle.wait_laws.proofs.Kept.{first_passes}
+use Rattle.core_laws.proofs.Writes.Kept.{first_passes}
 use Rattle.read_model.specs.declared.acquire.Acquire.{Acquire}
 use Rattle.core_model.specs.declared.event.CoreEvent.{CoreEvent}
 use Rattle.core_model.specs.declared.out_call.OutCall.{OutCall}
@@ -18,9 +18,9 @@ use Rattle.core_model.specs.Fits.{job_at, CoreOk}
 use Rattle.core_model.specs.Sending.{next_call}
 use Rattle.core_model.specs.State.{Core}
 use Rattle.core_model.specs.Step.{stepped}
-use Rattle.core_laws.proofs.Lists.{same_number}
-use Rattle.core_laws.proofs.Staying.{steps_stay}
-use Rattle.core_laws.proofs.Stepping.{steps_keep}
+use Rattle.core_laws.proofs.Steps.Lists.{same_number}
+use Rattle.core_laws.proofs.Steps.Staying.{steps_stay}
+use Rattle.core_laws.proofs.Steps.Stepping.{steps_keep}
 use Rattle.core_fits.specs.Fits.{EachOf}
 use Rattle.core_fits.proofs.Eachs.{each_kept}
 use Rattle.call_laws.specs.Forms.{Form, Writes, Grants}

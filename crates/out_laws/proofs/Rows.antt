@@ -23,9 +23,9 @@ use Rattle.core_model.specs.declared.out_call.OutJob.{OutJob}
 use Rattle.core_model.specs.Fits.{has_number, passes, job_at, numbers_of, is_wait, wait_numbers, calls_of, is_write_job, is_write_out, is_acquire_of, is_acquire_out, CoreOk}
 use Rattle.core_model.specs.Sending.{next_call}
 use Rattle.core_model.specs.State.{Core}
-use Rattle.core_laws.proofs.Calls.{no_job}
-use Rattle.core_laws.proofs.Comes.{by_test}
-use Rattle.core_laws.proofs.Lists.{same_number}
+use Rattle.core_laws.proofs.Steps.Calls.{no_job}
+use Rattle.core_laws.proofs.Steps.Comes.{by_test}
+use Rattle.core_laws.proofs.Steps.Lists.{same_number}
 use Rattle.row_laws.specs.Rows.{number_of, write_number, written_in, written_by, acquired_by, slot_of}
 use Rattle.out_laws.specs.Laws.{RowsReadSent}
 

@@ -52,7 +52,7 @@ use Rattle.watch_model.specs.Due.{next_job}
 use Rattle.watch_model.specs.Lookups.{stream_at, watch_at, is_begun}
 use Rattle.watch_model.specs.State.{Stream, Watch, Broadcasts}
 use Rattle.watch_model.specs.Takes as watches
-use Rattle.core_laws.proofs.Comes.{by_test}
+use Rattle.core_laws.proofs.Steps.Comes.{by_test}
 use Rattle.core_fits.specs.Fits.{EachOf}
 use Rattle.core_fits.proofs.Eachs.{each_pushed}
 use Rattle.core_fits.proofs.ReadRows.{decided_writes}

@@ -41,8 +41,8 @@ use Rattle.wait_model.specs.SingleKeys.{Turn, any_key, keys_begun, by_keys, let_
 use Rattle.wait_model.specs.Stages.{staged, gone_on, is_found_over, is_waiting, stage_on}
 use Rattle.wait_model.specs.State.{Ownership}
 use Rattle.wait_model.specs.Writes.{first_by, without_first, with_first, has_ticket, sends, asks, job_of}
-use Rattle.wait_laws.proofs.FoundWrite.{head_found, rest_found}
-use Rattle.core_laws.proofs.Comes.{by_test}
+use Rattle.core_laws.proofs.Writes.FoundWrite.{head_found, rest_found}
+use Rattle.core_laws.proofs.Steps.Comes.{by_test}
 use Rattle.core_fits.specs.Fits.{EachOf}
 
 abbrev pub is_sent_out : Sending → Bool

@@ -7,7 +7,7 @@ use Rattle.core_model.specs.Fits.{CoreOk}
 use Rattle.core_model.specs.Sending.{next_call}
 use Rattle.core_model.specs.State.{Core}
 use Rattle.core_model.specs.Step.{stepped}
-use Rattle.core_laws.specs.Kept.{IsHeard}
+use Rattle.core_laws.specs.Steps.Kept.{IsHeard}
 use Rattle.call_laws.specs.Forms.{Form}
 use Rattle.row_laws.specs.Rows.{row_of}
 use Rattle.core_moves.specs.Answers.{form_of_job}

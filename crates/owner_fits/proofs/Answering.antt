@@ -34,8 +34,8 @@ use Rattle.wait_model.specs.Phases.{own_entry, rescind_sent, is_of}
 use Rattle.wait_model.specs.Stages.{is_owner}
 use Rattle.wait_model.specs.State.{Ownership}
 use Rattle.wait_model.specs.Writes.{first_by, sends, asks, job_of}
-use Rattle.core_laws.proofs.Comes.{by_test, owner_asked}
-use Rattle.core_laws.proofs.Lists.{all_mapped, all_filtered}
+use Rattle.core_laws.proofs.Steps.Comes.{by_test, owner_asked}
+use Rattle.core_laws.proofs.Steps.Lists.{all_mapped, all_filtered}
 use Rattle.owner_fits.specs.Names.{is_named, found_named, owner_named, written_named, answer_named}
 use Rattle.owner_fits.proofs.Going.{EntryGoes, EntriesGo, entries_stay, entries_on, at_one, at_most, eases_if, unsent_eases, writes_stay, first_staged}
 use Rattle.owner_fits.proofs.Owning.{OwnGoes, goes_nowhere, asked_named, owned_eases, ended_goes}

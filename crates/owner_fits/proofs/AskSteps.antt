@@ -23,10 +23,10 @@ use Rattle.core_model.specs.Lookups.{leases, reads_of, with_reads, ask_at, is_kn
 use Rattle.core_model.specs.Refusals.{refusal_of}
 use Rattle.core_model.specs.State.{Core}
 use Rattle.core_model.specs.Stepped.{Stepped, faults}
-use Rattle.core_laws.proofs.Asks.{unknown, call_mid, write_mid, read_mid}
-use Rattle.core_laws.proofs.Comes.{by_test}
-use Rattle.core_laws.proofs.Lists.{all_pushed}
-use Rattle.core_laws.proofs.Whole.{Mid, Whole}
+use Rattle.core_laws.proofs.Steps.Asks.{unknown, call_mid, write_mid, read_mid}
+use Rattle.core_laws.proofs.Steps.Comes.{by_test}
+use Rattle.core_laws.proofs.Steps.Lists.{all_pushed}
+use Rattle.core_laws.proofs.Steps.Whole.{Mid, Whole}
 use Rattle.owner_fits.specs.Acquires.{standing_number}
 use Rattle.owner_fits.specs.Entries.{is_unleased}
 use Rattle.owner_fits.specs.Names.{stage_named}

@@ -21,8 +21,8 @@ use Rattle.core_model.specs.declared.out_call.OutJob.{OutJob}
 use Rattle.core_model.specs.declared.out_call.OutJob.TheVariants as job
 use Rattle.core_model.specs.Fits.{job_at}
 use Rattle.core_model.specs.Lookups.{without_out}
-use Rattle.core_laws.proofs.Calls.{job_without}
-use Rattle.core_laws.proofs.Lists.{same_number, number_itself}
+use Rattle.core_laws.proofs.Steps.Calls.{job_without}
+use Rattle.core_laws.proofs.Steps.Lists.{same_number, number_itself}
 use Rattle.owner_fits.specs.Acquires.{IsOutAs, AcquiresFit}
 
 some_same : {A : Type 0} {x y : A} → Some x ≡ Some y → x ≡ y

@@ -11,7 +11,7 @@ use Rattle.read_model.specs.declared.asked.Verdict.TheVariants as verdict
 use Rattle.read_model.specs.Acquires.{AfterAcquire, acquire_answered}
 use Rattle.read_model.specs.State.{Reads, Ground, ground_of}
 use Rattle.read_model.specs.WriteAnswers.{wait_answered}
-use Rattle.read_laws.proofs.Owned.{proceeded_stays}
+use Rattle.core_laws.proofs.PlainReads.Owned.{proceeded_stays}
 use Rattle.core_model.specs.declared.out_call.CallKind.{CallKind}
 use Rattle.core_model.specs.declared.out_call.OutCall.{OutCall}
 use Rattle.core_model.specs.declared.out_call.OutJob.{OutJob}
@@ -25,10 +25,10 @@ use Rattle.core_model.specs.Kinds.{is_body_of}
 use Rattle.core_model.specs.Lookups.{number_if, live_number, moment, reads_of, without_out}
 use Rattle.core_model.specs.Sessions.{without_session, seat_is_over, deadline_passed, seat_calls, seat_granted, granted_by, grant_failed, grant_answered, seat_free, keep_failed, seat_renewed, kept, kept_by, keep_answered}
 use Rattle.core_model.specs.State.{Seat, Core}
-use Rattle.core_laws.proofs.Comes.{by_test}
-use Rattle.core_laws.proofs.Ends.{seat_standing}
-use Rattle.core_laws.proofs.Middle.{deadline_mid, times_mid}
-use Rattle.core_laws.proofs.Whole.{Mid, begun_mid}
+use Rattle.core_laws.proofs.Steps.Comes.{by_test}
+use Rattle.core_laws.proofs.Steps.Ends.{seat_standing}
+use Rattle.core_laws.proofs.Steps.Middle.{deadline_mid, times_mid}
+use Rattle.core_laws.proofs.Steps.Whole.{Mid, begun_mid}
 use Rattle.owner_fits.specs.Acquires.{number_by, standing_number}
 use Rattle.owner_fits.specs.Names.{stage_named}
 use Rattle.owner_fits.proofs.Answering.{AnswersName}

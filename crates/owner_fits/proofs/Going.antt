@@ -19,9 +19,9 @@ use Rattle.wait_model.specs.Phases.{own_entry, rescind_sent, if_written}
 use Rattle.wait_model.specs.Stages.{is_owner, staged}
 use Rattle.wait_model.specs.Writes.{first_by, with_first, without_first}
 use Rattle.wait_model.proofs.Tables.{at-each, at-without}
-use Rattle.wait_laws.proofs.FoundWrite.{head_found, rest_found}
+use Rattle.core_laws.proofs.Writes.FoundWrite.{head_found, rest_found}
 use Rattle.read_model.specs.Fits.{is_owned}
-use Rattle.core_laws.proofs.Comes.{by_test}
+use Rattle.core_laws.proofs.Steps.Comes.{by_test}
 use Rattle.owner_fits.specs.Names.{stage_named}
 
 -- A test under a condition.

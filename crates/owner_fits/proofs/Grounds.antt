@@ -41,13 +41,13 @@ use Rattle.read_model.specs.SessionEnd.{is_due, is_due_acquire, dropped, over, s
 use Rattle.read_model.specs.State.{Reads, Moment, Ground, ground_of, on}
 use Rattle.read_model.specs.TakingOff.{is_writes, forgotten_all, falls, taken_off}
 use Rattle.read_model.specs.WriteAnswers.{ending, answered_by, wait_answered, wait_lost}
-use Rattle.read_laws.proofs.Grounds.{frees}
-use Rattle.read_laws.proofs.InPlace.{plain_in_place}
+use Rattle.core_laws.proofs.PlainReads.Grounds.{frees}
+use Rattle.core_laws.proofs.PlainReads.InPlace.{plain_in_place}
 use Rattle.core_model.specs.declared.out_call.OutCall.{OutCall}
 use Rattle.core_model.specs.declared.out_call.OutJob.TheVariants as job
 use Rattle.core_model.specs.Fits.{job_at}
 use Rattle.core_model.specs.Lookups.{without_out}
-use Rattle.core_laws.proofs.Comes.{by_test}
+use Rattle.core_laws.proofs.Steps.Comes.{by_test}
 use Rattle.owner_fits.specs.Acquires.{AcquiresFit}
 use Rattle.owner_fits.specs.Entries.{is_unleased, EntriesFit}
 use Rattle.owner_fits.specs.Names.{stage_named, NamesFit}

@@ -10,13 +10,13 @@ use Rattle.wait_model.specs.Endings.{forgotten_by, forgotten}
 use Rattle.wait_model.specs.SessionEnd.{write_ended}
 use Rattle.wait_model.specs.State.{Ownership}
 use Rattle.wait_model.specs.Writes.{first_by, sends, has_ticket}
-use Rattle.wait_laws.proofs.FoundWrite.{head_found, rest_found}
-use Rattle.wait_laws.proofs.Kept.{first_passes}
+use Rattle.core_laws.proofs.Writes.FoundWrite.{head_found, rest_found}
+use Rattle.core_laws.proofs.Writes.Kept.{first_passes}
 use Rattle.read_model.specs.declared.asked.Asked.{Asked}
 use Rattle.read_model.specs.SessionEnd.{dropped, over, session_over}
 use Rattle.read_model.specs.State.{Reads, Moment, ground_of, on}
 use Rattle.read_model.specs.TakingOff.{is_writes, forgotten_all, falls, taken_off}
-use Rattle.read_laws.proofs.InPlace.{plain_in_place}
+use Rattle.core_laws.proofs.PlainReads.InPlace.{plain_in_place}
 use Rattle.core_model.specs.declared.event.CoreEvent.{CoreEvent}
 use Rattle.core_model.specs.declared.event.CoreEvent.TheVariants as event
 use Rattle.core_model.specs.ClockWork.{begun, times_out, timed_out_ask, requests_timed_out, clock_work}
@@ -28,10 +28,10 @@ use Rattle.core_model.specs.declared.settings.Settings.{Settings}
 use Rattle.core_model.specs.Step.{opening_at}
 use Rattle.proxy_model.specs.Unwrapped.{item_without}
 use Rattle.core_model.specs.State.{Opening, Core}
-use Rattle.core_laws.specs.Kept.{HeardBytes, IsHeard}
-use Rattle.core_laws.proofs.Comes.{by_test, stage_ended_calms}
-use Rattle.core_laws.proofs.Lists.{all_mapped, one, one_is}
-use Rattle.core_laws.proofs.Prefixes.{session_over_same, taken_off_same}
+use Rattle.core_laws.specs.Steps.Kept.{HeardBytes, IsHeard}
+use Rattle.core_laws.proofs.Steps.Comes.{by_test, stage_ended_calms}
+use Rattle.core_laws.proofs.Steps.Lists.{all_mapped, one, one_is}
+use Rattle.core_laws.proofs.Steps.Prefixes.{session_over_same, taken_off_same}
 use Rattle.owner_fits.specs.Names.{answer_named, AnswerNames, events_named, NamesOwners}
 use Rattle.owner_fits.proofs.Going.{implies, implied, all_but}
 use Rattle.owner_fits.proofs.Passing.{Rests, passes_rest}

@@ -10,7 +10,7 @@ use Rattle.wait_model.specs.Fits.{Fits}
 use Rattle.wait_model.specs.LeasingStream.{resynced, all_given_up}
 use Rattle.wait_model.specs.Notices.{all_noticed}
 use Rattle.wait_model.specs.State.{Ownership}
-use Rattle.wait_laws.proofs.Steps as waits
+use Rattle.core_laws.proofs.Writes.Steps as waits
 use Rattle.watch_model.specs.Lookups.{stream_at, is_begun}
 use Rattle.watch_model.specs.State.{Stream}
 use Rattle.core_model.specs.Heard.{header_taken}
@@ -21,8 +21,8 @@ use Rattle.core_model.specs.State.{Opening, Core}
 use Rattle.core_model.specs.Step.{opening_at, client_item, item_of, client_cut, cut_of}
 use Rattle.core_model.specs.Watching.{stream_message, stream_item, taken_item, stream_job, with_watches}
 use Rattle.core_model.specs.Watching as watching
-use Rattle.core_laws.proofs.Comes.{by_test}
-use Rattle.core_laws.proofs.Whole.{Whole}
+use Rattle.core_laws.proofs.Steps.Comes.{by_test}
+use Rattle.core_laws.proofs.Steps.Whole.{Whole}
 use Rattle.owner_fits.specs.Acquires.{standing_number}
 use Rattle.owner_fits.specs.Names.{events_named, ItemNames}
 use Rattle.owner_fits.proofs.Ending.{CoreFit, passed_fits}

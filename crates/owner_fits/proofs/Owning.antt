@@ -30,8 +30,8 @@ use Rattle.wait_model.specs.SessionEnd.{due_again, stage_ended, session_ended}
 use Rattle.wait_model.specs.Stages.{is_due}
 use Rattle.wait_model.specs.State.{Ownership}
 use Rattle.wait_model.specs.Writes.{first_by, has_ticket, is_asked_as}
-use Rattle.core_laws.proofs.Comes.{by_test, owner_gone, owner_ended}
-use Rattle.core_laws.proofs.Lists.{all_mapped}
+use Rattle.core_laws.proofs.Steps.Comes.{by_test, owner_gone, owner_ended}
+use Rattle.core_laws.proofs.Steps.Lists.{all_mapped}
 use Rattle.owner_fits.specs.Names.{found_named, stage_named, change_named, events_named}
 use Rattle.owner_fits.proofs.Going.{EntryGoes, EntriesGo, entries_stay, at_one, at_each, at_none, writing_eases, written_eases, given_up_eases, WritesGo, writes_stay, each_staged, first_gone}
 

@@ -23,10 +23,10 @@ use Rattle.wait_model.specs.Stages.{staged, gone_on, is_waiting, is_owner, is_fo
 use Rattle.wait_model.specs.State.{Ownership}
 use Rattle.wait_model.proofs.Covering.{none_key}
 use Rattle.wait_model.proofs.Tables.{at-each}
-use Rattle.wait_laws.proofs.Passes.{any_over, key_first, key_later, moved_key, same_cover, quiet_first, quiet_later, covered_pass}
-use Rattle.wait_laws.proofs.Phases.{some-mapped, some-writing, waiting_owns_nothing}
-use Rattle.wait_laws.proofs.Turns.{is_free, turn_ok, owner-stage_on}
-use Rattle.core_laws.proofs.Comes.{by_test}
+use Rattle.core_laws.proofs.Writes.Passes.{any_over, key_first, key_later, moved_key, same_cover, quiet_first, quiet_later, covered_pass}
+use Rattle.core_laws.proofs.Writes.Phases.{some-mapped, some-writing, waiting_owns_nothing}
+use Rattle.core_laws.proofs.Writes.Turns.{is_free, turn_ok, owner-stage_on}
+use Rattle.core_laws.proofs.Steps.Comes.{by_test}
 use Rattle.owner_fits.specs.Entries.{is_unleased}
 
 -- Of one write.

@@ -6,13 +6,13 @@ use Rattle.wait_model.specs.Covers.{covers, leased}
 use Rattle.wait_model.specs.Fits.{stage_over}
 use Rattle.wait_model.specs.Stages.{is_owner}
 use Rattle.wait_model.specs.Writes.{first_by}
-use Rattle.wait_laws.proofs.FoundWrite.{head_found, rest_found}
-use Rattle.wait_laws.proofs.Kept.{first_passes}
+use Rattle.core_laws.proofs.Writes.FoundWrite.{head_found, rest_found}
+use Rattle.core_laws.proofs.Writes.Kept.{first_passes}
 use Rattle.core_model.specs.Fits.{CoreOk}
 use Rattle.core_model.specs.State.{Core, first_core}
-use Rattle.core_laws.specs.Kept.{Timed, after, ran, AllHeard}
-use Rattle.core_laws.proofs.Start.{start_fits}
-use Rattle.core_laws.proofs.Stepping.{steps_keep}
+use Rattle.core_laws.specs.Steps.Kept.{Timed, after, ran, AllHeard}
+use Rattle.core_laws.proofs.Steps.Start.{start_fits}
+use Rattle.core_laws.proofs.Steps.Stepping.{steps_keep}
 use Rattle.owner_fits.specs.Entries.{is_unleased}
 use Rattle.owner_fits.specs.Laws.{OwnersFit, StartsFit, StepsFit, RunsFit, DueAcquiresStand, WritesAreUnleased, NamesIn, StartsNamed, StepsName, AllName, RunsName}
 use Rattle.owner_fits.proofs.Dues.{StandsIf, first_stands}

@@ -16,8 +16,8 @@ use Rattle.wait_model.specs.Sent.{JobSent, is_asking_due, found_sent, stage_revo
 use Rattle.wait_model.specs.Stages.{is_owner}
 use Rattle.wait_model.specs.State.{Ownership}
 use Rattle.wait_model.specs.Writes.{first_by, has_ticket}
-use Rattle.core_laws.proofs.Comes.{by_test}
-use Rattle.core_laws.proofs.Lists.{all_mapped}
+use Rattle.core_laws.proofs.Steps.Comes.{by_test}
+use Rattle.core_laws.proofs.Steps.Lists.{all_mapped}
 use Rattle.owner_fits.specs.Names.{found_named, stage_named}
 use Rattle.owner_fits.proofs.Going.{EntryGoes, entries_stay, at_one, unsent_eases, Calmer, writes_stay, first_staged}
 use Rattle.owner_fits.proofs.Owning.{OwnGoes}

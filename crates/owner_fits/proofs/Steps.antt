@@ -39,12 +39,12 @@ use Rattle.core_model.specs.Stepped.{Stepped, faults, counted, counted_by}
 use Rattle.core_model.specs.Takes.{item_taken, taken, on_take, has_left, watcher_left, left, on_leave}
 use Rattle.core_model.specs.Takes as takes
 use Rattle.core_model.specs.Watching.{taken_item, stream_job, with_watches}
-use Rattle.core_laws.specs.Kept.{HeardBytes, IsHeard}
-use Rattle.core_laws.proofs.Calls.{IsFound, found_is}
-use Rattle.core_laws.proofs.Comes.{by_test}
-use Rattle.core_laws.proofs.Due.{DueIf, first_due}
-use Rattle.core_laws.proofs.Middle.{left_mid, clock_whole, lost_mid, answered_mid}
-use Rattle.core_laws.proofs.Whole.{Mid, Whole, of_ok}
+use Rattle.core_laws.specs.Steps.Kept.{HeardBytes, IsHeard}
+use Rattle.core_laws.proofs.Steps.Calls.{IsFound, found_is}
+use Rattle.core_laws.proofs.Steps.Comes.{by_test}
+use Rattle.core_laws.proofs.Steps.Due.{DueIf, first_due}
+use Rattle.core_laws.proofs.Steps.Middle.{left_mid, clock_whole, lost_mid, answered_mid}
+use Rattle.core_laws.proofs.Steps.Whole.{Mid, Whole, of_ok}
 use Rattle.owner_fits.specs.Acquires.{number_by, standing_number, AcquiresFit}
 use Rattle.owner_fits.specs.Names.{AnswerNames, NamesOwners}
 use Rattle.owner_fits.proofs.Claims.{is_acquire, pushed_claims, sent_claim}

@@ -13,7 +13,7 @@ use Rattle.core_model.specs.DueJobs.{ForAcquire, first_job}
 use Rattle.core_model.specs.Fits.{CoreOk}
 use Rattle.core_model.specs.State.{Core, first_core}
 use Rattle.core_model.specs.Step.{stepped}
-use Rattle.core_laws.specs.Kept.{IsHeard, Timed, after, ran, AllHeard}
+use Rattle.core_laws.specs.Steps.Kept.{IsHeard, Timed, after, ran, AllHeard}
 use Rattle.owner_fits.specs.Acquires.{standing_number, IsDueAt, AcquiresFit}
 use Rattle.owner_fits.specs.Entries.{EntriesFit}
 use Rattle.owner_fits.specs.Names.{NamesFit, NamesOwners}

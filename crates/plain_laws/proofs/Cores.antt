@@ -29,9 +29,9 @@ use Rattle.core_model.specs.Refusals.{refusal_of}
 use Rattle.core_model.specs.State.{Core}
 use Rattle.core_model.specs.Step.{is_worn, happened, stepped}
 use Rattle.core_model.specs.Stepped.{faults, counted}
-use Rattle.core_laws.proofs.Comes.{by_test}
-use Rattle.core_laws.proofs.Lists.{same_number}
-use Rattle.core_laws.proofs.Staying.{steps_stay}
+use Rattle.core_laws.proofs.Steps.Comes.{by_test}
+use Rattle.core_laws.proofs.Steps.Lists.{same_number}
+use Rattle.core_laws.proofs.Steps.Staying.{steps_stay}
 use Rattle.core_fits.specs.Fits.{EachOf, is_reading}
 use Rattle.core_fits.proofs.CallRows.{CoreHas, StepHas, Last, go_on, clock_has}
 use Rattle.core_fits.proofs.CoreRows.{happened_has, counted_has}

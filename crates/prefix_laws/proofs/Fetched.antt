@@ -21,15 +21,15 @@ use Rattle.core_model.specs.Lookups.{ask_at}
 use Rattle.core_model.specs.State.{Core}
 use Rattle.core_model.specs.Step.{stepped}
 use Rattle.core_model.specs.Takes.{ready}
-use Rattle.core_laws.proofs.Lists.{same_number}
-use Rattle.core_laws.proofs.Stepping.{steps_keep}
+use Rattle.core_laws.proofs.Steps.Lists.{same_number}
+use Rattle.core_laws.proofs.Steps.Stepping.{steps_keep}
 use Rattle.keep_laws.proofs.Rows.{All}
 use Rattle.keep_laws.proofs.Runs.{found}
 use Rattle.world_model.specs.Gains.{Replies, with_reply, fetched_as, fetched_if, fetched, all_fetched}
 use Rattle.world_model.specs.Places.{place_at, with_core}
 use Rattle.world_model.specs.State.{Place, World, word}
 use Rattle.script_text.specs.declared.item.Item.{Item}
-use Rattle.core_laws.specs.Kept.{HeardBytes, IsHeard}
+use Rattle.core_laws.specs.Steps.Kept.{HeardBytes, IsHeard}
 use Rattle.core_model.specs.Heard.{heard}
 use Rattle.world_laws.proofs.Effects.{Turn, ticks, asks_it, posts_it, calls, opens, closes, answers, loses, delivers, cuts, takes, waits, leaves}
 use Rattle.renewed_laws.proofs.Gains.{stepped_to}

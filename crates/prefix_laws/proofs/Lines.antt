@@ -23,10 +23,10 @@ use Rattle.core_model.specs.declared.settings.Settings.{Settings}
 use Rattle.core_model.specs.Lookups.{is_known}
 use Rattle.core_model.specs.State.{Core, first_core}
 use Rattle.core_model.specs.Step.{stepped}
-use Rattle.core_laws.specs.Kept.{IsHeard}
+use Rattle.core_laws.specs.Steps.Kept.{IsHeard}
 use Rattle.held_laws.proofs.Worlds.{equal, one_place, placed_itself, placed_other}
-use Rattle.idle_laws.specs.Streams.{HasAtMost, QueuesAreBounded}
-use Rattle.idle_laws.proofs.Bounded.{steps_keep_bounded}
+use Rattle.core_laws.specs.Watches.Streams.{HasAtMost, QueuesAreBounded}
+use Rattle.core_laws.proofs.Watches.Bounded.{steps_keep_bounded}
 use Rattle.script_text.specs.declared.item.Item.{Item}
 use Rattle.script_text.specs.declared.item.Item.TheVariants as item
 use Rattle.script_text.specs.declared.line.Line.{Line}

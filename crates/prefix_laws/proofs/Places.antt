@@ -11,9 +11,9 @@ use Rattle.core_model.specs.State.{Core, first_core}
 use Rattle.core_model.specs.Step.{is_worn, stepped}
 use Rattle.core_model.specs.Stepped.{Stepped}
 use Rattle.core_model.specs.Takes.{ready}
-use Rattle.core_laws.specs.Kept.{IsHeard}
-use Rattle.core_laws.proofs.Outcomes.{worn_does_nothing}
-use Rattle.core_laws.proofs.Stepping.{steps_keep}
+use Rattle.core_laws.specs.Steps.Kept.{IsHeard}
+use Rattle.core_laws.proofs.Steps.Outcomes.{worn_does_nothing}
+use Rattle.core_laws.proofs.Steps.Stepping.{steps_keep}
 use Rattle.core_fits.specs.Fits.{CoreFits}
 use Rattle.core_fits.specs.Ready.{TakesReply}
 use Rattle.core_fits.proofs.Fit.{fits_start, fits_step}

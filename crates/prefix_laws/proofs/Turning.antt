@@ -13,8 +13,8 @@ use Rattle.core_model.specs.declared.event.StepFault.{StepFault}
 use Rattle.core_model.specs.declared.settings.Settings.{Settings}
 use Rattle.core_model.specs.State.{first_core}
 use Rattle.core_model.specs.Step.{stepped}
-use Rattle.core_laws.specs.Kept.{IsHeard}
-use Rattle.core_laws.proofs.Lists.{number_itself}
+use Rattle.core_laws.specs.Steps.Kept.{IsHeard}
+use Rattle.core_laws.proofs.Steps.Lists.{number_itself}
 use Rattle.script_text.specs.declared.item.Item.{Item}
 use Rattle.script_text.specs.declared.item.Item.TheVariants as item
 use Rattle.script_text.specs.declared.line.Line.{Line}

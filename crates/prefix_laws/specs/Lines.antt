@@ -7,8 +7,8 @@ use Rattle.etcd_types.specs.declared.watch.WatchItem.{WatchItem}
 use Rattle.core_model.specs.declared.event.CoreEvent.{CoreEvent}
 use Rattle.core_model.specs.declared.event.CoreEvent.TheVariants as event
 use Rattle.core_model.specs.State.{Core}
-use Rattle.core_laws.specs.Kept.{IsHeard}
-use Rattle.idle_laws.specs.Streams.{HasAtMost, QueuesAreBounded}
+use Rattle.core_laws.specs.Steps.Kept.{IsHeard}
+use Rattle.core_laws.specs.Watches.Streams.{HasAtMost, QueuesAreBounded}
 use Rattle.script_text.specs.declared.line.Line.{Line}
 use Rattle.script_text.specs.declared.line.Line.TheVariants as line
 use Rattle.waiting_laws.specs.Sound.{IsSound}

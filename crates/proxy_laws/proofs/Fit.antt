@@ -27,7 +27,7 @@ use Rattle.store_model.specs.State.{State}
 use Rattle.store_model.specs.Compares.{all_hold}
 use Rattle.store_model.specs.Transactions.{Ran, RanAll, seen, run, run_row, run_put, run_delete, put_on, has_lease, unchanged, answered}
 use Rattle.store_model.proofs.RunLemmas.{same_ok, answered_ok, first_then_ok}
-use Rattle.store_laws.proofs.RangeProofs.{records-within}
+use Rattle.store_laws.proofs.Requests.RangeProofs.{records-within}
 use Rattle.proxy_model.specs.Fits.{fits, fits_row, fits_range, are_records_of, is_put, is_delete, fits_first, fits_branch, branch_of, is_nothing}
 use Rattle.proxy_model.proofs.FitsLaws.{branch_of-Txn}
 use Rattle.proxy_laws.proofs.OneKey.{records_one}

@@ -11,8 +11,8 @@ use Rattle.store_model.specs.History.{History}
 use Rattle.store_model.specs.Records.{record_now}
 use Rattle.store_model.specs.Ranges.{records_now}
 use Rattle.store_model.specs.Leases.{record_key}
-use Rattle.store_laws.specs.Ranges.{AreRising}
-use Rattle.store_laws.proofs.RangeProofs.{ranges_rise, ranges_are_exact, keyed-now}
+use Rattle.store_laws.specs.Requests.Ranges.{AreRising}
+use Rattle.store_laws.proofs.Requests.RangeProofs.{ranges_rise, ranges_are_exact, keyed-now}
 
 one_contains : (r : KeyRange) (k : List ℕ) → is_one r ≡ true → contains r k ≡ same k r.key
 one_contains r k e = rw e refl

@@ -16,7 +16,7 @@ use Rattle.store_model.proofs.RunLemmas.{branch_ops, txn_ran}
 use Rattle.store_model.proofs.StepLemmas.{exec_txn-refused, exec_txn-runs}
 use Rattle.proxy_model.specs.Fits.{branch_of}
 use Rattle.proxy_model.proofs.FitsLaws.{branch_of-Txn}
-use Rattle.store_laws.proofs.AnsweredProofs.{same_reply}
+use Rattle.store_laws.proofs.Requests.AnsweredProofs.{same_reply}
 use Rattle.proxy_laws.specs.Answers.{Answers, holds_now}
 
 -- a transaction that was answered had run

@@ -14,7 +14,7 @@ use Rattle.store_model.specs.Records.{record_now}
 use Rattle.store_model.specs.Ranges.{records_now}
 use Rattle.store_model.specs.State.{State}
 use Rattle.store_model.specs.Transactions.{RanAll, run_all}
-pub use Rattle.store_laws.specs.Branches.{Answers, holds_now}
+pub use Rattle.store_laws.specs.Requests.Branches.{Answers, holds_now}
 use Rattle.proxy_model.specs.declared.ownership.Claim.{Claim}
 use Rattle.proxy_model.specs.declared.ownership.Claim.TheVariants.{Acquired, OwnedBy}
 use Rattle.proxy_model.specs.declared.ownership.Owner.{Owner}

@@ -11,7 +11,7 @@ use Rattle.read_model.specs.Fits.{AllStand}
 use Rattle.read_model.specs.PlainRead.{called, in_stage}
 use Rattle.read_model.specs.Release.{ask_stands, in_place, released}
 use Rattle.read_model.specs.State.{Moment, Ground, on}
-use Rattle.read_laws.proofs.InPlace.{plain_in_place}
+use Rattle.core_laws.proofs.PlainReads.InPlace.{plain_in_place}
 use Rattle.read_core.specs.Falls.{fallen}
 use Rattle.read_steps.specs.Parts.{reads}
 

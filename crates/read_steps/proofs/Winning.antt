@@ -27,7 +27,7 @@ use Rattle.read_model.specs.Fits.{AllStand, ReadsOk}
 use Rattle.read_model.specs.PlainRead.{ask_key, shown, called, in_stage, read_turn}
 use Rattle.read_model.specs.Release.{stands, ask_stands, in_place}
 use Rattle.read_model.specs.State.{Reads, Moment, Ground, ground_of, on}
-use Rattle.read_laws.proofs.InPlace.{plain_in_place, wins_in_place}
+use Rattle.core_laws.proofs.PlainReads.InPlace.{plain_in_place, wins_in_place}
 use Rattle.known_asks.specs.Changes.{stage_or, staged_by}
 use Rattle.read_core.specs.Readers.{reading_stage, readers_stage, joined_stage}
 use Rattle.read_steps.specs.Parts.{reads, held_entries}

@@ -15,10 +15,10 @@ use Rattle.store_model.specs.History.{History, newest}
 use Rattle.store_model.specs.State.{State, applied_by}
 use Rattle.store_model.specs.Step.{exec}
 use Rattle.store_model.specs.Watches.{Pushed, watch_of, events_for, push_events, push_to, for_watch, pushed, is_synced, progress_to, progressed}
-use Rattle.store_laws.specs.Answered.{is_serializable}
-use Rattle.store_laws.proofs.AnsweredProofs.{replies_tell_revisions}
-use Rattle.store_sound.specs.Sound.{Sound, is_reached}
-use Rattle.store_sound.proofs.SoundProofs.{requests_keep_sound, expiries_keep_sound, applies_keep_sound, openings_keep_sound, messages_keep_sound}
+use Rattle.store_laws.specs.Requests.Answered.{is_serializable}
+use Rattle.store_laws.proofs.Requests.AnsweredProofs.{replies_tell_revisions}
+use Rattle.store_laws.specs.Lives.Sound.{Sound, is_reached}
+use Rattle.store_laws.proofs.Lives.SoundProofs.{requests_keep_sound, expiries_keep_sound, applies_keep_sound, openings_keep_sound, messages_keep_sound}
 use Rattle.core_model.specs.LeasingStream.{item_header}
 use Rattle.core_model.specs.declared.event.CoreEvent.{CoreEvent}
 use Rattle.core_model.specs.declared.event.Outcome.{Outcome}
@@ -33,7 +33,7 @@ use Rattle.world_model.specs.Starts.{new_place}
 use Rattle.world_model.specs.Streams.{with_message}
 use Rattle.world_model.specs.State.{Place, OpenedStream, World}
 use Rattle.world_laws.proofs.Effects.{Turn, ticks, asks_it, posts_it, calls, opens, closes, answers, loses, delivers, cuts, takes, waits, leaves, IsPushed, Effect, starts, sets, refuses_post, executes, expires, applies, pushes, turns}
-use Rattle.idle_laws.proofs.Touches.{Side, side, Aged}
+use Rattle.core_laws.proofs.Watches.Touches.{Side, side, Aged}
 use Rattle.held_laws.proofs.Growing.{Grows, closed_store, turn_grows, exec_leaves, expired_leaves, applied_leaves, message_leaves}
 use Rattle.held_laws.proofs.Opens.{nth_push}
 use Rattle.held_laws.proofs.Places.{PlaceOk, counted_side, stepping, all_so}

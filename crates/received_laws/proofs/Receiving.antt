@@ -8,7 +8,7 @@ use Rattle.etcd_types.specs.declared.watch.Event.{Event}
 use Rattle.etcd_types.specs.declared.watch.WatchItem.{WatchItem}
 use Rattle.store_model.specs.History.{newest}
 use Rattle.store_model.specs.State.{State}
-use Rattle.store_sound.proofs.SoundProofs.{starts_sound}
+use Rattle.store_laws.proofs.Lives.SoundProofs.{starts_sound}
 use Rattle.core_model.specs.declared.event.CoreEvent.TheVariants as event
 use Rattle.core_model.specs.declared.event.Outcome.TheVariants as outcome
 use Rattle.script_text.specs.declared.item.Item.{Item}
@@ -26,12 +26,12 @@ use Rattle.world_model.specs.Places.{nth}
 use Rattle.world_model.specs.Received.{history_events, taken_for, TellsFront, HasReceived, WatchesReceive}
 use Rattle.world_model.specs.State.{Place, World, starting_world}
 use Rattle.world_model.specs.Transcript.{Taken, taken, items_and_then, transcript_from, transcript}
-use Rattle.idle_laws.proofs.Touches.{Side, Touch, leaves, took}
+use Rattle.core_laws.proofs.Watches.Touches.{Side, Touch, leaves, took}
 use Rattle.held_laws.specs.Laws.{is_below}
 use Rattle.received_laws.proofs.Changing.{TakesOne, Changes, effect_changes}
 use Rattle.received_laws.proofs.Fronts.{tells_fewer, tells_all}
 use Rattle.held_laws.proofs.Growing.{Grows}
-use Rattle.idle_laws.proofs.Holding.{watch_itself}
+use Rattle.core_laws.proofs.Watches.Holding.{watch_itself}
 use Rattle.held_laws.proofs.Items.{life_still, taken_still, taken-append, queued-append, asked_still}
 use Rattle.held_laws.proofs.Lines.{begun_world}
 use Rattle.held_laws.proofs.Messages.{AreMessages, messages_front}

@@ -36,7 +36,7 @@ use Rattle.core_model.specs.declared.event.StepFault.{StepFault}
 use Rattle.held_laws.proofs.Firm.{sent_firm}
 use Rattle.held_laws.proofs.Knowing.{either_some}
 use Rattle.held_laws.proofs.Told.{both}
-use Rattle.idle_laws.proofs.Touches.{Side, told_unwrapped, told_stream, Touch, leaves, hears, ticks, joins, heard_leasing, broke_leasing, cut_leasing, told, cut, took, left_it, opens_leasing, sends}
+use Rattle.core_laws.proofs.Watches.Touches.{Side, told_unwrapped, told_stream, Touch, leaves, hears, ticks, joins, heard_leasing, broke_leasing, cut_leasing, told, cut, took, left_it, opens_leasing, sends}
 
 abbrev pub StartOk : ℕ → Watch → Type 0
 StartOk high w = (w.ask.start == 0) ≡ true → w.start ≤ high + 1

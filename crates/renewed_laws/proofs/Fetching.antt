@@ -8,7 +8,7 @@ use Rattle.core_model.specs.Fits.{CoreOk}
 use Rattle.core_model.specs.State.{Core}
 use Rattle.core_model.specs.Step.{stepped}
 use Rattle.core_model.specs.Takes.{ready}
-use Rattle.core_laws.proofs.Stepping.{steps_keep}
+use Rattle.core_laws.proofs.Steps.Stepping.{steps_keep}
 use Rattle.world_model.specs.Gains.{Replies, Fetched, with_reply, fetched_as, fetched_if, fetched, all_fetched}
 use Rattle.world_model.specs.Places.{with_core}
 use Rattle.world_model.specs.State.{Place}

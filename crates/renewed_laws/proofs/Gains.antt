@@ -32,7 +32,7 @@ use Rattle.world_model.specs.Transcript.{step, done}
 use Rattle.world_laws.specs.Laws.{IsOwn}
 use Rattle.world_laws.proofs.Effects.{posts_it, Effect, turns, effect}
 use Rattle.world_laws.proofs.Lines.{gains_own}
-use Rattle.core_laws.proofs.Lists.{same_number}
+use Rattle.core_laws.proofs.Steps.Lists.{same_number}
 
 -- neither an answer nor a refused body
 abbrev pub is_other : List Item → Bool

@@ -15,8 +15,8 @@ use Rattle.proxy_model.proofs.FitsLaws.{branch_of-Txn}
 use Rattle.proxy_model.specs.Prefixes.{are_bytes, without}
 use Rattle.proxy_model.specs.Readings.{records_of}
 use Rattle.proxy_model.specs.Unwrapped.{Unwrapped, ◌>>=◌, each, key_without, record_without, prev_without, records_without, body_without, row_without, reply_without}
-use Rattle.wait_laws.specs.Laws.{shown_records, shows_bytes}
-use Rattle.core_laws.specs.Kept.{HeardBytes}
+use Rattle.core_laws.specs.Writes.Laws.{shown_records, shows_bytes}
+use Rattle.core_laws.specs.Steps.Kept.{HeardBytes}
 use Rattle.core_model.specs.Heard.{is_known, heard_reply, heard}
 use Rattle.script_text.specs.declared.item.Item.{Item}
 use Rattle.renewed_laws.specs.Renewals.{answer_shows, item_shows, AnswersShowBytes}

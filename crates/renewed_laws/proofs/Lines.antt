@@ -6,8 +6,8 @@ use Rattle.etcd_types.specs.declared.answer.Answer.TheVariants.{Refused}
 use Rattle.etcd_types.specs.declared.answer.Refusal.{Refusal}
 use Rattle.etcd_types.proofs.Bools.{and_first}
 use Rattle.store_model.specs.Step.{exec}
-use Rattle.core_laws.specs.Kept.{HeardBytes}
-use Rattle.core_laws.proofs.Start.{start_fits}
+use Rattle.core_laws.specs.Steps.Kept.{HeardBytes}
+use Rattle.core_laws.proofs.Steps.Start.{start_fits}
 use Rattle.core_model.specs.declared.event.CoreEvent.TheVariants as event
 use Rattle.core_model.specs.Fits.{CoreOk}
 use Rattle.core_model.specs.Heard.{heard}

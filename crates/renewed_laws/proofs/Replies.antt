@@ -39,8 +39,8 @@ use Rattle.core_model.specs.Takes.{item_taken, taken, on_take}
 use Rattle.core_model.specs.Takes as takes
 use Rattle.core_model.specs.Verdicts.{reply_of}
 use Rattle.core_model.specs.Watching.{taken_item}
-use Rattle.core_laws.proofs.Comes.{by_test}
-use Rattle.core_laws.proofs.Lists.{same_number}
+use Rattle.core_laws.proofs.Steps.Comes.{by_test}
+use Rattle.core_laws.proofs.Steps.Lists.{same_number}
 use Rattle.script_text.specs.declared.item.Item.{Item}
 use Rattle.world_model.specs.Asks.{told_at_once}
 use Rattle.world_model.specs.Gains.{Replies, with_reply}

@@ -4,8 +4,8 @@ use Rattle.std.specs.BTreeSet.{BTreeSet}
 use Rattle.etcd_types.specs.declared.answer.Answer.{Answer}
 use Rattle.etcd_types.specs.declared.request.Request.{Request}
 use Rattle.etcd_types.specs.declared.request.Request.TheVariants as request
-use Rattle.core_laws.specs.Kept.{HeardBytes, IsHeard}
-use Rattle.core_laws.proofs.Comes.{by_test}
+use Rattle.core_laws.specs.Steps.Kept.{HeardBytes, IsHeard}
+use Rattle.core_laws.proofs.Steps.Comes.{by_test}
 use Rattle.core_model.specs.declared.event.CoreEvent.{CoreEvent}
 use Rattle.core_model.specs.declared.event.CoreEvent.TheVariants as event
 use Rattle.core_model.specs.declared.event.Job.TheVariants as job

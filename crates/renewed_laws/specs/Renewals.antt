@@ -9,7 +9,7 @@ use Rattle.etcd_types.specs.declared.request.Request.TheVariants as request
 use Rattle.core_model.specs.Heard.{heard}
 use Rattle.script_text.specs.declared.item.Item.{Item}
 use Rattle.script_text.specs.declared.item.Item.TheVariants as item
-use Rattle.wait_laws.specs.Laws.{shows_bytes}
+use Rattle.core_laws.specs.Writes.Laws.{shows_bytes}
 use Rattle.world_model.specs.Lives.{life, namespace_of, asked_as}
 
 -- In this life of the proxy, in this order: the request was asked; a keepalive of its lease was sent, which may name another of those

@@ -12,8 +12,8 @@ use script_text::Line;
 /// Every so many rounds the clocks go on.
 const CLOCK_ROUNDS: u64 = 10;
 
-/// By so much a round, in milliseconds.
-const ROUND_TIME: u64 = 200;
+/// By so much a round.
+const ROUND_TIME_MS: u64 = 200;
 
 impl<C: ProxyCore> Making<C> {
     /// So many rounds: in each something is asked, and all settles.
@@ -66,7 +66,7 @@ impl<C: ProxyCore> Making<C> {
         requires goes { CanMake (OnTimeTaken number proxy) self.old }
         ensures { OnOk result (Makes (on_time number proxy) self.old self.new) }
     {
-        let millis = ROUND_TIME * number;
+        let millis = ROUND_TIME_MS * number;
         self.add(Line::Clock { proxy, millis })?;
         Ok(self.add(Line::Tick { proxy })?)
     }

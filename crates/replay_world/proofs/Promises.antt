@@ -2,7 +2,7 @@
 use Rattle.std.proofs.Common.{◌≡◌, ◌<◌, ◌≤◌, ℕ, ◌+◌, ◌^◌, List, [], ◌∷◌, ◌++◌, length, length-append, Option, Some, Result, Ok, Err, refl, sym, ◌∙◌, ap, subst, arith}
 use Rattle.core_model.specs.State.{Core}
 use Rattle.held_laws.proofs.Nothing.{holds_nothing_back}
-use Rattle.idle_laws.specs.Streams.{QueuesAreBounded}
+use Rattle.core_laws.specs.Watches.Streams.{QueuesAreBounded}
 use Rattle.prefix_laws.specs.Lines.{OfProxies}
 use Rattle.prefix_laws.proofs.Lines.{lines_stay_sound, lines_stay_bounded}
 use Rattle.prefix_laws.proofs.Prefixes.{more_behind}

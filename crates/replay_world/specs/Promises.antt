@@ -5,7 +5,7 @@ use Rattle.std.specs.Prelude.{◌≡◌, ◌≢◌, ◌<◌, ℕ, ◌+◌, ◌^�
 use Rattle.etcd_types.specs.declared.key_range.KeyRange.{KeyRange}
 use Rattle.core_model.specs.State.{Core}
 use Rattle.held_laws.specs.Laws.{HoldsNothingBack}
-use Rattle.idle_laws.specs.Streams.{QueuesAreBounded}
+use Rattle.core_laws.specs.Watches.Streams.{QueuesAreBounded}
 use Rattle.prefix_laws.specs.Lines.{OfProxies, BringsBytes, BringsAtMost, AreSound}
 use Rattle.replay_world.specs.World.{Parts, Stands}
 use Rattle.script_text.specs.declared.item.Item.{Item}

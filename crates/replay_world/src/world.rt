@@ -18,8 +18,8 @@ use std::marker::Model;
 use store_world::Store;
 use world_model::{Floor, SentCall, WorldFault};
 
-/// The time to live of sessions in a replay, in seconds.
-const SESSION_TIME: u64 = 60;
+/// The time to live of sessions in a replay.
+const SESSION_TIME_SECONDS: u64 = 60;
 
 /// The world of a replay: a store of several members, and the proxies before it.
 ///
@@ -135,7 +135,7 @@ impl<C: ProxyCore> World<C> {
             members: self.members,
             namespace: self.namespace.copy(self.alloc)?,
             leasing: self.leasing.copy(self.alloc)?,
-            ttl: SESSION_TIME,
+            ttl: SESSION_TIME_SECONDS,
         })
     }
 

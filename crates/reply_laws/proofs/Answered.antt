@@ -36,11 +36,11 @@ use Rattle.core_model.specs.Sessions.{without_session, seat_calls, granted_by, k
 use Rattle.core_model.specs.State.{Core}
 use Rattle.core_model.specs.Step.{is_worn, happened, stepped}
 use Rattle.core_model.specs.Stepped.{Stepped, faults, noted, counted}
-use Rattle.core_laws.proofs.Calls.{found_is}
-use Rattle.core_laws.proofs.Comes.{by_test}
-use Rattle.core_laws.proofs.Lists.{same_number}
-use Rattle.core_laws.proofs.Middle.{clock_whole}
-use Rattle.core_laws.proofs.Whole.{Whole, of_ok}
+use Rattle.core_laws.proofs.Steps.Calls.{found_is}
+use Rattle.core_laws.proofs.Steps.Comes.{by_test}
+use Rattle.core_laws.proofs.Steps.Lists.{same_number}
+use Rattle.core_laws.proofs.Steps.Middle.{clock_whole}
+use Rattle.core_laws.proofs.Steps.Whole.{Whole, of_ok}
 use Rattle.keep_laws.proofs.Rows.{All, all_mapped}
 use Rattle.reply_laws.specs.Sources as sources
 use Rattle.reply_laws.specs.Sources.{Hears, hearing, Source}

@@ -15,8 +15,8 @@ use Rattle.core_model.specs.Fits.{has_number, once, ask_tickets}
 use Rattle.core_model.specs.Lookups.{ask_at}
 use Rattle.core_model.specs.Sessions.{seat_is_over, without_session, deadline_passed}
 use Rattle.core_model.specs.State.{Core}
-use Rattle.core_laws.proofs.Comes.{by_test}
-use Rattle.core_laws.proofs.Lists.{number_itself, number_turned}
+use Rattle.core_laws.proofs.Steps.Comes.{by_test}
+use Rattle.core_laws.proofs.Steps.Lists.{number_itself, number_turned}
 use Rattle.keep_laws.proofs.Rows.{All, all_mapped, all_kept, is_untold}
 use Rattle.reply_laws.specs.Sources.{Stood}
 

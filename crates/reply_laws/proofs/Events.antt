@@ -47,7 +47,7 @@ use Rattle.core_model.specs.State.{Core}
 use Rattle.core_model.specs.Stepped.{Stepped}
 use Rattle.core_model.specs.Takes.{watcher_left, left, on_leave}
 use Rattle.core_model.specs.Watching.{with_watches, stream_job}
-use Rattle.core_laws.proofs.Comes.{by_test}
+use Rattle.core_laws.proofs.Steps.Comes.{by_test}
 use Rattle.keep_laws.proofs.Rows.{All, all_mapped, all_filtered, all_pushed, is_untold}
 
 -- it isn't replied ok

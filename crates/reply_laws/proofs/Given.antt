@@ -42,10 +42,10 @@ use Rattle.core_model.specs.Takes.{item_taken, taken, on_take}
 use Rattle.core_model.specs.Takes as takes
 use Rattle.core_model.specs.Verdicts.{reply_of}
 use Rattle.core_model.specs.Watching.{taken_item}
-use Rattle.core_laws.specs.Outcomes.{may_have, Gives, gave, faulted}
-use Rattle.core_laws.proofs.Comes.{by_test}
-use Rattle.core_laws.proofs.Lists.{same_number}
-use Rattle.core_laws.proofs.Outcomes.{steps_give}
+use Rattle.core_laws.specs.Steps.Outcomes.{may_have, Gives, gave, faulted}
+use Rattle.core_laws.proofs.Steps.Comes.{by_test}
+use Rattle.core_laws.proofs.Steps.Lists.{same_number}
+use Rattle.core_laws.proofs.Steps.Outcomes.{steps_give}
 use Rattle.keep_laws.proofs.Runs.{found}
 use Rattle.reply_laws.specs.Laws.{GivenRepliesHaveSources}
 use Rattle.reply_laws.specs.Sources as sources

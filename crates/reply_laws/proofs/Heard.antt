@@ -42,8 +42,8 @@ use Rattle.read_model.specs.Release.{stands, ask_stands, in_place}
 use Rattle.read_model.specs.State.{Reads, Ground, ground_of}
 use Rattle.read_model.specs.TakingOff.{is_writes}
 use Rattle.read_model.specs.WriteAnswers.{settled_ask, ending, wait_answered}
-use Rattle.read_laws.specs.InPlace.{placed_by}
-use Rattle.read_laws.proofs.InPlace.{answers_in_place, wins_in_place}
+use Rattle.core_laws.specs.PlainReads.InPlace.{placed_by}
+use Rattle.core_laws.proofs.PlainReads.InPlace.{answers_in_place, wins_in_place}
 use Rattle.core_model.specs.declared.event.CoreEvent.{CoreEvent}
 use Rattle.core_model.specs.declared.out_call.OutCall.{OutCall}
 use Rattle.core_model.specs.declared.out_call.OutJob.TheVariants as job
@@ -53,9 +53,9 @@ use Rattle.core_model.specs.Fits.{has_number, writing_tickets, write_tickets, As
 use Rattle.core_model.specs.Lookups.{moment, reads_of, live_number}
 use Rattle.core_model.specs.State.{Core}
 use Rattle.core_model.specs.Step.{stepped}
-use Rattle.core_laws.proofs.Comes.{by_test}
-use Rattle.core_laws.proofs.Lists.{same_number}
-use Rattle.core_laws.proofs.WaitEnds.{IsRemoved, EndsAs, EndedIf, answered_ends, found_ticket}
+use Rattle.core_laws.proofs.Steps.Comes.{by_test}
+use Rattle.core_laws.proofs.Steps.Lists.{same_number}
+use Rattle.core_laws.proofs.Steps.WaitEnds.{IsRemoved, EndsAs, EndedIf, answered_ends, found_ticket}
 use Rattle.keep_laws.proofs.Rows.{All, all_mapped, all_kept, Settles, all_write}
 use Rattle.reply_laws.specs.Sources as sources
 use Rattle.core_fits.specs.Fits.{is_reading}

@@ -66,7 +66,7 @@ use Rattle.core_model.specs.Takes.{item_taken, taken, on_take, watcher_left, lef
 use Rattle.core_model.specs.Takes as takes
 use Rattle.core_model.specs.Watching.{stream_message, stream_item, taken_item}
 use Rattle.core_model.specs.Watching as watching
-use Rattle.core_laws.proofs.Comes.{by_test}
+use Rattle.core_laws.proofs.Steps.Comes.{by_test}
 use Rattle.keep_laws.proofs.Rows.{All, all_mapped, all_filtered, all_pushed}
 
 -- it doesn't stand at a call of its own that is out

@@ -48,8 +48,8 @@ use Rattle.core_model.specs.State.{Seat, Opening, Core}
 use Rattle.core_model.specs.Step.{is_worn, happened, stepped}
 use Rattle.core_model.specs.Stepped.{Stepped, faults, counted, counted_by}
 use Rattle.core_model.specs.Watching.{with_watches, stream_job}
-use Rattle.core_laws.proofs.Comes.{by_test}
-use Rattle.core_laws.proofs.Lists.{same_number}
+use Rattle.core_laws.proofs.Steps.Comes.{by_test}
+use Rattle.core_laws.proofs.Steps.Lists.{same_number}
 use Rattle.keep_laws.proofs.Rows.{All, all_mapped, all_kept}
 use Rattle.keep_laws.proofs.Runs.{found}
 use Rattle.reply_laws.specs.Laws.{StartsNamed, StepsName}

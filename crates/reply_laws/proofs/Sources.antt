@@ -11,7 +11,7 @@ use Rattle.core_model.specs.Fits.{CoreOk}
 use Rattle.core_model.specs.State.{Core}
 use Rattle.core_model.specs.Step.{is_worn, happened, stepped}
 use Rattle.core_model.specs.Stepped.{Stepped, faults, counted, counted_by}
-use Rattle.core_laws.proofs.Comes.{by_test}
+use Rattle.core_laws.proofs.Steps.Comes.{by_test}
 use Rattle.keep_laws.proofs.Rows.{All}
 use Rattle.keep_laws.proofs.Runs.{found}
 use Rattle.keep_laws.proofs.Steps.{tick_step, item_step, cut_step, take_step}

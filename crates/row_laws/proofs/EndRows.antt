@@ -25,7 +25,7 @@ use Rattle.wait_model.specs.Stages.{is_waiting, is_owner, is_due}
 use Rattle.wait_model.specs.State.{Ownership}
 use Rattle.wait_model.specs.Writes.{first_by, without_first, has_ticket}
 use Rattle.wait_model.proofs.Tables.{at-each, at-without}
-use Rattle.wait_laws.proofs.Steps.{forgetting_keeps}
+use Rattle.core_laws.proofs.Writes.Steps.{forgetting_keeps}
 use Rattle.read_model.specs.declared.acquire.Acquire.{Acquire}
 use Rattle.read_model.specs.declared.asked.Asked.{Asked}
 use Rattle.read_model.specs.PlainRead.{ask_key, acquirable, decision, begun_under, decided_ground}
@@ -34,10 +34,10 @@ use Rattle.read_model.specs.SessionEnd.{is_due_acquire, dropped, over}
 use Rattle.read_model.specs.SessionEnd as ends
 use Rattle.read_model.specs.State.{Ground, Moment, ground_of}
 use Rattle.read_model.specs.TakingOff.{is_writes, forgotten_all, falls}
-use Rattle.read_laws.proofs.Grounds.{frees}
-use Rattle.lease_moves.specs.View as view
-use Rattle.lease_moves.specs.View.{Slot, View}
-use Rattle.lease_moves.specs.Answers.{withdraws, gives_up, forgets, Reaches}
+use Rattle.core_laws.proofs.PlainReads.Grounds.{frees}
+use Rattle.cache_laws.specs.Moves.View as view
+use Rattle.cache_laws.specs.Moves.View.{Slot, View}
+use Rattle.cache_laws.specs.Moves.Answers.{withdraws, gives_up, forgets, Reaches}
 use Rattle.row_laws.specs.Rows.{write_number, phase_in, written_in, acquired_by, spoiled_by, slot_of, row_of}
 use Rattle.row_laws.specs.Laws.{Rows, with_own, ReleasesTurn, TakenOffTurns, SessionOverTurns}
 use Rattle.row_laws.proofs.Reaching.{same_slot, one_turn, reaches_on}

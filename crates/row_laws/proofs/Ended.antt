@@ -18,11 +18,11 @@ use Rattle.wait_model.specs.Phases.{if_written, is_of, rescind_sent}
 use Rattle.wait_model.specs.Stages.{is_waiting, is_owner}
 use Rattle.wait_model.specs.Writes.{first_by, without_first, with_first, sends}
 use Rattle.wait_model.proofs.Tables.{at-each}
-use Rattle.wait_laws.proofs.Kept.{first_passes}
+use Rattle.core_laws.proofs.Writes.Kept.{first_passes}
 use Rattle.read_model.specs.declared.acquire.Acquire.{Acquire}
 use Rattle.read_model.specs.State.{Ground}
-use Rattle.lease_moves.specs.View.{View}
-use Rattle.lease_moves.specs.Answers.{Reaches}
+use Rattle.cache_laws.specs.Moves.View.{View}
+use Rattle.cache_laws.specs.Moves.Answers.{Reaches}
 use Rattle.row_laws.specs.Rows.{write_number, slot_of, row_of}
 use Rattle.row_laws.specs.Laws.{Rows, with_own}
 use Rattle.row_laws.specs.Endings.{RefusedTurns, LostTurns, AskingEndsTurns, AskingTurns, RescindedTurns, RescindLostTurns}

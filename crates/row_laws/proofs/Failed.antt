@@ -11,12 +11,12 @@ use Rattle.wait_model.specs.declared.sending.Sending.TheVariants as sending
 use Rattle.wait_model.specs.declared.write.WriteStage.{WriteStage}
 use Rattle.wait_model.specs.Fits.{stage_over}
 use Rattle.wait_model.specs.Phases.{is_session, own_entry}
-use Rattle.wait_laws.proofs.Phases.{not_some}
+use Rattle.core_laws.proofs.Writes.Phases.{not_some}
 use Rattle.read_model.specs.declared.acquire.Acquire.{Acquire}
 use Rattle.read_model.specs.Acquires.{found_own}
 use Rattle.read_model.specs.State.{Ground}
-use Rattle.lease_moves.specs.View.{Slot, View}
-use Rattle.lease_moves.specs.Answers.{IsShown, ends_acquire, finds, Reaches}
+use Rattle.cache_laws.specs.Moves.View.{Slot, View}
+use Rattle.cache_laws.specs.Moves.Answers.{IsShown, ends_acquire, finds, Reaches}
 use Rattle.row_laws.specs.Rows.{slot_of, row_of}
 use Rattle.row_laws.specs.Laws.{IsLive}
 use Rattle.row_laws.specs.Endings.{ShowsOwner, FailsTurn, AcquireEndsTurn}

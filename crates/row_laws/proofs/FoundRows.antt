@@ -27,13 +27,13 @@ use Rattle.wait_model.specs.Phases.{if_written, is_session, own_entry}
 use Rattle.wait_model.specs.Stages.{is_waiting, is_owner}
 use Rattle.wait_model.specs.Writes.{first_by, with_first, sends}
 use Rattle.wait_model.proofs.Tables.{at-each, at-without}
-use Rattle.wait_laws.proofs.Kept.{first_passes}
-use Rattle.wait_laws.proofs.Phases.{not_some}
+use Rattle.core_laws.proofs.Writes.Kept.{first_passes}
+use Rattle.core_laws.proofs.Writes.Phases.{not_some}
 use Rattle.read_model.specs.declared.acquire.Acquire.{Acquire}
 use Rattle.read_model.specs.State.{Ground}
-use Rattle.lease_moves.specs.View as view
-use Rattle.lease_moves.specs.View.{Slot, View}
-use Rattle.lease_moves.specs.Answers.{IsShown, returns, gives_up, Reaches}
+use Rattle.cache_laws.specs.Moves.View as view
+use Rattle.cache_laws.specs.Moves.View.{Slot, View}
+use Rattle.cache_laws.specs.Moves.Answers.{IsShown, returns, gives_up, Reaches}
 use Rattle.row_laws.specs.Rows.{write_number, phase_in, written_in, acquired_by, spoiled_by, slot_of, row_of}
 use Rattle.row_laws.specs.Laws.{Rows, IsLive, AreMarked, with_own, AreFound, Blocked, BlockedTurns}
 use Rattle.row_laws.proofs.Reaching.{same_slot, one_turn, reaches_on, at_one}

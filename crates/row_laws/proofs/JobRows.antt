@@ -14,14 +14,14 @@ use Rattle.wait_model.specs.declared.write.WriteStage.{WriteStage}
 use Rattle.wait_model.specs.Fits.{Fits, stage_over}
 use Rattle.wait_model.specs.Phases.{is_rescind_due_phase, rescind_sent}
 use Rattle.wait_model.specs.Sent.{create_or_zero}
-use Rattle.wait_laws.proofs.Phases.{not_some}
+use Rattle.core_laws.proofs.Writes.Phases.{not_some}
 use Rattle.read_model.specs.declared.acquire.Acquire.{Acquire}
 use Rattle.read_model.specs.Acquires.{sent_out}
 use Rattle.read_model.specs.State.{Ground}
-use Rattle.lease_moves.specs.View as view
-use Rattle.lease_moves.specs.View.{Slot, Call, View}
-use Rattle.lease_moves.specs.Sends.{Becomes, stays, acquires}
-use Rattle.lease_moves.specs.Answers.{Reaches}
+use Rattle.cache_laws.specs.Moves.View as view
+use Rattle.cache_laws.specs.Moves.View.{Slot, Call, View}
+use Rattle.cache_laws.specs.Moves.Sends.{Becomes, stays, acquires}
+use Rattle.cache_laws.specs.Moves.Answers.{Reaches}
 use Rattle.row_laws.specs.Rows.{phase_in, phase_of, number_of, slot_of, row_of}
 use Rattle.row_laws.specs.Laws.{AreMarked, with_own, SendsAt}
 use Rattle.row_laws.specs.Sendings.{IsRescindCall, RescindSends, IsAcquireCall, unspoiled, sent_ground, AcquireSends, SpoiledTurns}

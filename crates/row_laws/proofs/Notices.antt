@@ -15,9 +15,9 @@ use Rattle.wait_model.specs.Notices.{revoked_turn}
 use Rattle.wait_model.specs.Phases.{is_session, own_entry}
 use Rattle.wait_model.specs.Sent.{create_or_zero}
 use Rattle.read_model.specs.declared.acquire.Acquire.{Acquire}
-use Rattle.lease_moves.specs.View.{Slot, View, live}
-use Rattle.lease_moves.specs.Answers.{IsShown, spoils, gives_up, finds, Reaches}
-use Rattle.lease_moves.proofs.Numbers.{same_number}
+use Rattle.cache_laws.specs.Moves.View.{Slot, View, live}
+use Rattle.cache_laws.specs.Moves.Answers.{IsShown, spoils, gives_up, finds, Reaches}
+use Rattle.cache_laws.proofs.Moves.Numbers.{same_number}
 use Rattle.row_laws.specs.Rows.{number_of, phase_in, phase_of, record_of, written_in, written_by, acquired_by, spoiled_in, spoiled_by, slot_of, row_of}
 use Rattle.row_laws.specs.Laws.{IsLive, with_own, NoticesTurn}
 use Rattle.row_laws.proofs.Reaching.{same_slot, one_turn, at_one}

@@ -16,11 +16,11 @@ use Rattle.wait_model.specs.GuardedAnswers.{owns, owns_at}
 use Rattle.wait_model.specs.Sent.{create_or_zero, restaged, stage_sent}
 use Rattle.wait_model.specs.Stages.{is_waiting, is_owner}
 use Rattle.wait_model.specs.Writes.{with_first}
-use Rattle.wait_laws.proofs.Passes.{cond_true, cond_false}
+use Rattle.core_laws.proofs.Writes.Passes.{cond_true, cond_false}
 use Rattle.read_model.specs.declared.acquire.Acquire.{Acquire}
-use Rattle.lease_moves.specs.View as view
-use Rattle.lease_moves.specs.View.{Absent, Writes, Slot, Call, View}
-use Rattle.lease_moves.specs.Sends.{stays, writes}
+use Rattle.cache_laws.specs.Moves.View as view
+use Rattle.cache_laws.specs.Moves.View.{Absent, Writes, Slot, Call, View}
+use Rattle.cache_laws.specs.Moves.Sends.{stays, writes}
 use Rattle.row_laws.specs.Rows.{write_number, phase_in, written_in, acquired_by, spoiled_by, slot_of, row_of}
 use Rattle.row_laws.specs.Laws.{IsWriteCall, SendsAt, with_own, WriteSends}
 use Rattle.row_laws.proofs.Stages.{found_stage, away_stage, over_restaged}

@@ -25,8 +25,8 @@ use Rattle.wait_model.specs.State.{Ownership}
 use Rattle.wait_model.proofs.Tables.{at-each}
 use Rattle.read_model.specs.declared.acquire.Acquire.{Acquire}
 use Rattle.read_model.specs.State.{Ground}
-use Rattle.lease_moves.specs.View.{View}
-use Rattle.lease_moves.specs.Answers.{IsShown, Reaches}
+use Rattle.cache_laws.specs.Moves.View.{View}
+use Rattle.cache_laws.specs.Moves.Answers.{IsShown, Reaches}
 use Rattle.row_laws.specs.Rows.{write_number, written_by, slot_of, row_of}
 use Rattle.row_laws.specs.Laws.{Rows, AreMarked, IsLive, with_own}
 use Rattle.row_laws.specs.Notices.{DeletesTurn, TellsChange, AreTold, MessagesTurn, ResyncTurns, CancellationTurns}

@@ -12,13 +12,13 @@ use Rattle.wait_model.specs.declared.write.WriteStage.{WriteStage}
 use Rattle.wait_model.specs.Asked.{is_true, is_spoiled}
 use Rattle.wait_model.specs.Fits.{stage_over}
 use Rattle.wait_model.specs.Phases.{is_session}
-use Rattle.wait_laws.proofs.Phases.{not_some}
+use Rattle.core_laws.proofs.Writes.Phases.{not_some}
 use Rattle.read_model.specs.declared.acquire.Acquire.{Acquire}
 use Rattle.read_model.specs.Acquires.{won}
-use Rattle.lease_moves.specs.View as view
-use Rattle.lease_moves.specs.View.{Slot, View, live}
-use Rattle.lease_moves.specs.Answers.{holds, gives_back, Reaches}
-use Rattle.lease_moves.proofs.Numbers.{same_number}
+use Rattle.cache_laws.specs.Moves.View as view
+use Rattle.cache_laws.specs.Moves.View.{Slot, View, live}
+use Rattle.cache_laws.specs.Moves.Answers.{holds, gives_back, Reaches}
+use Rattle.cache_laws.proofs.Moves.Numbers.{same_number}
 use Rattle.row_laws.specs.Rows.{number_of, spoiled_in, slot_of, row_of}
 use Rattle.row_laws.specs.Laws.{IsLive, Won, is_held_then, WinsTurn}
 use Rattle.row_laws.proofs.Reaching.{same_slot, one_turn}

@@ -14,8 +14,8 @@ use Rattle.wait_model.specs.Writes.{first_by, sends}
 use Rattle.read_model.specs.declared.acquire.Acquire.{Acquire}
 use Rattle.read_model.specs.Acquires.{acquire_gone, with_entry, found_own}
 use Rattle.read_model.specs.State.{Ground}
-use Rattle.lease_moves.specs.View.{View}
-use Rattle.lease_moves.specs.Answers.{IsShown}
+use Rattle.cache_laws.specs.Moves.View.{View}
+use Rattle.cache_laws.specs.Moves.Answers.{IsShown}
 use Rattle.row_laws.specs.Laws.{Rows, AreMarked, IsLive, with_own}
 
 -- A write.

@@ -9,8 +9,8 @@ use Rattle.proxy_model.specs.Foreign.{revoke_word}
 use Rattle.wait_model.specs.LeasingStream.{resynced, all_given_up}
 use Rattle.wait_model.specs.Notices.{delete_noticed, owned_key, all_noticed}
 use Rattle.read_model.specs.State.{Ground}
-use Rattle.lease_moves.specs.View.{View}
-use Rattle.lease_moves.specs.Answers.{IsShown}
+use Rattle.cache_laws.specs.Moves.View.{View}
+use Rattle.cache_laws.specs.Moves.Answers.{IsShown}
 use Rattle.row_laws.specs.Laws.{Rows, AreMarked, IsLive, with_own}
 
 -- an ownership key was deleted: nothing is asked of the event

@@ -10,7 +10,7 @@ use Rattle.wait_model.specs.State.{Ownership}
 use Rattle.read_model.specs.declared.acquire.Acquire.{Acquire}
 use Rattle.read_model.specs.Acquires.{sent_out}
 use Rattle.read_model.specs.State.{Ground}
-use Rattle.lease_moves.specs.View.{Acquires, Rescinds, Call, View}
+use Rattle.cache_laws.specs.Moves.View.{Acquires, Rescinds, Call, View}
 use Rattle.row_laws.specs.Laws.{Rows, AreMarked, with_own, SendsAt}
 use Rattle.row_laws.specs.Rows.{row_of}
 

@@ -1,8 +1,8 @@
 use crate::plan::Plan;
 use etcd_types::NoMemory;
 use std::alloc::Global;
-use std::sync::atomic::AtomicU64;
 use std::sync::atomic::Ordering::SeqCst;
+use std::sync::atomic::{AtomicBool, AtomicU64};
 use std::sync::{Mutex, Wait};
 use std::thread;
 
@@ -14,7 +14,8 @@ const TURNS: u32 = 10_000_000;
 pub struct Board {
     pub(crate) plan: Plan,
     begun: AtomicU64,
-    answered: AtomicU64,
+    /// Whether an answer was read.
+    answered: AtomicBool,
     /// How many streams were begun.
     pub(crate) streams: AtomicU64,
     closed: AtomicU64,
@@ -27,7 +28,7 @@ impl Board {
         Board {
             plan,
             begun: AtomicU64::new(0),
-            answered: AtomicU64::new(0),
+            answered: AtomicBool::new(false),
             streams: AtomicU64::new(0),
             closed: AtomicU64::new(0),
             first: Mutex::new(Vec::new(alloc)),
@@ -42,7 +43,7 @@ impl Board {
             return self.plan.answer(call);
         }
         for _ in 0..TURNS {
-            if self.answered.load(SeqCst) != 0 {
+            if self.answered.load(SeqCst) {
                 return self.plan.answer(call);
             }
             thread::yield_now();
@@ -52,7 +53,7 @@ impl Board {
 
     /// The answer to a call was read.
     pub(crate) fn note_answer(&self) {
-        self.answered.fetch_add(1, SeqCst);
+        self.answered.store(true, SeqCst);
     }
 
     /// A connection is closed.

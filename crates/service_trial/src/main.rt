@@ -1,131 +1,115 @@
-//! A started server, whose parts run in threads, over a link and connections of a trial: two clients at once, where the link holds the first
-//! call until the second was answered, so that a server that served one client after the other would never answer the first; then single
-//! clients, with calls, reads, writes and streams that fail; then each start of a part and each call of the host failing in turn. It prints
-//! what each client was told, and how often members were called.
+//! Tables of what a started server, the machine that its threads share, and the reading and writing of HTTP/1.1 come to.
+//!
+//! The standard input has tables, each after a line `table NAME`, and a row a line.
+//!
+//! `wire`, cases on `http_wire`: the kind of a case, what is tried, and what has to come of it. Bytes and texts are spelled as in
+//! scripts. Each case that differs is printed, and at the end of all the number of cases and of those that differ.
+//! - `request BYTES LOG`, `answer BYTES LOG`: what is read in one piece, in two pieces at each cut, and byte by
+//!   byte.
+//! - `awaited BYTES LOG`, `lines MOST BYTES LOG`, `whole MOST BYTES LOG`: the same, where each request is waited for twice
+//!   before it is read; where a line has at most so many bytes; where each answer's body is read whole, of at most so many.
+//! - `alone MOST BYTES LOG`: the first answer with its whole body, in one piece, and whether bytes are held after it.
+//! - `request_failing BYTES LOG`: byte by byte, and with each read failing in turn.
+//! - `request_at_once BYTES LOG`, `answer_at_once BYTES LOG`: in one piece, where the second read fails.
+//! - `request_filled FRONT FILLING TIMES BACK LOG`: the filling so many times between the front and the back.
+//! - `body FRONT COUNT BACK TOLD`, `line FRONT COUNT BACK TOLD`: so many bytes between the front and the back; the length of
+//!   the first request's body, or of the first answer's first line, or the fault.
+//! - `reply STATUS BODY BYTES`, `bodiless STATUS BODY BYTES`, `continue BYTES`, `begin BYTES`, `chunk PIECE BYTES`, `end BYTES`: what is written, at once,
+//!   a few bytes at a time, and with each write failing in turn.
+//! - `call HOST PATH BODY BYTES`, `kept_call HOST PATH BODY BYTES`: the bytes of a call to a member, on a connection of its own and
+//!   on one that stays.
+//!
+//! `hub`, races on `turn_hub`: `PAIRS LETTERS`, the number of pairs, at most 32, and of the letters that each pass takes. Pairs of
+//! passes play a letter to and fro through one mailbox, and each waits until its letter is there. A wake-up that was lost would
+//! show as a wait of 10 seconds.
+//!
+//! `clients`, plans by their names in `src/plan.rt`, each by a started server in threads, over a link and connections of a trial: two
+//! clients at once, where the link holds the first call until the second was answered, so that a server that served one client after
+//! the other would never answer the first; single clients, with calls, reads, writes and streams that fail. What each client was told,
+//! and how often members were called, is printed.
+//!
+//! `starts`, whose one row is `all`: each start of a part and each call of the host failing in turn, with how the server ends.
 #![tactic(auto)]
 
 mod board;
+mod cases;
 mod ends;
 mod link;
+mod logs;
+mod mailbox;
+mod marked;
+mod outcome;
+mod part;
+mod pieces;
 mod plan;
+mod races;
+mod servers;
 mod settings;
 mod starts;
 
-use crate::board::Board;
-use crate::ends::TrialEnds;
+use crate::cases::try_line;
 use crate::plan::Plan;
-use crate::settings::{clients, service};
-use crate::starts::{Fails, started};
-use etcd_types::NoMemory;
-use outside::{MemHost, Spawner};
+use crate::races::show_race;
+use crate::servers::{ends_of, serve_clients, show, show_starts};
 use part_threads::spawner_of;
-use proxy_parts::Place;
-use proxy_service::serve;
 use std::alloc::Global;
-use std::rt::Clock as Times;
-use std::sync::{Arc, Wait};
-use std::time::Duration;
-use std::{io, str, thread};
+use table_rows::Wrong;
 
-/// How often it is looked whether a plan is over, and how many milliseconds are between two looks.
-const LOOKS: u32 = 3_000;
-
-const LOOK: u64 = 10;
-
-/// What is tried, in this order.
-const PLANS: [Plan; 15] = [
-    Plan::Meeting,
-    Plan::Put,
-    Plan::SecondMember,
-    Plan::NoMember,
-    Plan::FailedPut,
-    Plan::NoJson,
-    Plan::Unavailable,
-    Plan::Future,
-    Plan::FailedRead(1),
-    Plan::FailedRead(2),
-    Plan::FailedWrite,
-    Plan::BrokenStream(1),
-    Plan::BrokenStream(2),
-    Plan::BrokenStream(3),
-    Plan::BrokenStream(4),
-];
-
-/// Serves the clients of a plan, and waits until it is over.
-fn serve_clients<R: Wait + Times, P: Spawner<Pass = Place, Conn = u32>>(
-    rt: &R,
-    alloc: Global,
-    board: &Board,
-    spawner: &mut P,
-) -> Result<(), NoMemory> {
-    let clients = clients(alloc, board.plan.clients())?;
-    let mut host = MemHost::new(alloc, clients, Vec::new(alloc));
-    let _ = serve(rt, alloc, service(alloc)?, &mut host, spawner);
-    for _ in 0..LOOKS {
-        if board.is_over(rt) {
-            break;
-        }
-        thread::sleep(rt, Duration::from_millis(LOOK));
-    }
-    Ok(())
+/// What the rows of a table are about.
+#[derive(Clone, Copy, Debug, PartialEq, Eq)]
+enum Table {
+    Wire,
+    Hub,
+    Clients,
+    Starts,
 }
 
-/// Prints what came of a plan.
-fn show<R: Wait + Print>(rt: &R, alloc: Global, board: &Board) -> io::Result<()> {
-    let plan = board.plan;
-    let calls = board.calls();
-    println!(rt; "{plan:?}: {calls} calls")?;
-    for client in 0..plan.clients() {
-        let Ok(told) = board.told(rt, alloc, client) else {
-            return println!(rt; "no memory");
-        };
-        println!(rt; "{}", str::from_utf8(told.as_slice()).unwrap_or("no text"))?;
-    }
-    Ok(())
-}
-
-/// What the parts of a plan's server meet, and what they and its clients share.
-fn ends_of<R: Wait + Times + Copy + Drop>(
-    rt: R,
-    alloc: Global,
-    plan: Plan,
-) -> Result<(TrialEnds<R>, Arc<Board, Global>), NoMemory> {
-    let board = Arc::new(alloc, Board::new(alloc, plan))?;
-    let ends = TrialEnds::new(rt, alloc, Arc::try_clone(&board)?)?;
-    Ok((ends, board))
-}
-
-/// Shows how a server ends where each start of a part, and then each call of the host, fails, and where the host is told to stop.
-fn show_failing<R: Wait + Print>(rt: &R, alloc: Global) -> io::Result<()> {
-    for number in 1..=5u64 {
-        if let Ok((end, parts)) = started(rt, alloc, Fails::Start(number)) {
-            println!(rt; "start {number} fails: {end}, {parts} parts")?;
+impl Table {
+    /// The table of this name.
+    fn named(name: &str) -> Result<Table, Wrong> {
+        match name {
+            "wire" => Ok(Table::Wire),
+            "hub" => Ok(Table::Hub),
+            "clients" => Ok(Table::Clients),
+            "starts" => Ok(Table::Starts),
+            _ => Err(Wrong::Word),
         }
     }
-    for number in 1..=4u64 {
-        if let Ok((end, parts)) = started(rt, alloc, Fails::Host(number)) {
-            println!(rt; "call {number} fails: {end}, {parts} parts")?;
-        }
-    }
-    if let Ok((end, parts)) = started(rt, alloc, Fails::Nothing) {
-        println!(rt; "no call fails: {end}, {parts} parts")?;
-    }
-    Ok(())
 }
 
-fn main(rt: HostRuntime) -> io::Result<()> {
+fn main(rt: HostRuntime) -> Result<(), Wrong> {
     let alloc: Global = rt.alloc();
-    for plan in PLANS {
-        let Ok((ends, board)) = ends_of(rt, alloc, plan) else {
-            return println!(rt; "no memory");
-        };
-        let Some(mut spawner) = spawner_of(rt, alloc, ends) else {
-            return println!(rt; "no memory or no thread");
-        };
-        if serve_clients(&rt, alloc, &board, &mut spawner).is_err() {
-            return println!(rt; "no memory");
+    let mut table: Option<Table> = None;
+    let mut cases = 0u64;
+    let mut differing = 0u64;
+    for line in rt.lines(alloc) {
+        let line = line?;
+        let line = line.as_str();
+        if let Some(name) = line.strip_prefix("table ") {
+            table = Some(Table::named(name)?);
+        } else if !line.is_empty() && !line.starts_with("#") {
+            match table.ok_or(Wrong::Word)? {
+                Table::Wire => {
+                    cases = cases.saturating_add(1);
+                    let outcome = try_line(alloc, line)?;
+                    if let Some(came) = outcome.differing() {
+                        differing = differing.saturating_add(1);
+                        println!(rt; "{line}\ncame {came}")?;
+                    }
+                }
+                Table::Hub => show_race(rt, alloc, line)?,
+                Table::Clients => {
+                    let (ends, board) = ends_of(rt, alloc, Plan::named(line)?)?;
+                    let Some(mut spawner) = spawner_of(rt, alloc, ends) else {
+                        return Err(Wrong::NoMemory);
+                    };
+                    serve_clients(&rt, alloc, &board, &mut spawner)?;
+                    show(&rt, alloc, &board)?;
+                }
+                Table::Starts => show_starts(&rt, alloc)?,
+            }
         }
-        show(&rt, alloc, &board)?;
     }
-    show_failing(&rt, alloc)
+    println!(rt; "{cases} cases, {differing} differ")?;
+    Ok(())
 }

@@ -1,3 +1,5 @@
+use table_rows::{Wrong, parts};
+
 /// A range of one key.
 const RANGE: &[u8] =
     b"POST /v3/kv/range HTTP/1.1\r\nHost: h\r\nContent-Length: 14\r\n\r\n{\"key\":\"YQ==\"}";
@@ -66,6 +68,34 @@ pub(crate) enum Plan {
 }
 
 impl Plan {
+    /// The plan of this name; which read fails comes after it.
+    pub(crate) fn named(row: &str) -> Result<Plan, Wrong> {
+        match row {
+            "Meeting" => Ok(Plan::Meeting),
+            "Put" => Ok(Plan::Put),
+            "SecondMember" => Ok(Plan::SecondMember),
+            "NoMember" => Ok(Plan::NoMember),
+            "FailedPut" => Ok(Plan::FailedPut),
+            "NoJson" => Ok(Plan::NoJson),
+            "Unavailable" => Ok(Plan::Unavailable),
+            "Future" => Ok(Plan::Future),
+            "FailedWrite" => Ok(Plan::FailedWrite),
+            _ => Plan::with_read(row),
+        }
+    }
+
+    fn with_read(row: &str) -> Result<Plan, Wrong> {
+        let (name, read) = parts(row, " ")?;
+        let Ok(read) = read.parse::<u64>() else {
+            return Err(Wrong::Word);
+        };
+        match name {
+            "FailedRead" => Ok(Plan::FailedRead(read)),
+            "BrokenStream" => Ok(Plan::BrokenStream(read)),
+            _ => Err(Wrong::Word),
+        }
+    }
+
     /// How many clients come.
     pub(crate) fn clients(self) -> u32 {
         if self == Plan::Meeting { 2 } else { 1 }

@@ -11,7 +11,7 @@ use Rattle.script_text.specs.declared.item.Item.TheVariants as item
 use Rattle.world_model.specs.declared.sent_call.SentCall.{SentCall}
 use Rattle.world_model.specs.Lives.{clock_by, clock_from, clock_of, is_call_of, sent_it, executed_to}
 use Rattle.world_model.specs.LiveSessions.{request_of_call, sent_clock_from, sent_clock}
-use Rattle.core_laws.proofs.Lists.{number_itself, number_turned}
+use Rattle.core_laws.proofs.Steps.Lists.{number_itself, number_turned}
 
 abbrev pub asked_by : Option SentCall → Option Request
 asked_by None = None

@@ -26,7 +26,7 @@ use Rattle.core_model.specs.Kinds.{is_body_of}
 use Rattle.core_model.specs.Lookups.{live_number, moment, reads_of, out_at, without_out}
 use Rattle.core_model.specs.Sessions.{without_session, seat_calls, seat_granted, seat_free, seat_renewed}
 use Rattle.core_model.specs.State.{Seat, Core}
-use Rattle.core_laws.proofs.Comes.{by_test}
+use Rattle.core_laws.proofs.Steps.Comes.{by_test}
 
 -- where a call is lost
 abbrev pub lost_seat : OutCall → OutJob → Option Seat → Option Seat

@@ -17,7 +17,7 @@ use Rattle.script_text.specs.declared.item.Item.{Item}
 use Rattle.script_text.specs.declared.item.Item.TheVariants as item
 use Rattle.world_model.specs.Lives.{begins, clock_by, clock_from, clock_of}
 use Rattle.world_model.specs.LiveSessions.{Session, is_step_of, put_under, acquires_under, ended_if, kept_until, done_with, heard_answer, session_heard, session_at, session_by, session_from, session_of}
-use Rattle.core_laws.proofs.Lists.{same_number}
+use Rattle.core_laws.proofs.Steps.Lists.{same_number}
 use Rattle.session_laws.specs.Told.{live_if, live_as, told_live}
 
 -- ---- at a look at the clock

@@ -15,7 +15,7 @@ use Rattle.core_model.specs.Sending.{session_out}
 use Rattle.core_model.specs.Sessions.{seat_is_over, is_sent_as, seat_calls, seat_granted, seat_free, seat_renewed}
 use Rattle.core_model.specs.State.{Seat}
 use Rattle.world_model.specs.LiveSessions.{Session, acquires_under, ended_if, kept_until, refused_with, session_at}
-use Rattle.core_laws.proofs.Lists.{same_number, number_itself, and_turned}
+use Rattle.core_laws.proofs.Steps.Lists.{same_number, number_itself, and_turned}
 use Rattle.core_fits.specs.Fits.{EachOf, IsSeatsCall, SeatIsNumbered}
 use Rattle.core_fits.proofs.Eachs.{each_kept}
 use Rattle.session_laws.specs.Told.{live_if, told_live, standing_live, seat_live, last_reading}

@@ -22,7 +22,7 @@ use Rattle.core_model.specs.State.{Seat, Core}
 use Rattle.world_model.specs.LiveSessions.{Session}
 use Rattle.core_fits.specs.Fits.{EachOf, IsSeatsCall, SeatHasItsJob}
 use Rattle.core_fits.proofs.Eachs.{each_kept}
-use Rattle.core_laws.proofs.Lists.{same_number}
+use Rattle.core_laws.proofs.Steps.Lists.{same_number}
 use Rattle.session_laws.specs.Told.{live_if, told_live, standing_live, seat_live, last_reading}
 use Rattle.session_laws.proofs.Acquires.{AcquiresKnown, clock_acquires}
 use Rattle.session_laws.proofs.Passing.{seat_after, clock_so}
@@ -173,7 +173,7 @@ seats_one call number None h k = absurd (cc)
 seats_one call number (Some s) h k = calls_one call number s.call h k
 
 not_itself : {A : Type 0} (o : OutCall) (call : ℕ) → IsOther call o → o.call ≡ call → A
-not_itself o call n e = absurd (let f : true ≡ false = sym (Rattle.core_laws.proofs.Lists.number_itself call) ∙ ap (λ (m : ℕ). m == call) (sym e) ∙ n in cc)
+not_itself o call n e = absurd (let f : true ≡ false = sym (Rattle.core_laws.proofs.Steps.Lists.number_itself call) ∙ ap (λ (m : ℕ). m == call) (sym e) ∙ n in cc)
 
 pub freed : (E : OfCall) (bound call : ℕ) (seat later : Option Seat) (o : OutCall) (j : OutJob) → seat_calls call seat ≡ true → SameNumber seat later → IsOther call o → JobKnown E bound seat o j → JobKnown E bound later o j
 freed E bound call seat later o (job.Grant lease) h n i k = not_itself o call i (seats_one call o.call seat h k.1)

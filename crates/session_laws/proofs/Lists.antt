@@ -1,7 +1,7 @@
 -- What stands in a list at a number, where one more is pushed or one is changed.
 use Rattle.std.proofs.Common.{◌≡◌, inl, inr, ℕ, zero, suc, ◌+◌, ◌-◌, ◌==◌, Bool, true, false, cond, List, [], ◌∷◌, ◌++◌, length, slice_get, Option, None, Some, refl, sym, ◌∙◌, ap, arith}
 use Rattle.world_model.specs.Places.{nth}
-use Rattle.core_laws.proofs.Lists.{number_itself}
+use Rattle.core_laws.proofs.Steps.Lists.{number_itself}
 use Rattle.held_laws.proofs.Opens.{nth_push}
 
 get_front : {A : Type 0} (xs : List A) (y : A) (i : ℕ) (z : A) → slice_get xs i ≡ Some z → slice_get (xs ++ y ∷ []) i ≡ Some z

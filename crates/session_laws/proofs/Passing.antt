@@ -34,7 +34,7 @@ use Rattle.core_model.specs.Watching as watching
 use Rattle.watch_model.specs.Lookups.{stream_at, watch_at, is_begun}
 use Rattle.watch_model.specs.State.{Stream, Watch, Broadcasts}
 use Rattle.watch_model.specs.Takes as watches
-use Rattle.core_laws.proofs.Comes.{by_test}
+use Rattle.core_laws.proofs.Steps.Comes.{by_test}
 
 -- the session behind the clock's work
 abbrev pub seat_after : ℕ → Option Seat → Option Seat

@@ -12,9 +12,9 @@ use Rattle.core_model.specs.Fits.{CoreOk}
 use Rattle.core_model.specs.State.{Core}
 use Rattle.core_model.specs.Step.{happened, stepped}
 use Rattle.core_model.specs.Takes.{ready}
-use Rattle.core_laws.specs.Kept.{IsHeard}
-use Rattle.core_laws.proofs.Staying.{steps_stay}
-use Rattle.core_laws.proofs.Stepping.{steps_keep}
+use Rattle.core_laws.specs.Steps.Kept.{IsHeard}
+use Rattle.core_laws.proofs.Steps.Staying.{steps_stay}
+use Rattle.core_laws.proofs.Steps.Stepping.{steps_keep}
 use Rattle.core_fits.specs.Fits.{CoreFits}
 use Rattle.core_fits.proofs.Fit.{fits_step}
 use Rattle.owner_fits.specs.Laws.{OwnersFit}

@@ -37,9 +37,9 @@ use Rattle.core_model.specs.State.{Seat, Core}
 use Rattle.core_model.specs.Step.{is_worn, happened, stepped}
 use Rattle.core_model.specs.Stepped.{Stepped, faults, counted, counted_by}
 use Rattle.world_model.specs.LiveSessions.{Session, ended_if, granted_until, kept_until, done_with, heard_answer, refused_with, session_at}
-use Rattle.core_laws.proofs.Comes.{by_test}
-use Rattle.core_laws.proofs.Outcomes.{worn_does_nothing}
-use Rattle.core_laws.proofs.Whole.{of_ok}
+use Rattle.core_laws.proofs.Steps.Comes.{by_test}
+use Rattle.core_laws.proofs.Steps.Outcomes.{worn_does_nothing}
+use Rattle.core_laws.proofs.Steps.Whole.{of_ok}
 use Rattle.core_fits.specs.Fits.{EachOf, IsSeatsCall, SeatHasItsJob, SeatIsNumbered, CoreFits}
 use Rattle.core_fits.proofs.Eachs.{each_kept}
 use Rattle.core_fits.proofs.Found.{each_out, out_number}

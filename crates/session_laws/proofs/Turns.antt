@@ -18,7 +18,7 @@ use Rattle.core_model.specs.Sending.{on_work}
 use Rattle.core_model.specs.Sessions.{drawn_session, seat_is_over, without_session}
 use Rattle.core_model.specs.State.{Core}
 use Rattle.core_model.specs.Step.{happened, stepped}
-use Rattle.core_laws.specs.Kept.{IsHeard}
+use Rattle.core_laws.specs.Steps.Kept.{IsHeard}
 use Rattle.core_fits.proofs.Prefix.{clock_prefix}
 use Rattle.script_text.specs.declared.item.Item.{Item}
 use Rattle.script_text.specs.declared.item.Item.TheVariants as item

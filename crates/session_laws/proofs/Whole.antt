@@ -14,8 +14,8 @@ use Rattle.proxy_model.specs.declared.session.TheConstants.{FIRST_SESSION}
 use Rattle.store_model.specs.Step.{exec}
 use Rattle.core_model.specs.declared.event.CoreEvent.TheVariants as event
 use Rattle.core_model.specs.Heard.{heard}
-use Rattle.core_laws.specs.Kept.{HeardBytes, IsHeard}
-use Rattle.core_laws.proofs.Lists.{number_itself, number_turned}
+use Rattle.core_laws.specs.Steps.Kept.{HeardBytes, IsHeard}
+use Rattle.core_laws.proofs.Steps.Lists.{number_itself, number_turned}
 use Rattle.core_fits.proofs.Fit.{fits_start}
 use Rattle.owner_fits.proofs.Runs.{starts_fit}
 use Rattle.script_text.specs.declared.item.Item.{Item}

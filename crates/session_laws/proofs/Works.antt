@@ -41,7 +41,7 @@ use Rattle.core_model.specs.Watching.{with_watches, stream_job}
 use Rattle.core_fits.specs.Fits.{EachOf}
 use Rattle.core_fits.proofs.Eachs.{each_kept, each_pushed}
 use Rattle.core_fits.proofs.Found.{each_write}
-use Rattle.core_laws.proofs.Lists.{number_itself}
+use Rattle.core_laws.proofs.Steps.Lists.{number_itself}
 use Rattle.world_model.specs.LiveSessions as told
 use Rattle.session_laws.specs.Told.{seat_live, standing_live}
 use Rattle.session_laws.proofs.Firsts.{AreApart, IsDueFor, KnownIf, first_known}

@@ -20,9 +20,9 @@ use Rattle.etcd_types.specs.declared.answer.Body.TheVariants as body
 use Rattle.core_model.specs.declared.event.CoreEvent.{CoreEvent}
 use Rattle.core_model.specs.Fits.{CoreOk}
 use Rattle.core_model.specs.Step.{stepped}
-use Rattle.core_laws.specs.Kept.{IsHeard}
-use Rattle.core_laws.proofs.Lists.{number_itself, number_turned, same_number}
-use Rattle.core_laws.proofs.Stepping.{steps_keep}
+use Rattle.core_laws.specs.Steps.Kept.{IsHeard}
+use Rattle.core_laws.proofs.Steps.Lists.{number_itself, number_turned, same_number}
+use Rattle.core_laws.proofs.Steps.Stepping.{steps_keep}
 use Rattle.script_text.specs.declared.item.Item.{Item}
 use Rattle.script_text.specs.declared.item.Item.TheVariants as item
 use Rattle.world_model.specs.declared.sent_call.SentCall.{SentCall}

@@ -5,7 +5,7 @@ ghost use Rattle.std.specs.Prelude.{◌≡◌, ◌<◌, true, All};
 ghost use Rattle.std.specs.List.{list_all, flat_map};
 ghost use Rattle.proxy_model.specs.Prefixes.{are_bytes};
 ghost use Rattle.proxy_model.specs.Readings.{records_of};
-ghost use Rattle.wait_laws.specs.Laws.{shows_bytes};
+ghost use Rattle.core_laws.specs.Writes.Laws.{shows_bytes};
 
 use etcd_types::{Body, Bytes, Kv};
 

@@ -11,7 +11,7 @@ use Rattle.core_model.specs.Sending.{next_call}
 use Rattle.core_model.specs.Sessions.{without_session, seat_is_over}
 use Rattle.core_model.specs.State.{Core}
 use Rattle.core_model.specs.Step.{is_worn}
-use Rattle.core_laws.proofs.Comes.{by_test}
+use Rattle.core_laws.proofs.Steps.Comes.{by_test}
 use Rattle.core_fits.specs.Fits.{EachOf}
 use Rattle.core_fits.proofs.Prefix.{clock_prefix}
 use Rattle.step_moves.specs.Work.{MaySend}

@@ -20,8 +20,8 @@ use Rattle.core_model.specs.Step.{opening_at, happened, is_worn, stepped}
 use Rattle.core_model.specs.Stepped.{Stepped, faults, counted_by, counted}
 use Rattle.core_model.specs.Takes.{taken_from, item_taken, taken, on_take, ready}
 use Rattle.core_model.specs.Watching.{taken_item}
-use Rattle.core_laws.proofs.Comes.{by_test}
-use Rattle.core_laws.proofs.Staying.{steps_stay}
+use Rattle.core_laws.proofs.Steps.Comes.{by_test}
+use Rattle.core_laws.proofs.Steps.Staying.{steps_stay}
 use Rattle.core_moves.specs.Sees.{Moves}
 use Rattle.event_moves.proofs.Events.{events_move}
 use Rattle.world_model.specs.Gains.{Replies, with_reply, fetched_as, fetched_if, fetched}

@@ -13,7 +13,7 @@ use Rattle.etcd_types.specs.declared.request.Request.TheVariants as request
 use Rattle.proxy_model.specs.Wrapped.{compare_under, operation_under, row_under, transaction_under, request_under}
 use Rattle.store_model.specs.FirstRefusals.{compare_lacks_key, lacks_key, lacks_key_row}
 use Rattle.store_model.proofs.RefusalLemmas.{lacks_key_is_txn}
-use Rattle.space_laws.specs.Laws.{request_lacks}
+use Rattle.namespace_laws.specs.Stored.Laws.{request_lacks}
 
 -- no longer than the namespace, whose length is `n`
 abbrev compare_ends : ℕ → Compare → Bool

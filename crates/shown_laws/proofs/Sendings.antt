@@ -14,12 +14,12 @@ use Rattle.core_model.specs.declared.settings.Settings.{Settings}
 use Rattle.core_model.specs.Sending.{next_call}
 use Rattle.core_model.specs.State.{Core}
 use Rattle.core_model.specs.Step.{opening_at, stepped}
-use Rattle.core_laws.proofs.Staying.{steps_stay}
+use Rattle.core_laws.proofs.Steps.Staying.{steps_stay}
 use Rattle.core_fits.specs.Fits.{EachOf}
 use Rattle.core_fits.proofs.Eachs.{each_pushed}
-use Rattle.space_laws.specs.Laws.{request_lacks}
-use Rattle.lease_moves.specs.View.{Call, Outcome, Slot, View, put}
-use Rattle.lease_moves.proofs.Numbers.{other_number, itself, put_here, put_other}
+use Rattle.namespace_laws.specs.Stored.Laws.{request_lacks}
+use Rattle.cache_laws.specs.Moves.View.{Call, Outcome, Slot, View, put}
+use Rattle.cache_laws.proofs.Moves.Numbers.{other_number, itself, put_here, put_other}
 use Rattle.call_laws.specs.Forms.{Form, asked_by, IsFormed}
 use Rattle.core_moves.specs.Answers.{form_of_job}
 use Rattle.core_moves.specs.Sees.{Sees}

@@ -40,10 +40,10 @@ use Rattle.core_model.specs.State.{Seat, Core}
 use Rattle.core_model.specs.Stepped.{Stepped}
 use Rattle.core_model.specs.Watching.{streams_sent}
 use Rattle.store_model.specs.Refusals.{too_many_operations}
-use Rattle.core_laws.proofs.Due.{DueIf, DueOk, first_due}
-use Rattle.space_laws.specs.Laws.{request_lacks}
-use Rattle.image_laws.specs.Named.{has_keys, is_leasing}
-use Rattle.image_laws.proofs.Bare.{acquire_bare, rescind_bare, revoke_bare, guarded_bare, served_keys, numbered_bare}
+use Rattle.core_laws.proofs.Steps.Due.{DueIf, DueOk, first_due}
+use Rattle.namespace_laws.specs.Stored.Laws.{request_lacks}
+use Rattle.namespace_laws.specs.Images.Named.{has_keys, is_leasing}
+use Rattle.namespace_laws.proofs.Images.Bare.{acquire_bare, rescind_bare, revoke_bare, guarded_bare, served_keys, numbered_bare}
 use Rattle.core_fits.proofs.Found.{each_write}
 use Rattle.owner_fits.proofs.Runs.{due_acquires_stand}
 use Rattle.step_moves.specs.Work.{call_in, MaySend}

@@ -18,9 +18,9 @@ use Rattle.core_model.specs.Sending.{next_call, out_call, on_work}
 use Rattle.core_model.specs.State.{Seat, Core}
 use Rattle.core_model.specs.Step.{stepped}
 use Rattle.core_model.specs.Stepped.{Stepped, counted_by, counted}
-use Rattle.space_laws.specs.Laws.{request_lacks}
-use Rattle.lease_moves.specs.View.{Term, Call, View, put}
-use Rattle.lease_moves.specs.Invariant.{Inv}
+use Rattle.namespace_laws.specs.Stored.Laws.{request_lacks}
+use Rattle.cache_laws.specs.Moves.View.{Term, Call, View, put}
+use Rattle.cache_laws.specs.Moves.Invariant.{Inv}
 use Rattle.call_laws.specs.Forms.{Form, asked_by, IsFormed}
 use Rattle.core_moves.specs.Answers.{form_of_job}
 use Rattle.core_moves.specs.Sees.{term_by, term_of, Sees, Alike, Moves}

@@ -21,11 +21,11 @@ use Rattle.core_model.specs.declared.out_call.OutJob.TheVariants as job
 use Rattle.core_model.specs.Lookups.{reads_of, with_reads}
 use Rattle.core_model.specs.Sending.{next_call, acquires_sent}
 use Rattle.core_model.specs.State.{Seat, Core}
-use Rattle.lease_moves.specs.View as view
-use Rattle.lease_moves.specs.View.{Term, View, no_call}
-use Rattle.lease_moves.specs.Invariant.{Inv}
+use Rattle.cache_laws.specs.Moves.View as view
+use Rattle.cache_laws.specs.Moves.View.{Term, View, no_call}
+use Rattle.cache_laws.specs.Moves.Invariant.{Inv}
 use Rattle.row_laws.proofs.JobRows.{acquire_sends, spoiled_turns}
-use Rattle.store_moves.specs.StoreView.{is_client}
+use Rattle.cache_laws.specs.Store.StoreView.{is_client}
 use Rattle.call_laws.specs.Forms.{Acquires}
 use Rattle.core_fits.specs.Fits.{SeatIsNumbered}
 use Rattle.owner_fits.specs.Acquires.{number_by, standing_number, IsDueAt}

@@ -23,11 +23,11 @@ use Rattle.core_model.specs.Kinds.{has_some, writes_keys, kind_of}
 use Rattle.core_model.specs.Refusals.{touches, reserved_range, writes_too_much, refusal_of}
 use Rattle.core_model.specs.Sending.{next_call, called_as, ask_sent, keeps_sent, goes_out}
 use Rattle.core_model.specs.State.{Core}
-use Rattle.lease_moves.specs.View.{View, no_call}
-use Rattle.lease_moves.specs.Invariant.{Inv}
-use Rattle.lease_moves.proofs.Numbers.{other_number}
-use Rattle.guard_laws.proofs.CoversProofs.{covers_is_names}
-use Rattle.store_moves.specs.CallSteps.{IsOther}
+use Rattle.cache_laws.specs.Moves.View.{View, no_call}
+use Rattle.cache_laws.specs.Moves.Invariant.{Inv}
+use Rattle.cache_laws.proofs.Moves.Numbers.{other_number}
+use Rattle.cache_laws.proofs.Guards.CoversProofs.{covers_is_names}
+use Rattle.cache_laws.specs.Store.CallSteps.{IsOther}
 use Rattle.call_laws.specs.Forms.{Form, Grants, Keeps, Ends, Reads, asked_by, IsFormed}
 use Rattle.core_fits.specs.Fits.{EachOf, CoreFits}
 use Rattle.core_moves.specs.Sees.{Sees}

@@ -5,10 +5,10 @@ use Rattle.proxy_model.specs.Wrapped.{request_under}
 use Rattle.core_model.specs.declared.out_call.OutJob.{OutJob}
 use Rattle.core_model.specs.Sending.{next_call, out_call, goes_out}
 use Rattle.core_model.specs.State.{Core}
-use Rattle.lease_moves.specs.View.{Acquires, Slot, Call, View}
-use Rattle.lease_moves.specs.Invariant.{Inv}
-use Rattle.lease_moves.specs.Sends.{sent_by}
-use Rattle.lease_moves.proofs.SendProofs.{sends_keep}
+use Rattle.cache_laws.specs.Moves.View.{Acquires, Slot, Call, View}
+use Rattle.cache_laws.specs.Moves.Invariant.{Inv}
+use Rattle.cache_laws.specs.Moves.Sends.{sent_by}
+use Rattle.cache_laws.proofs.Moves.SendProofs.{sends_keep}
 use Rattle.row_laws.specs.Laws.{SendsAt}
 use Rattle.row_laws.specs.Rows.{row_of}
 use Rattle.row_laws.proofs.SendRows.{uncompared}

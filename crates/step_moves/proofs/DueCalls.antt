@@ -27,7 +27,7 @@ use Rattle.wait_model.specs.Phases.{is_rescind_due}
 use Rattle.wait_model.specs.Stages.{is_due}
 use Rattle.wait_model.specs.Writes.{first_by, has_ticket}
 use Rattle.core_model.specs.Fits.{has_number, once, write_tickets}
-use Rattle.core_laws.proofs.Lists.{number_itself, number_turned}
+use Rattle.core_laws.proofs.Steps.Lists.{number_itself, number_turned}
 use Rattle.core_fits.specs.Fits.{EachOf}
 use Rattle.owner_fits.specs.Names.{is_named, found_named, stage_named}
 

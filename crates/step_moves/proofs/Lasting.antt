@@ -6,12 +6,12 @@ use Rattle.core_model.specs.Asking.{is_leased_read}
 use Rattle.core_model.specs.Fits.{CoreOk}
 use Rattle.core_model.specs.State.{Core, first_core}
 use Rattle.core_model.specs.Step.{stepped}
-use Rattle.core_laws.specs.Kept.{after, ran, Timed, AllHeard}
-use Rattle.core_laws.proofs.Middle.{clock_whole}
-use Rattle.core_laws.proofs.Start.{start_fits}
-use Rattle.core_laws.proofs.Staying.{steps_stay}
-use Rattle.core_laws.proofs.Stepping.{steps_keep}
-use Rattle.core_laws.proofs.Whole.{of_ok}
+use Rattle.core_laws.specs.Steps.Kept.{after, ran, Timed, AllHeard}
+use Rattle.core_laws.proofs.Steps.Middle.{clock_whole}
+use Rattle.core_laws.proofs.Steps.Start.{start_fits}
+use Rattle.core_laws.proofs.Steps.Staying.{steps_stay}
+use Rattle.core_laws.proofs.Steps.Stepping.{steps_keep}
+use Rattle.core_laws.proofs.Steps.Whole.{of_ok}
 use Rattle.core_fits.specs.Fits.{EachOf, is_reading, CoreFits}
 use Rattle.core_fits.proofs.Eachs.{each_kept}
 use Rattle.core_fits.proofs.Fit.{fits_start, fits_step}

@@ -43,7 +43,7 @@ use Rattle.wait_model.specs.SingleKeys.{Turn, any_key, keys_begun, by_keys, let_
 use Rattle.wait_model.specs.Stages.{staged, gone_on, is_due, is_owner, is_waiting, stage_on}
 use Rattle.wait_model.specs.State.{Ownership}
 use Rattle.wait_model.specs.Writes.{first_by, has_ticket, sends, asks, job_of}
-use Rattle.core_laws.proofs.Comes.{by_test}
+use Rattle.core_laws.proofs.Steps.Comes.{by_test}
 
 abbrev pub Rises : Keyed Entry → Type 0
 Rises es = is_in_order es ≡ true

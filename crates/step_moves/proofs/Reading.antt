@@ -26,7 +26,7 @@ use Rattle.read_model.specs.SessionEnd.{over, session_over, dropped}
 use Rattle.read_model.specs.State.{Reads, Moment, Ground, ground_of, on}
 use Rattle.read_model.specs.TakingOff.{is_writes, forgotten_all, falls, taken_off}
 use Rattle.read_model.specs.WriteAnswers.{settled_ask, ending, answered_by, wait_answered, wait_lost}
-use Rattle.core_laws.proofs.Comes.{by_test}
+use Rattle.core_laws.proofs.Steps.Comes.{by_test}
 use Rattle.core_fits.specs.Fits.{EachOf}
 use Rattle.step_moves.proofs.Orders.{Rises, Ordered, EndOrdered, at_rises, answered_ordered, lost_ordered, forgotten_ordered}
 use Rattle.step_moves.proofs.Stages.{Fits, told_fits, told_lost_fits, settled_fits, released_each, each_fits}

@@ -14,11 +14,11 @@ use Rattle.core_model.specs.declared.out_call.OutJob.TheVariants as job
 use Rattle.core_model.specs.Fits.{passes, is_write_job}
 use Rattle.core_model.specs.Sending.{next_call, writes_sent}
 use Rattle.core_model.specs.State.{Core}
-use Rattle.core_laws.proofs.Calls.{is_new_wait}
-use Rattle.core_laws.proofs.WaitEnds.{nobody_sends}
-use Rattle.lease_moves.specs.View as view
-use Rattle.lease_moves.specs.View.{Slot, View, no_call}
-use Rattle.lease_moves.specs.Invariant.{Inv}
+use Rattle.core_laws.proofs.Steps.Calls.{is_new_wait}
+use Rattle.core_laws.proofs.Steps.WaitEnds.{nobody_sends}
+use Rattle.cache_laws.specs.Moves.View as view
+use Rattle.cache_laws.specs.Moves.View.{Slot, View, no_call}
+use Rattle.cache_laws.specs.Moves.Invariant.{Inv}
 use Rattle.row_laws.specs.Rows.{row_of}
 use Rattle.row_laws.proofs.JobRows.{rescind_sends}
 use Rattle.call_laws.specs.Forms.{Rescinds, Revokes}

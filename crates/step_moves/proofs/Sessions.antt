@@ -7,10 +7,10 @@ use Rattle.core_model.specs.DueJobs.{ForSession}
 use Rattle.core_model.specs.Sending.{next_call, session_out, seat_sent, session_sent, goes_out}
 use Rattle.core_model.specs.Sessions.{session_request}
 use Rattle.core_model.specs.State.{Core}
-use Rattle.core_laws.proofs.Due.{DueOk}
-use Rattle.lease_moves.specs.View as view
-use Rattle.lease_moves.specs.View.{View, no_call}
-use Rattle.lease_moves.specs.Invariant.{Inv}
+use Rattle.core_laws.proofs.Steps.Due.{DueOk}
+use Rattle.cache_laws.specs.Moves.View as view
+use Rattle.cache_laws.specs.Moves.View.{View, no_call}
+use Rattle.cache_laws.specs.Moves.Invariant.{Inv}
 use Rattle.call_laws.specs.Forms.{Grants, Keeps}
 use Rattle.core_fits.specs.Fits.{SeatIsNumbered}
 use Rattle.core_moves.specs.Sees.{term_by, term_of, Sees}

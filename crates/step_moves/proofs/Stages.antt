@@ -34,9 +34,9 @@ use Rattle.core_model.specs.Kinds.{is_read, writes_keys}
 use Rattle.core_model.specs.Lookups.{has_ticket, stage_calls, calls_as}
 use Rattle.core_model.specs.Sending.{called_as}
 use Rattle.core_model.specs.State.{Core}
-use Rattle.core_laws.proofs.Comes.{by_test}
-use Rattle.core_laws.proofs.Due.{is_called_due}
-use Rattle.core_laws.proofs.TakenOff.{never_both}
+use Rattle.core_laws.proofs.Steps.Comes.{by_test}
+use Rattle.core_laws.proofs.Steps.Due.{is_called_due}
+use Rattle.core_laws.proofs.Steps.TakenOff.{never_both}
 use Rattle.core_fits.specs.Fits.{EachOf, is_reading}
 use Rattle.core_fits.proofs.Eachs.{each_mapped}
 use Rattle.step_moves.specs.Work.{is_calling, is_called}

@@ -15,9 +15,9 @@ use Rattle.wait_model.specs.Fits.{stage_over}
 use Rattle.wait_model.specs.Sent.{stage_revoking}
 use Rattle.wait_model.specs.Stages.{staged}
 use Rattle.wait_model.specs.Writes.{first_by, with_first, stage_sends, sends}
-use Rattle.wait_laws.proofs.FoundWrite.{head_found, rest_found}
+use Rattle.core_laws.proofs.Writes.FoundWrite.{head_found, rest_found}
 use Rattle.core_model.specs.Fits.{HaveRanges}
-use Rattle.core_laws.proofs.Comes.{by_test}
+use Rattle.core_laws.proofs.Steps.Comes.{by_test}
 use Rattle.row_laws.specs.Rows.{write_number, written_in, written_by}
 
 -- of all writes, of the first that passes

@@ -21,7 +21,7 @@ use Rattle.core_model.specs.Lookups.{ask_at, calls_as, has_ticket, is_known, lea
 use Rattle.core_model.specs.Sessions.{deadline_passed, grant_failed, granted_by, keep_failed, kept, kept_by, seat_calls, seat_is_over, seat_ticked, without_session}
 use Rattle.core_model.specs.State.{Core, Opening}
 use Rattle.core_model.specs.Stepped.{Stepped, counted, counted_by, faults}
-use Rattle.core_laws.proofs.Comes.{by_test}
+use Rattle.core_laws.proofs.Steps.Comes.{by_test}
 use Rattle.etcd_types.specs.declared.answer.Refusal.{Refusal}
 use Rattle.etcd_types.specs.declared.request.Request.{Request}
 use Rattle.wait_model.specs.Asked.{submitted}
@@ -49,7 +49,7 @@ use Rattle.watch_model.specs.State.{Broadcasts, Stream, Watch}
 use Rattle.core_fits.specs.Fits.{EachOf, is_reading}
 use Rattle.core_fits.proofs.Eachs.{each_filtered, each_pushed}
 use Rattle.core_model.specs.Fits.{Agrees}
-use Rattle.core_laws.proofs.Due.{DueIf, first_due}
+use Rattle.core_laws.proofs.Steps.Due.{DueIf, first_due}
 use Rattle.etcd_types.specs.Keys.{is_empty}
 use Rattle.etcd_types.proofs.Bools.{not_false}
 use Rattle.step_moves.specs.Work.{is_called, is_calling}

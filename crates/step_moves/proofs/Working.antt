@@ -16,10 +16,10 @@ use Rattle.core_model.specs.DueJobs.{DueJob, ForSession, ForWrites, ForAcquire, 
 use Rattle.core_model.specs.Sending.{next_call, writes_sent, sent_by, on_work}
 use Rattle.core_model.specs.State.{Core}
 use Rattle.core_model.specs.Watching.{streams_sent}
-use Rattle.core_laws.proofs.Due.{DueIf, first_due}
-use Rattle.core_laws.proofs.Requests.{once_writing}
-use Rattle.lease_moves.specs.View.{View}
-use Rattle.lease_moves.specs.Invariant.{Inv}
+use Rattle.core_laws.proofs.Steps.Due.{DueIf, first_due}
+use Rattle.core_laws.proofs.Steps.Requests.{once_writing}
+use Rattle.cache_laws.specs.Moves.View.{View}
+use Rattle.cache_laws.specs.Moves.Invariant.{Inv}
 use Rattle.owner_fits.proofs.Runs.{due_acquires_stand}
 use Rattle.core_moves.specs.Sees.{Sees}
 use Rattle.core_moves.proofs.Clocks.{stays_so}

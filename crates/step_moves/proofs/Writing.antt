@@ -28,15 +28,15 @@ use Rattle.core_model.specs.declared.out_call.OutJob.TheVariants as job
 use Rattle.core_model.specs.Refusals.{refusal_of}
 use Rattle.core_model.specs.Sending.{next_call, writes_sent}
 use Rattle.core_model.specs.State.{Core}
-use Rattle.lease_moves.specs.View as view
-use Rattle.lease_moves.specs.View.{View, no_call}
-use Rattle.lease_moves.specs.Invariant.{Inv}
-use Rattle.guard_laws.specs.Covers as guards
-use Rattle.guard_laws.specs.Covers.{AreGuards}
+use Rattle.cache_laws.specs.Moves.View as view
+use Rattle.cache_laws.specs.Moves.View.{View, no_call}
+use Rattle.cache_laws.specs.Moves.Invariant.{Inv}
+use Rattle.cache_laws.specs.Guards.Covers as guards
+use Rattle.cache_laws.specs.Guards.Covers.{AreGuards}
 use Rattle.row_laws.specs.Laws.{IsWriteCall}
 use Rattle.row_laws.proofs.SendRows.{write_sends}
-use Rattle.store_moves.specs.CallSteps.{op_unleased, is_unleased}
-use Rattle.store_moves.specs.StoreView.{is_client}
+use Rattle.cache_laws.specs.Store.CallSteps.{op_unleased, is_unleased}
+use Rattle.cache_laws.specs.Store.StoreView.{is_client}
 use Rattle.call_laws.specs.Forms.{Writes, MayWrite}
 use Rattle.call_laws.proofs.Serving.{served_writes_may_be_sent}
 use Rattle.core_fits.proofs.Found.{each_write}

@@ -17,8 +17,8 @@ use Rattle.core_model.specs.Kinds.{writes_keys}
 use Rattle.core_model.specs.Sending.{next_call, out_call, on_work}
 use Rattle.core_model.specs.State.{Core}
 use Rattle.core_model.specs.Stepped.{Stepped}
-use Rattle.lease_moves.specs.View.{Call, View, put}
-use Rattle.lease_moves.specs.Invariant.{Inv}
+use Rattle.cache_laws.specs.Moves.View.{Call, View, put}
+use Rattle.cache_laws.specs.Moves.Invariant.{Inv}
 use Rattle.call_laws.specs.Forms.{Form, asked_by, IsFormed}
 use Rattle.core_fits.specs.Fits.{EachOf, CoreFits}
 use Rattle.owner_fits.specs.Laws.{OwnersFit, NamesIn}

@@ -90,5 +90,3 @@ telling_on done new part rest whole all w n h = rw (n, append_assoc done part re
 
 pub going_on : (n m k : ℕ) (part rest whole : List Event) → whole ≡ part ++ rest → m ≡ next_after n part → next_after n whole ≡ k → next_after m rest ≡ k
 going_on n m k part rest whole w e h = rw (e, ← next_after-append n part rest, ← w) h
-
-pub ruleset of_events = (told-revision, next_after-append)

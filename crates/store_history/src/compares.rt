@@ -1,31 +1,9 @@
-ghost use Rattle.std.specs.Prelude.{◌≡◌, IfOk};
+ghost use Rattle.std.specs.Prelude.{◌≡◌};
 ghost use Rattle.std.specs.List.{list_all};
-ghost use Rattle.store_model.specs.History.{with_revision};
-ghost use Rattle.store_model.specs.Compares.{relation_holds, part_cmp, record_holds, absent_holds, holds_of, compare_holds, all_hold};
+ghost use Rattle.store_model.specs.Compares.{relation_holds, part_cmp, record_holds, absent_holds, holds_of};
 
-use crate::records::records_now;
-use etcd_types::{Compare, Kv, List, NoMemory, Relation, Target};
-use std::alloc::Global;
+use etcd_types::{Compare, Kv, Relation, Target};
 use std::cmp::Ordering;
-use store_model::KeyChange;
-
-/// Whether all compares hold on the history.
-pub fn all_hold(
-    alloc: Global,
-    revisions: &[List<KeyChange>],
-    made: &[KeyChange],
-    compares: &[Compare],
-) -> Result<bool, NoMemory>
-    ensures { IfOk result (λ holds. holds ≡ all_hold (with_revision revisions.now made.now) compares.now) }
-{
-    for compare in compares {
-        let records = records_now(alloc, revisions, made, &compare.range)?;
-        if !holds_of(compare, records.as_slice()) {
-            return Ok(false);
-        }
-    }
-    Ok(true)
-}
 
 /// Whether the compare holds of every one of these records, which are those of its range.
 #[tactic(auto, using(crate::proofs::CompareLemmas::of_compares))]

@@ -1,37 +1,8 @@
 ghost use Rattle.std.specs.Prelude.{◌≡◌, map, IfOk};
-ghost use Rattle.store_model.specs.History.{with_revision};
-ghost use Rattle.store_model.specs.Ranges.{records_now};
-ghost use Rattle.store_model.specs.Reads.{is_unsupported, without_value, limited, shown, range_body, asked_history, read};
+ghost use Rattle.store_model.specs.Reads.{is_unsupported, without_value, limited, shown, range_body};
 
-use crate::records::{records_now, up_to_revision};
-use etcd_types::{Body, Bytes, KeyRange, Kv, List, NoMemory, RangeAsk, Refusal, Sort};
+use etcd_types::{Body, Bytes, Kv, List, NoMemory, RangeAsk, Sort};
 use std::alloc::Global;
-use store_model::KeyChange;
-use store_refusals as refusals;
-
-/// What the range is answered on the revisions with `made` as the last one, where `latest` is the newest revision.
-pub fn read(
-    alloc: Global,
-    revisions: &[List<KeyChange>],
-    made: &[KeyChange],
-    latest: u64,
-    compacted: u64,
-    ask: &RangeAsk,
-) -> Result<Result<Body, Refusal>, NoMemory>
-    ensures { IfOk result (λ told. told ≡ read (with_revision revisions.now made.now) latest compacted ask.now) }
-{
-    if latest < ask.revision {
-        return Ok(Err(refusals::future_revision(alloc)?));
-    }
-    if ask.revision != 0 && ask.revision < compacted {
-        return Ok(Err(refusals::compacted_revision(alloc)?));
-    }
-    if is_unsupported(&ask.sort) {
-        return Ok(Err(refusals::unsupported(alloc)?));
-    }
-    let records = asked_records(alloc, revisions, made, ask.revision, &ask.range)?;
-    Ok(Ok(range_body(alloc, ask, records)?))
-}
 
 /// Whether the range asks for an order or for a filter that is not supported.
 pub fn is_unsupported(sort: &Sort) -> bool
@@ -43,23 +14,6 @@ pub fn is_unsupported(sort: &Sort) -> bool
         || sort.max_mod != 0
         || sort.min_create != 0
         || sort.max_create != 0
-}
-
-fn asked_records(
-    alloc: Global,
-    revisions: &[List<KeyChange>],
-    made: &[KeyChange],
-    revision: u64,
-    range: &KeyRange,
-) -> Result<List<Kv>, NoMemory>
-    ensures { IfOk result (λ records. records ≡ records_now (asked_history (with_revision revisions.now made.now) revision) range.now) }
-{
-    if revision == 0 || (revisions.len() as u64) < revision - 1 {
-        Ok(records_now(alloc, revisions, made, range)?)
-    } else {
-        let earlier = up_to_revision(revisions, revision);
-        Ok(records_now(alloc, earlier, &[], range)?)
-    }
 }
 
 /// What a range that these are the records of is answered.

@@ -15,10 +15,10 @@ use Rattle.store_model.specs.declared.history.KeyChange.{KeyChange}
 use Rattle.store_model.specs.declared.history.KeyChange.TheVariants.{Put, Delete}
 use Rattle.store_model.specs.History.{changed_key}
 use Rattle.store_model.specs.Records.{after_change}
-use Rattle.kept_model.specs.declared.version.Version.{Version}
-use Rattle.kept_model.specs.Versions.{versions_in, last_left}
-use Rattle.kept_model.specs.Places.{changed_keys}
-use Rattle.kept_model.proofs.VersionProofs.{last_left-append}
+use Rattle.compaction_model.specs.declared.version.Version.{Version}
+use Rattle.compaction_model.specs.Versions.{versions_in, last_left}
+use Rattle.compaction_model.specs.Places.{changed_keys}
+use Rattle.compaction_model.proofs.VersionProofs.{last_left-append}
 use Rattle.store_index.specs.Maps.{Entries, versions_of, found, added_at, taken, HaveVersions}
 use Rattle.store_index.specs.Adding.{version_from, version_of, with_change, added_all, taken_all, with_changes}
 use Rattle.store_index.proofs.EntryLemmas.{versions-added, added-HaveVersions, taken-added}

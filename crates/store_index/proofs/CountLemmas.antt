@@ -7,8 +7,8 @@ use Rattle.etcd_types.proofs.Bools.{true_or_false}
 use Rattle.store_model.specs.History.{History}
 use Rattle.store_model.specs.Leases.{all_keys}
 use Rattle.store_model.specs.Ranges.{keys_in}
-use Rattle.kept_model.specs.declared.version.Version.{Version}
-use Rattle.kept_model.specs.Versions.{kept, kept_versions}
+use Rattle.compaction_model.specs.declared.version.Version.{Version}
+use Rattle.compaction_model.specs.Versions.{kept, kept_versions}
 use Rattle.store_index.specs.Maps.{Entries, AreOrdered, versions_of}
 use Rattle.store_index.specs.Leases.{has_key}
 use Rattle.store_index.specs.Count.{count_kept}

@@ -8,7 +8,7 @@ use Rattle.std.specs.Cmp.Lexicographic.{slice_cmp}
 use Rattle.etcd_types.specs.Keys.{up_to, before, same}
 use Rattle.etcd_types.proofs.Bools.{and_both, and_first, and_second, or_either, or_left, or_right, false_not}
 use Rattle.etcd_types.proofs.KeyOrder.{same-equal, same-itself, up_to-both, before-up_to, before-along, not_before_itself}
-use Rattle.store_laws.specs.Ranges.{AreRising}
+use Rattle.store_laws.specs.Requests.Ranges.{AreRising}
 use Rattle.store_index.specs.Leases.{has_key, AreOrderedKeys}
 use Rattle.store_index.proofs.ListedRecords.{less_before}
 

@@ -12,9 +12,9 @@ use Rattle.store_model.specs.History.{History, changed_key}
 use Rattle.store_model.specs.Records.{after_change, after_changes}
 use Rattle.store_model.specs.Ranges.{with_key, with_changed_key, with_changed_keys, with_history_keys, keys_in}
 use Rattle.store_model.specs.Leases.{all_keys}
-use Rattle.store_laws.specs.Ranges.{AreRising}
-use Rattle.kept_model.specs.declared.version.Version.{Version}
-use Rattle.kept_model.specs.Versions.{versions, versions_in, versions_from}
+use Rattle.store_laws.specs.Requests.Ranges.{AreRising}
+use Rattle.compaction_model.specs.declared.version.Version.{Version}
+use Rattle.compaction_model.specs.Versions.{versions, versions_in, versions_from}
 use Rattle.store_index.specs.Leases.{has_key}
 use Rattle.store_index.proofs.Gathering.{has_first, before_from}
 

@@ -8,11 +8,11 @@ use Rattle.store_model.specs.declared.history.KeyChange.{KeyChange}
 use Rattle.store_model.specs.History.{History, newest, with_revision, up_to_revision}
 use Rattle.store_model.specs.Records.{record_now}
 use Rattle.store_model.specs.Ranges.{records_now, records_in}
-use Rattle.kept_model.specs.declared.version.Version.{Version}
-use Rattle.kept_model.specs.Versions.{last_left, up_to, kept, kept_versions}
-use Rattle.kept_model.specs.Places.{changed_keys, kept_places}
-use Rattle.kept_model.proofs.KeptProofs.{kept_give_now, kept_give_earlier, kept_grow, kept_again}
-use Rattle.kept_model.proofs.PlaceProofs.{places_grow, places_again}
+use Rattle.compaction_model.specs.declared.version.Version.{Version}
+use Rattle.compaction_model.specs.Versions.{last_left, up_to, kept, kept_versions}
+use Rattle.compaction_model.specs.Places.{changed_keys, kept_places}
+use Rattle.compaction_model.proofs.KeptProofs.{kept_give_now, kept_give_earlier, kept_grow, kept_again}
+use Rattle.compaction_model.proofs.PlaceProofs.{places_grow, places_again}
 use Rattle.store_index.specs.declared.index.Index.{Index}
 use Rattle.store_index.specs.Maps.{Entries, AreOrdered, versions_of, left_by, shown_by}
 use Rattle.store_index.specs.Adding.{added_all, with_changes}

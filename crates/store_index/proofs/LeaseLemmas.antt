@@ -23,9 +23,9 @@ use Rattle.store_model.specs.declared.history.KeyChange.{KeyChange}
 use Rattle.store_model.specs.declared.history.KeyChange.TheVariants.{Put, Delete}
 use Rattle.store_model.specs.History.{changed_key}
 use Rattle.store_model.specs.Leases.{all_keys, is_attached}
-use Rattle.kept_model.specs.declared.version.Version.{Version}
-use Rattle.kept_model.specs.Versions.{last_left, held_left, held_of, held_list, kept_with, kept}
-use Rattle.kept_model.proofs.VersionProofs.{last_left-append}
+use Rattle.compaction_model.specs.declared.version.Version.{Version}
+use Rattle.compaction_model.specs.Versions.{last_left, held_left, held_of, held_list, kept_with, kept}
+use Rattle.compaction_model.proofs.VersionProofs.{last_left-append}
 use Rattle.store_index.specs.Maps.{Entries, AreOrdered, versions_of, found, left_by, shown_by}
 use Rattle.store_index.specs.Adding.{version_from, version_of, with_change, added_all}
 use Rattle.store_index.specs.Leases.{Links, has_key, AreOrderedKeys, linked_keys, is_linked, Stay, is_put_linked, AreCovered, attached_at, lease_left, Unlinks}

@@ -24,10 +24,10 @@ use Rattle.store_model.specs.History.{History}
 use Rattle.store_model.specs.Records.{record_now}
 use Rattle.store_model.specs.Ranges.{records_now}
 use Rattle.store_model.specs.Leases.{record_key}
-use Rattle.store_laws.specs.Ranges.{AreRising}
-use Rattle.store_laws.proofs.RangeProofs.{keyed-now, ranges_rise, ranges_are_exact}
-use Rattle.kept_laws.proofs.SameRecords.{rising_same}
-use Rattle.kept_model.specs.declared.version.Version.{Version}
+use Rattle.store_laws.specs.Requests.Ranges.{AreRising}
+use Rattle.store_laws.proofs.Requests.RangeProofs.{keyed-now, ranges_rise, ranges_are_exact}
+use Rattle.compaction_laws.proofs.SameRecords.{rising_same}
+use Rattle.compaction_model.specs.declared.version.Version.{Version}
 use Rattle.store_index.specs.Maps.{Entries, AreOrdered, versions_of, shown_by}
 use Rattle.store_index.specs.Listings.{ListingsAreRanges}
 

@@ -9,7 +9,7 @@ use Rattle.std.specs.BTreeMap.Range.{entries_between}
 use Rattle.std.proofs.lemmas.List.{append-nil}
 use Rattle.etcd_types.specs.declared.record.Kv.{Kv}
 use Rattle.etcd_types.specs.declared.key_range.KeyRange.{KeyRange}
-use Rattle.kept_model.specs.declared.version.Version.{Version}
+use Rattle.compaction_model.specs.declared.version.Version.{Version}
 use Rattle.store_index.specs.Bounds.{BoundsOf}
 use Rattle.store_index.specs.Maps.{Entries, shown_by}
 

@@ -13,7 +13,7 @@ use Rattle.etcd_types.specs.declared.key_range.KeyRange.{KeyRange}
 use Rattle.etcd_types.specs.Keys.{same, up_to, before, is_zero}
 use Rattle.etcd_types.specs.Ranges.{is_one, contains}
 use Rattle.etcd_types.proofs.KeyOrder.{same-equal}
-use Rattle.kept_model.specs.declared.version.Version.{Version}
+use Rattle.compaction_model.specs.declared.version.Version.{Version}
 use Rattle.store_index.specs.Maps.{Entries, AreOrdered, versions_of, found, left_by, shown_by}
 use Rattle.store_index.proofs.EntryLemmas.{same-sym}
 use Rattle.store_index.proofs.ListedRecords.{shown-cons}

@@ -6,9 +6,9 @@ use Rattle.std.proofs.lemmas.List.{take_more}
 use Rattle.std.proofs.lemmas.List.Elements.{filter-append}
 use Rattle.std.proofs.lemmas.Option.{slice_get_within, get_or_from_slice_get, slice_get-get_or}
 use Rattle.std.proofs.lemmas.Bool.Decides.{nat_tests}
-use Rattle.kept_model.specs.declared.version.Version.{Version}
-use Rattle.kept_model.specs.Versions.{last_left, up_to, is_up_to}
-use Rattle.kept_model.proofs.VersionProofs.{last_left-append}
+use Rattle.compaction_model.specs.declared.version.Version.{Version}
+use Rattle.compaction_model.specs.Versions.{last_left, up_to, is_up_to}
+use Rattle.compaction_model.proofs.VersionProofs.{last_left-append}
 
 up_to-push : (r : ℕ) (vs : List Version) (v : Version) → last_left (up_to r (vs ++ v ∷ [])) None ≡ cond (nat_le v.revision r) v.left (last_left (up_to r vs) None)
 up_to-push r vs v =

@@ -12,10 +12,10 @@ use Rattle.store_model.specs.History.{History, newest, with_revision}
 use Rattle.store_model.specs.Records.{after_changes, record_now}
 use Rattle.store_model.specs.Ranges.{records_now}
 use Rattle.store_model.proofs.HistoryLemmas.{record_now-with_revision}
-use Rattle.store_laws.proofs.RangeProofs.{keyed-now, ranges_are_exact}
-use Rattle.kept_model.specs.declared.version.Version.{Version}
-use Rattle.kept_model.specs.Versions.{last_left, versions_in}
-use Rattle.kept_model.proofs.VersionProofs.{last_left-append, last_in}
+use Rattle.store_laws.proofs.Requests.RangeProofs.{keyed-now, ranges_are_exact}
+use Rattle.compaction_model.specs.declared.version.Version.{Version}
+use Rattle.compaction_model.specs.Versions.{last_left, versions_in}
+use Rattle.compaction_model.proofs.VersionProofs.{last_left-append, last_in}
 use Rattle.store_index.specs.Maps.{Entries, AreOrdered, versions_of, HaveVersions, left_by, shown_by}
 use Rattle.store_index.specs.Adding.{added_all, with_changes}
 use Rattle.store_index.specs.Seen.{with_record, with_records}

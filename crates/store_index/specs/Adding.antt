@@ -5,8 +5,8 @@ use Rattle.etcd_types.specs.Records.{after_put}
 use Rattle.store_model.specs.declared.history.KeyChange.{KeyChange}
 use Rattle.store_model.specs.declared.history.KeyChange.TheVariants.{Put, Delete}
 use Rattle.store_model.specs.History.{changed_key}
-use Rattle.kept_model.specs.declared.version.Version.{Version}
-use Rattle.kept_model.specs.Versions.{versions_in, last_left}
+use Rattle.compaction_model.specs.declared.version.Version.{Version}
+use Rattle.compaction_model.specs.Versions.{versions_in, last_left}
 use Rattle.store_index.specs.Maps.{Entries, versions_of, added, taken}
 
 -- the version that a change makes, where `old` is its key's record before it

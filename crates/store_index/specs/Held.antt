@@ -1,7 +1,7 @@
 -- The put that is held on to, behind the versions passed.
 use Rattle.std.specs.Prelude.{List, [], ◌∷◌, Option}
-use Rattle.kept_model.specs.declared.version.Version.{Version}
-use Rattle.kept_model.specs.Versions.{held_of}
+use Rattle.compaction_model.specs.declared.version.Version.{Version}
+use Rattle.compaction_model.specs.Versions.{held_of}
 
 abbrev pub held_last : List Version → Option Version → Option Version
 held_last [] held = held

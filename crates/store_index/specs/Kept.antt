@@ -2,8 +2,8 @@
 -- keeps, and which keys each revision from the compaction on changed.
 use Rattle.std.specs.Prelude.{◌≡◌, ◌≤◌, ℕ, List}
 use Rattle.store_model.specs.History.{History, newest}
-use Rattle.kept_model.specs.Versions.{kept_versions}
-use Rattle.kept_model.specs.Places.{kept_places}
+use Rattle.compaction_model.specs.Versions.{kept_versions}
+use Rattle.compaction_model.specs.Places.{kept_places}
 use Rattle.store_index.specs.Maps.{Entries, versions_of}
 
 -- these are exactly what is kept of this history, where `latest` is its newest revision and `c` the compaction

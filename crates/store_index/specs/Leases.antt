@@ -11,7 +11,7 @@ use Rattle.etcd_types.specs.declared.record.Kv.{Kv}
 use Rattle.store_model.specs.declared.history.KeyChange.{KeyChange}
 use Rattle.store_model.specs.declared.history.KeyChange.TheVariants.{Put, Delete}
 use Rattle.store_model.specs.Leases.{is_attached}
-use Rattle.kept_model.specs.Versions.{last_left}
+use Rattle.compaction_model.specs.Versions.{last_left}
 use Rattle.store_index.specs.Maps.{Entries, versions_of}
 
 -- each lease with keys, which rise

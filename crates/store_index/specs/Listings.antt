@@ -6,7 +6,7 @@ use Rattle.etcd_types.specs.Ranges.{contains}
 use Rattle.store_model.specs.History.{History}
 use Rattle.store_model.specs.Records.{record_now}
 use Rattle.store_model.specs.Ranges.{records_now}
-use Rattle.kept_model.specs.declared.version.Version.{Version}
+use Rattle.compaction_model.specs.declared.version.Version.{Version}
 use Rattle.store_index.specs.Maps.{Entries, AreOrdered, versions_of, shown_by}
 
 abbrev pub ListingsAreRanges : Type 0

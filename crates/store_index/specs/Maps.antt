@@ -9,8 +9,8 @@ use Rattle.std.specs.Cmp.Lexicographic.{slice_cmp}
 use Rattle.etcd_types.specs.declared.record.Kv.{Kv}
 use Rattle.etcd_types.specs.declared.key_range.KeyRange.{KeyRange}
 use Rattle.etcd_types.specs.Ranges.{contains}
-use Rattle.kept_model.specs.declared.version.Version.{Version}
-use Rattle.kept_model.specs.Versions.{last_left, up_to}
+use Rattle.compaction_model.specs.declared.version.Version.{Version}
+use Rattle.compaction_model.specs.Versions.{last_left, up_to}
 
 -- the entries of the map: each key with its versions
 abbrev pub Entries : Type 0

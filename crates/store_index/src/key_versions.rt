@@ -1,9 +1,9 @@
 ghost use Rattle.std.specs.Prelude.{◌≡◌, ◌-◌, ◌≤◌, ◌==◌, None, [], ◌∷◌, ◌++◌, length, take, drop, IfOk, OnOk, OnErr};
-ghost use Rattle.kept_model.specs.Versions.{held_list, kept};
+ghost use Rattle.compaction_model.specs.Versions.{held_list, kept};
 ghost use Rattle.store_index.specs.Held.{held_last};
 
+use compaction_model::Version;
 use etcd_types::NoMemory;
-use kept_model::Version;
 use std::alloc::Global;
 use std::marker::Model;
 
@@ -15,7 +15,7 @@ pub(crate) struct KeyVersions {
 
 impl Model for KeyVersions {
     ghost use Rattle.std.specs.Prelude.{List};
-    ghost use Rattle.kept_model.specs.declared.version.Version.{Version};
+    ghost use Rattle.compaction_model.specs.declared.version.Version.{Version};
 
     ghost Value = { List Version };
 

@@ -2,8 +2,8 @@ ghost use Rattle.std.specs.Prelude.{◌≡◌, ◌<◌, ℕ, List as Values, [],
 ghost use Rattle.std.specs.List.{flat_map};
 ghost use Rattle.std.specs.Option.{option_copied};
 ghost use Rattle.store_model.specs.Leases.{is_attached, all_keys};
-ghost use Rattle.kept_model.specs.Places.{changed_keys};
-ghost use Rattle.kept_model.specs.Versions.{kept};
+ghost use Rattle.compaction_model.specs.Places.{changed_keys};
+ghost use Rattle.compaction_model.specs.Versions.{kept};
 ghost use Rattle.store_index.specs.Maps.{versions_of, HaveVersions, AreOrdered, left_by, shown_by};
 ghost use Rattle.store_index.specs.Adding.{added_all};
 ghost use Rattle.store_index.specs.Leases.{AreCovered, lease_left};
@@ -12,8 +12,8 @@ use crate::changes::Changes;
 use crate::lease_keys::LeaseKeys;
 use crate::reading::left_now;
 use crate::versions::Versions;
+use compaction_model::Version;
 use etcd_types::{Bytes, KeyRange, Kv, List, NoMemory};
-use kept_model::Version;
 use std::alloc::Global;
 use std::marker::Model;
 
@@ -28,7 +28,7 @@ pub(crate) struct LeasedVersions {
 
 impl Model for LeasedVersions {
     ghost use Rattle.std.specs.Prelude.{List, ℕ};
-    ghost use Rattle.kept_model.specs.declared.version.Version.{Version};
+    ghost use Rattle.compaction_model.specs.declared.version.Version.{Version};
     ghost use Rattle.store_index.specs.Leases.{AreCovered};
 
     ghost Value = { List (List ℕ × List Version) };

@@ -8,8 +8,8 @@ ghost use Rattle.store_index.specs.Maps.{AreOrdered, left_by, shown_by};
 
 use crate::key_versions::KeyVersions;
 use crate::reading::left_by;
+use compaction_model::Version;
 use etcd_types::{Bytes, KeyRange, Kv, List, NoMemory};
-use kept_model::Version;
 use std::alloc::Global;
 use std::collections::BTreeMap;
 use std::ops::Bound;

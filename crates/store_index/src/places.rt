@@ -1,5 +1,5 @@
 ghost use Rattle.std.specs.Prelude.{◌≡◌, ◌-◌, ◌≤◌, ◌<◌, [], ◌∷◌, ◌++◌, length, take, drop, get_or, IfOk, OnOk, OnErr};
-ghost use Rattle.kept_model.specs.Places.{changed_keys};
+ghost use Rattle.compaction_model.specs.Places.{changed_keys};
 
 use crate::changes::changed_key;
 use crate::ends::Ends;

@@ -1,10 +1,10 @@
 ghost use Rattle.std.specs.Prelude.{◌≡◌};
 ghost use Rattle.std.specs.Option.{option_copied};
-ghost use Rattle.kept_model.specs.Versions.{last_left, up_to};
+ghost use Rattle.compaction_model.specs.Versions.{last_left, up_to};
 ghost use Rattle.store_index.specs.Maps.{left_by};
 
+use compaction_model::Version;
 use etcd_types::Kv;
-use kept_model::Version;
 
 /// The record that the versions up to a revision left, or all versions where none is named.
 pub(crate) fn left_by(versions: &[Version], revision: Option<u64>) -> Option<&Kv>

@@ -2,8 +2,8 @@ ghost use Rattle.std.specs.Prelude.{◌≡◌, ℕ, List as Values, [], true, le
 ghost use Rattle.std.specs.List.{flat_map};
 ghost use Rattle.std.specs.Option.{option_copied};
 ghost use Rattle.store_model.specs.History.{changed_key};
-ghost use Rattle.kept_model.specs.Versions.{kept};
-ghost use Rattle.kept_model.specs.Places.{changed_keys};
+ghost use Rattle.compaction_model.specs.Versions.{kept};
+ghost use Rattle.compaction_model.specs.Places.{changed_keys};
 ghost use Rattle.store_index.specs.Maps.{versions_of, added, taken, HaveVersions, AreOrdered, left_by, shown_by};
 ghost use Rattle.store_index.specs.Adding.{version_from, with_change, added_all, taken_all};
 ghost use Rattle.store_index.specs.Seen.{with_record, with_records};
@@ -12,8 +12,8 @@ use crate::changes::{Changes, after_put, changed_key, copy_change};
 use crate::key_versions::KeyVersions;
 use crate::listing::{add_left, count_versions, records_in};
 use crate::reading::left_now;
+use compaction_model::Version;
 use etcd_types::{Bytes, KeyRange, Kv, List, NoMemory};
-use kept_model::Version;
 use std::alloc::Global;
 use std::collections::BTreeMap;
 use std::marker::Model;
@@ -28,7 +28,7 @@ pub struct Versions {
 
 impl Model for Versions {
     ghost use Rattle.std.specs.Prelude.{List, ℕ};
-    ghost use Rattle.kept_model.specs.declared.version.Version.{Version};
+    ghost use Rattle.compaction_model.specs.declared.version.Version.{Version};
 
     ghost Value = { List (List ℕ × List Version) };
 

@@ -1,5 +1,3 @@
 pub mod Requests
-pub mod Ranges
-pub mod NamedKeys
-pub mod Branches
-pub mod Answered
+pub mod Lives
+pub mod Events

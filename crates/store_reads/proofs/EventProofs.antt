@@ -22,12 +22,12 @@ use Rattle.store_model.specs.Watches.{next_after}
 use Rattle.store_model.proofs.HistoryLemmas.{record_now-with_revision}
 use Rattle.store_history.specs.Batches.{told_prev, kind_passes, concerns, told_of}
 use Rattle.store_history.proofs.EventLemmas.{told-revision}
-use Rattle.store_sound.proofs.Histories.{records_are_made}
-use Rattle.kept_model.specs.declared.version.Version.{Version}
-use Rattle.kept_model.specs.Versions.{versions_in, versions_from, last_left, kept_versions}
-use Rattle.kept_model.specs.Places.{changed_keys}
-use Rattle.kept_model.proofs.VersionProofs.{last_left-append, last_in}
-use Rattle.kept_model.proofs.ChangeProofs.{versions_in-append}
+use Rattle.store_laws.proofs.Lives.Histories.{records_are_made}
+use Rattle.compaction_model.specs.declared.version.Version.{Version}
+use Rattle.compaction_model.specs.Versions.{versions_in, versions_from, last_left, kept_versions}
+use Rattle.compaction_model.specs.Places.{changed_keys}
+use Rattle.compaction_model.proofs.VersionProofs.{last_left-append, last_in}
+use Rattle.compaction_model.proofs.ChangeProofs.{versions_in-append}
 use Rattle.store_reads.specs.Places.{count_same, IsFirstFrom}
 use Rattle.store_reads.specs.Told.{left_passes, told_left}
 use Rattle.store_reads.proofs.SplitProofs.{StartsAt, Split, coming, coming_from, splits, front_leaves, first_place}

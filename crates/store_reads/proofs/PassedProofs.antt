@@ -9,9 +9,9 @@ use Rattle.etcd_types.specs.declared.key_range.KeyRange.{KeyRange}
 use Rattle.etcd_types.specs.declared.request.WatchAsk.{WatchAsk}
 use Rattle.etcd_types.proofs.KeyOrder.{same-equal, same-itself}
 use Rattle.store_model.specs.History.{History}
-use Rattle.kept_model.specs.declared.version.Version.{Version}
-use Rattle.kept_model.specs.Versions.{kept_versions}
-use Rattle.kept_model.specs.Places.{changed_keys}
+use Rattle.compaction_model.specs.declared.version.Version.{Version}
+use Rattle.compaction_model.specs.Versions.{kept_versions}
+use Rattle.compaction_model.specs.Places.{changed_keys}
 use Rattle.store_index.specs.declared.index.Index.{Index}
 use Rattle.store_index.specs.Index.{HoldsKept}
 use Rattle.store_reads.specs.Places.{count_same, IsFirstFrom, is_of, is_repeated, count_at, ArePassed}

@@ -9,10 +9,10 @@ use Rattle.etcd_types.specs.Keys.{same}
 use Rattle.store_model.specs.declared.history.KeyChange.{KeyChange}
 use Rattle.store_model.specs.History.{History, changed_key}
 use Rattle.store_model.specs.Records.{after_change, after_changes, record_now}
-use Rattle.kept_model.specs.declared.version.Version.{Version}
-use Rattle.kept_model.specs.Versions.{versions_in, versions_from, versions, last_left, up_to, is_up_to, held_left, held_of, held_list, kept_with, kept_versions}
-use Rattle.kept_model.proofs.KeptProofs.{kept_give_earlier}
-use Rattle.kept_model.proofs.LaterProofs.{versions_from-append}
+use Rattle.compaction_model.specs.declared.version.Version.{Version}
+use Rattle.compaction_model.specs.Versions.{versions_in, versions_from, versions, last_left, up_to, is_up_to, held_left, held_of, held_list, kept_with, kept_versions}
+use Rattle.compaction_model.proofs.KeptProofs.{kept_give_earlier}
+use Rattle.compaction_model.proofs.LaterProofs.{versions_from-append}
 use Rattle.store_reads.specs.Places.{IsFirstFrom}
 
 abbrev pub AllBelow : ℕ → List Version → Type 0

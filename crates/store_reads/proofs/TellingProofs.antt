@@ -13,9 +13,9 @@ use Rattle.store_model.specs.Watches.{next_after}
 use Rattle.store_model.specs.Events.{events_of_changes, events_after}
 use Rattle.store_history.specs.Batches.{told, told_of, kind_passes}
 use Rattle.store_history.proofs.EventLemmas.{told-at, told-revision_at, next_after-append}
-use Rattle.kept_model.specs.declared.version.Version.{Version}
-use Rattle.kept_model.specs.Versions.{last_left, kept_versions}
-use Rattle.kept_model.specs.Places.{changed_keys}
+use Rattle.compaction_model.specs.declared.version.Version.{Version}
+use Rattle.compaction_model.specs.Versions.{last_left, kept_versions}
+use Rattle.compaction_model.specs.Places.{changed_keys}
 use Rattle.store_index.specs.declared.index.Index.{Index}
 use Rattle.store_index.specs.Index.{HoldsKept}
 use Rattle.store_reads.specs.Places.{count_same, IsFirstFrom}

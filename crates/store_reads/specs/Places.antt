@@ -8,7 +8,7 @@ use Rattle.std.specs.BTreeMap.{is_at}
 use Rattle.etcd_types.specs.Keys.{same}
 use Rattle.etcd_types.specs.Ranges.{contains}
 use Rattle.etcd_types.specs.declared.key_range.KeyRange.{KeyRange}
-use Rattle.kept_model.specs.declared.version.Version.{Version}
+use Rattle.compaction_model.specs.declared.version.Version.{Version}
 
 -- how often a key is among these
 abbrev pub count_same : List ℕ → List (List ℕ) → ℕ

@@ -4,7 +4,7 @@ ghost use Rattle.store_model.specs.History.{History};
 ghost use Rattle.store_model.specs.Events.{watch_events};
 ghost use Rattle.store_model.specs.Watches.{next_after};
 ghost use Rattle.store_history.specs.Batches.{told_prev};
-ghost use Rattle.kept_model.specs.Places.{changed_keys};
+ghost use Rattle.compaction_model.specs.Places.{changed_keys};
 ghost use Rattle.store_index.specs.Index.{HoldsKept};
 ghost use Rattle.store_reads.specs.Places.{ArePassed};
 ghost use Rattle.store_reads.specs.Told.{left_change, left_passes, told_left, left_to_tell};

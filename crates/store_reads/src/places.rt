@@ -2,8 +2,8 @@ ghost use Rattle.std.specs.Prelude.{◌≡◌, ◌≤◌, ◌<◌, ◌+◌, ◌^
 ghost use Rattle.etcd_types.specs.Keys.{same};
 ghost use Rattle.store_reads.specs.Places.{count_at, is_repeated, IsFirstFrom};
 
+use compaction_model::Version;
 use etcd_types::{Bytes, NoMemory};
-use kept_model::Version;
 use std::alloc::Global;
 use std::collections::BTreeMap;
 use std::marker::Model;

@@ -1,4 +1,9 @@
-pub mod Parts
-pub mod Steps
+pub mod Values
+pub mod Stores
+pub mod Growth
+pub mod Sent
+pub mod Replied
+pub mod Bodies
+pub mod Posts
+pub mod Items
 pub mod Scripts
-pub mod ReadLines

@@ -8,8 +8,8 @@ use Rattle.script_text.specs.declared.line.Line.{Line}
 use Rattle.script_text.specs.declared.line.Line.TheVariants as line
 use Rattle.script_text.specs.Lines.{is_line}
 use Rattle.session_laws.specs.Told.{last_reading, sets_clock_below}
-use Rattle.text_laws.specs.Texts.{AreRead}
-use Rattle.text_laws.proofs.Parts.{parts_of}
+use Rattle.text_laws.specs.Items.Texts.{AreRead}
+use Rattle.text_laws.proofs.Items.Parts.{parts_of}
 
 below : (n : ℕ) → nat_le n max_number ≡ true → nat_lt n last_reading ≡ true
 below n e = grind (arith, nat_tests)

@@ -19,11 +19,11 @@ use Rattle.proxy_model.specs.Readings.{records_of}
 use Rattle.renewed_laws.specs.Renewals.{answer_shows, item_shows, AnswersShowBytes}
 use Rattle.script_text.specs.declared.item.Item.{Item}
 use Rattle.script_text.specs.declared.item.Item.TheVariants as item
-use Rattle.text_laws.specs.Texts.{Each, HaveTextsAsMade}
+use Rattle.text_laws.specs.Items.Texts.{Each, HaveTextsAsMade}
 use Rattle.text_model.specs.Forms.{Form, never, allowed, after}
 use Rattle.text_model.specs.Words.{number, bytes, flag}
-use Rattle.told_texts.specs.Whole.{HasText}
-use Rattle.wait_laws.specs.Laws.{shows_bytes}
+use Rattle.text_laws.specs.Scripts.Whole.{HasText}
+use Rattle.core_laws.specs.Writes.Laws.{shows_bytes}
 
 key_bytes : (k : Kv) → kv.fits k ≡ true → are_bytes k.key ≡ true
 unfolding kv bytes

@@ -21,10 +21,10 @@ use Rattle.renewed_laws.proofs.Lines.{keepalives_renew}
 use Rattle.script_text.specs.declared.item.Item.{Item}
 use Rattle.script_text.specs.declared.line.Line.{Line}
 use Rattle.script_text.proofs.ItemLaws.{item_again}
-use Rattle.text_laws.specs.Texts.{Each, AreRead, HaveTextsAsMade}
-use Rattle.text_laws.proofs.ReadLines as made
-use Rattle.told_texts.specs.Whole.{HasText}
-use Rattle.told_texts.proofs.Scripts.{scripts_have_texts}
+use Rattle.text_laws.specs.Items.Texts.{Each, AreRead, HaveTextsAsMade}
+use Rattle.text_laws.proofs.Items.ReadLines as made
+use Rattle.text_laws.specs.Scripts.Whole.{HasText}
+use Rattle.text_laws.proofs.Scripts.Scripts.{scripts_have_texts}
 use Rattle.truth_laws.specs.Snapshots.{UnsentSnapshotsAreTrue}
 use Rattle.truth_laws.proofs.Scripts.{unsent_reads, unsent_snapshots}
 use Rattle.prefix_laws.proofs.Idle.{scripts_leave_none}

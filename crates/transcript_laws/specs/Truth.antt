@@ -10,7 +10,7 @@ use Rattle.owned_laws.specs.Caches.{MustCache, SnapshotsAreAnswered}
 use Rattle.renewed_laws.specs.Renewals.{KeepalivesRenew}
 use Rattle.script_text.specs.declared.item.Item.{Item}
 use Rattle.script_text.specs.Items.{item_text, item_at, is_item}
-use Rattle.text_laws.specs.Texts.{Each}
+use Rattle.text_laws.specs.Items.Texts.{Each}
 use Rattle.truth_laws.specs.Snapshots.{UnsentSnapshotsAreTrue}
 use Rattle.prefix_laws.specs.Idle.{NoProxyIsIdle}
 use Rattle.prefix_laws.specs.Shared.{EachSharesKeepalives}

@@ -14,7 +14,7 @@ use Rattle.core_model.specs.declared.event.CoreEvent.TheVariants as event
 use Rattle.core_model.specs.declared.event.Outcome.{Outcome}
 use Rattle.core_model.specs.LeasingStream.{item_header}
 use Rattle.core_model.specs.Step.{stepped}
-use Rattle.core_laws.proofs.Lists.{all_kept, number_itself}
+use Rattle.core_laws.proofs.Steps.Lists.{all_kept, number_itself}
 use Rattle.script_text.specs.declared.item.Item.{Item}
 use Rattle.script_text.specs.declared.item.Item.TheVariants as item
 use Rattle.store_model.specs.History.{newest}

@@ -10,14 +10,14 @@ use Rattle.etcd_types.specs.declared.watch.WatchItem.{WatchItem}
 use Rattle.core_fits.specs.Fits.{EachOf}
 use Rattle.core_model.specs.declared.event.CoreEvent.{CoreEvent}
 use Rattle.core_model.specs.declared.event.Outcome.{Outcome}
-use Rattle.core_laws.proofs.Lists.{same_number, number_itself, number_turned}
+use Rattle.core_laws.proofs.Steps.Lists.{same_number, number_itself, number_turned}
 use Rattle.script_text.specs.declared.item.Item.{Item}
 use Rattle.script_text.specs.declared.item.Item.TheVariants as item
 use Rattle.store_model.specs.History.{newest}
 use Rattle.store_model.specs.State.{State}
 use Rattle.store_model.specs.Step.{exec}
 use Rattle.store_model.specs.Watches.{opened}
-use Rattle.store_sound.specs.Sound.{Sound}
+use Rattle.store_laws.specs.Lives.Sound.{Sound}
 use Rattle.world_model.specs.declared.sent_call.SentCall.{SentCall}
 use Rattle.world_model.specs.Gains.{Replies}
 use Rattle.world_model.specs.Lives.{pushed_into, delivers}

@@ -32,7 +32,7 @@ use Rattle.core_model.specs.Sessions.{seat_calls, without_session, granted_by, k
 use Rattle.core_model.specs.State.{Core}
 use Rattle.core_model.specs.Step.{is_worn, stepped}
 use Rattle.core_model.specs.Stepped.{Stepped, faults, counted}
-use Rattle.idle_laws.proofs.Touches.{Side, side, is_plain, Touch, leaves, hears, ticks, joins, heard_leasing, broke_leasing, cut_leasing, told, cut, took, left_it, opens_leasing, sends, step_touches}
+use Rattle.core_laws.proofs.Watches.Touches.{Side, side, is_plain, Touch, leaves, hears, ticks, joins, heard_leasing, broke_leasing, cut_leasing, told, cut, took, left_it, opens_leasing, sends, step_touches}
 
 -- ---- the later of two headers
 

@@ -11,16 +11,16 @@ use Rattle.core_model.specs.declared.event.Outcome.{Outcome}
 use Rattle.core_model.specs.State.{Core}
 use Rattle.core_model.specs.Step.{stepped}
 use Rattle.core_fits.specs.Fits.{EachOf}
-use Rattle.core_laws.proofs.Lists.{number_itself, number_turned}
-use Rattle.idle_laws.proofs.Touches.{Side}
+use Rattle.core_laws.proofs.Steps.Lists.{number_itself, number_turned}
+use Rattle.core_laws.proofs.Watches.Touches.{Side}
 use Rattle.script_text.specs.declared.item.Item.{Item}
 use Rattle.script_text.specs.declared.item.Item.TheVariants as item
 use Rattle.script_text.specs.declared.line.Line.{Line}
 use Rattle.store_model.specs.History.{newest}
 use Rattle.store_model.specs.State.{State}
 use Rattle.store_model.specs.Step.{exec}
-use Rattle.store_sound.specs.Sound.{Sound}
-use Rattle.store_sound.proofs.SoundProofs.{requests_keep_sound, starts_sound, expiries_keep_sound, applies_keep_sound, messages_keep_sound}
+use Rattle.store_laws.specs.Lives.Sound.{Sound}
+use Rattle.store_laws.proofs.Lives.SoundProofs.{requests_keep_sound, starts_sound, expiries_keep_sound, applies_keep_sound, messages_keep_sound}
 use Rattle.world_model.specs.Floors.{floors_after}
 use Rattle.world_model.specs.Gains.{Replies, all_fetched, reply_items}
 use Rattle.world_model.specs.Places.{nth, with_nth, kept_at, place_at, with_place, with_posted, with_call}

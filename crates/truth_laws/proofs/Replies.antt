@@ -20,12 +20,12 @@ use Rattle.core_model.specs.Kinds.{writes_keys}
 use Rattle.core_model.specs.Step.{stepped}
 use Rattle.script_text.specs.declared.item.Item.{Item}
 use Rattle.script_text.specs.declared.item.Item.TheVariants as item
-use Rattle.space_laws.specs.Stored.{stored}
+use Rattle.namespace_laws.specs.Stored.Stored.{stored}
 use Rattle.store_model.specs.History.{newest}
 use Rattle.store_model.specs.Records.{record_now}
 use Rattle.store_model.specs.State.{State}
 use Rattle.store_model.specs.Step.{exec}
-use Rattle.store_moves.specs.StoreView.{Shows}
+use Rattle.cache_laws.specs.Store.StoreView.{Shows}
 use Rattle.held_laws.proofs.Items.{asked_still}
 use Rattle.world_model.specs.Answers.{Seen, unseen, saw, saw_all, seen}
 use Rattle.world_model.specs.Lives.{begins, names, life_from, life, namespace_of, asked_as, is_named}

@@ -6,10 +6,10 @@ use Rattle.core_model.specs.declared.event.CoreEvent.TheVariants as event
 use Rattle.core_model.specs.ClockWork.{clock_work}
 use Rattle.core_model.specs.Step.{is_worn}
 use Rattle.script_text.specs.declared.line.Line.{Line}
-use Rattle.space_laws.specs.Stored.{stored}
+use Rattle.namespace_laws.specs.Stored.Stored.{stored}
 use Rattle.store_model.specs.State.{State}
-use Rattle.store_moves.specs.StoreView.{Stands}
-use Rattle.lease_moves.specs.View.{View}
+use Rattle.cache_laws.specs.Store.StoreView.{Stands}
+use Rattle.cache_laws.specs.Moves.View.{View}
 use Rattle.core_moves.specs.Sees.{Sees}
 use Rattle.event_moves.specs.Events.{HasEvent}
 use Rattle.owner_fits.specs.Laws.{OwnersFit}

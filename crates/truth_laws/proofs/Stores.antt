@@ -17,10 +17,10 @@ use Rattle.store_model.specs.History.{newest}
 use Rattle.store_model.specs.State.{State, applied_by}
 use Rattle.store_model.specs.Step.{exec}
 use Rattle.store_model.specs.Watches.{Pushed, watch_of, for_watch, push_events, push_to, pushed as push_of, is_synced, progress_to, progressed, events_for}
-use Rattle.store_laws.specs.Answered.{is_serializable}
-use Rattle.store_laws.proofs.AnsweredProofs.{replies_tell_revisions}
-use Rattle.store_sound.specs.Sound.{Sound}
-use Rattle.store_sound.proofs.SoundProofs.{openings_keep_sound}
+use Rattle.store_laws.specs.Requests.Answered.{is_serializable}
+use Rattle.store_laws.proofs.Requests.AnsweredProofs.{replies_tell_revisions}
+use Rattle.store_laws.specs.Lives.Sound.{Sound}
+use Rattle.store_laws.proofs.Lives.SoundProofs.{openings_keep_sound}
 use Rattle.held_laws.proofs.Growing.{Grows, exec_leaves}
 use Rattle.held_laws.proofs.Stories.{newest_front}
 use Rattle.world_model.specs.Gains.{Replies}

@@ -16,7 +16,7 @@ use Rattle.core_model.specs.declared.event.Outcome.{Outcome}
 use Rattle.core_model.specs.ClockWork.{clock_work}
 use Rattle.core_model.specs.Lookups.{ask_at}
 use Rattle.core_model.specs.Step.{is_worn, stepped}
-use Rattle.core_laws.proofs.Lists.{same_number}
+use Rattle.core_laws.proofs.Steps.Lists.{same_number}
 use Rattle.script_text.specs.declared.item.Item.{Item}
 use Rattle.script_text.specs.declared.item.Item.TheVariants as item
 use Rattle.script_text.specs.declared.line.Line.{Line}

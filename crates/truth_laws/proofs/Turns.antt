@@ -10,9 +10,9 @@ use Rattle.core_model.specs.declared.event.StepFault.TheVariants as fault
 use Rattle.core_model.specs.ClockWork.{clock_work}
 use Rattle.core_model.specs.Step.{is_worn, stepped}
 use Rattle.core_model.specs.Stepped.{Stepped}
-use Rattle.core_laws.proofs.Lists.{number_itself}
-use Rattle.core_laws.proofs.Outcomes.{worn_does_nothing}
-use Rattle.lease_moves.specs.View.{View}
+use Rattle.core_laws.proofs.Steps.Lists.{number_itself}
+use Rattle.core_laws.proofs.Steps.Outcomes.{worn_does_nothing}
+use Rattle.cache_laws.specs.Moves.View.{View}
 use Rattle.event_moves.specs.Events.{HasEvent}
 use Rattle.script_text.specs.declared.item.Item.{Item}
 use Rattle.script_text.specs.declared.item.Item.TheVariants as item

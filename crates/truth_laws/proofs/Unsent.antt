@@ -31,15 +31,15 @@ use Rattle.core_model.specs.Kinds.{writes_keys}
 use Rattle.core_model.specs.Lookups.{ask_at, out_at, reads_of}
 use Rattle.core_model.specs.State.{Core}
 use Rattle.core_model.specs.Step.{stepped}
-use Rattle.core_laws.proofs.Comes.{by_test}
-use Rattle.core_laws.proofs.Lists.{same_number}
+use Rattle.core_laws.proofs.Steps.Comes.{by_test}
+use Rattle.core_laws.proofs.Steps.Lists.{same_number}
 use Rattle.core_fits.specs.Fits.{EachOf, IsSame, CoreFits}
 use Rattle.core_fits.specs.Ready.{NoneIsReplied}
 use Rattle.core_fits.proofs.CallRows.{clock_has}
 use Rattle.core_fits.proofs.Found.{each_ask, each_write, ask_ticket}
 use Rattle.etcd_types.proofs.Bools.{and_first, and_second}
 use Rattle.owner_fits.specs.Laws.{OwnersFit}
-use Rattle.lease_moves.specs.View.{View}
+use Rattle.cache_laws.specs.Moves.View.{View}
 use Rattle.reply_laws.specs.Named.{AreNamed}
 use Rattle.reply_laws.specs.Sources.{Stood, Hears, Decides, wins, settles, Source, Given}
 use Rattle.reply_laws.specs.Sources as sources

@@ -23,7 +23,7 @@ use Rattle.core_model.specs.Refusals.{refusal_of}
 use Rattle.core_model.specs.State.{Core, first_core}
 use Rattle.core_model.specs.Step.{happened, is_worn, stepped}
 use Rattle.core_model.specs.Stepped.{Stepped, faults, counted}
-use Rattle.core_laws.proofs.Comes.{by_test}
+use Rattle.core_laws.proofs.Steps.Comes.{by_test}
 use Rattle.core_fits.specs.Fits.{EachOf}
 use Rattle.core_fits.proofs.CallRows.{CoreHas, Last, go_on, clock_has}
 use Rattle.core_fits.proofs.CoreRows.{counted_has, stepped_has}

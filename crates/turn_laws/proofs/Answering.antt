@@ -9,10 +9,10 @@ use Rattle.core_model.specs.Heard.{is_known, heard_reply, heard}
 use Rattle.core_model.specs.Lookups.{out_at}
 use Rattle.core_model.specs.State.{Core}
 use Rattle.core_model.specs.Step.{is_worn}
-use Rattle.core_laws.proofs.Calls.{found_is}
+use Rattle.core_laws.proofs.Steps.Calls.{found_is}
 use Rattle.core_fits.proofs.Found.{each_out}
-use Rattle.space_laws.specs.Stored.{stored_answer}
-use Rattle.space_laws.proofs.Back.{replies_unwrap}
+use Rattle.namespace_laws.specs.Stored.Stored.{stored_answer}
+use Rattle.namespace_laws.proofs.Stored.Back.{replies_unwrap}
 use Rattle.call_laws.specs.Forms.{Tells}
 use Rattle.core_moves.specs.Answers.{form_of_job, HasAnswer}
 use Rattle.event_moves.specs.Events.{IsAnswered}

@@ -8,14 +8,14 @@ use Rattle.script_text.specs.declared.item.Item.{Item}
 use Rattle.script_text.specs.declared.line.Line.{Line}
 use Rattle.store_model.specs.State.{starting}
 use Rattle.store_model.specs.Step.{exec}
-use Rattle.store_sound.specs.Lives.{lived}
+use Rattle.store_laws.specs.Lives.Lives.{lived}
 use Rattle.world_model.specs.State.{Place, World}
 use Rattle.world_model.specs.Transcript.{world_behind}
 use Rattle.held_laws.proofs.Pushes.{Whole}
 use Rattle.held_laws.proofs.Runs.{behind_script}
 use Rattle.held_laws.proofs.Telling.{own_only, own_strips}
 use Rattle.held_laws.proofs.Worlds.{one_place, WorldOk}
-use Rattle.image_laws.proofs.Hearing.{answers_are_images}
+use Rattle.namespace_laws.proofs.Images.Hearing.{answers_are_images}
 use Rattle.turn_laws.specs.Known.{StreamsKnown, AnswersKnown, WorldsAreKnown}
 use Rattle.turn_laws.proofs.Answering.{heard_bare}
 use Rattle.turn_laws.proofs.Created.{answers_are_created}

@@ -19,12 +19,12 @@ use Rattle.core_model.specs.Sessions.{seat_is_over, without_session}
 use Rattle.core_model.specs.State.{Core}
 use Rattle.core_model.specs.Step.{happened, is_worn, stepped}
 use Rattle.core_model.specs.Stepped.{faults, counted}
-use Rattle.core_laws.proofs.Calls.{found_is, is_new}
-use Rattle.core_laws.proofs.Comes.{by_test}
+use Rattle.core_laws.proofs.Steps.Calls.{found_is, is_new}
+use Rattle.core_laws.proofs.Steps.Comes.{by_test}
 use Rattle.call_laws.specs.Forms.{Form}
 use Rattle.core_moves.specs.Answers.{form_of_job}
 use Rattle.owner_fits.specs.Laws.{OwnersFit}
-use Rattle.guard_laws.proofs.Elements.{Each, of_each}
+use Rattle.cache_laws.proofs.Guards.Elements.{Each, of_each}
 use Rattle.out_laws.proofs.Outs.{out_stays}
 
 pub clock_out : (now : ℕ) (c : Core) → (clock_work now c).out ≡ c.out

@@ -30,10 +30,10 @@ use Rattle.store_model.specs.Step.{Step, unless, settled, told_at, exec, exec_op
 use Rattle.store_model.specs.Compares.{all_hold}
 use Rattle.store_model.specs.Transactions as transactions
 use Rattle.store_model.specs.Transactions.{Ran, RanAll, seen, unchanged, put_on, with_body, first_then, run, run_all, has_lease}
-use Rattle.store_laws.specs.Branches.{holds_now}
-use Rattle.store_sound.proofs.Histories.{records_are_made}
-use Rattle.wait_laws.specs.Laws.{shown_records}
-use Rattle.core_laws.proofs.Comes.{by_test}
+use Rattle.store_laws.specs.Requests.Branches.{holds_now}
+use Rattle.store_laws.proofs.Lives.Histories.{records_are_made}
+use Rattle.core_laws.specs.Writes.Laws.{shown_records}
+use Rattle.core_laws.proofs.Steps.Comes.{by_test}
 use Rattle.turn_laws.specs.Known.{is_created, shows_created}
 use Rattle.turn_laws.proofs.WriteCalls.{IsCreated}
 

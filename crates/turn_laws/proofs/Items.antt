@@ -9,14 +9,14 @@ use Rattle.etcd_types.specs.declared.watch.WatchItem.TheVariants as item
 use Rattle.proxy_model.specs.Prefixes.{leasing_range}
 use Rattle.proxy_model.specs.Unwrapped.{Unwrapped, item_without}
 use Rattle.store_model.specs.State.{State}
-use Rattle.space_laws.proofs.Back.{items_unwrap}
+use Rattle.namespace_laws.proofs.Stored.Back.{items_unwrap}
 use Rattle.core_model.specs.declared.settings.Settings.{Settings}
 use Rattle.core_model.specs.ClockWork.{clock_work}
 use Rattle.core_model.specs.State.{Opening}
 use Rattle.core_model.specs.Step.{opening_at}
 use Rattle.core_fits.specs.Fits.{EachOf}
-use Rattle.lease_moves.specs.View.{View}
-use Rattle.store_moves.specs.StoreView.{Stands}
+use Rattle.cache_laws.specs.Moves.View.{View}
+use Rattle.cache_laws.specs.Store.StoreView.{Stands}
 use Rattle.row_laws.specs.Notices.{AreTold}
 use Rattle.core_moves.specs.Clients.{TellsItem}
 use Rattle.owner_fits.specs.Names.{change_named, events_named, ItemNames}

@@ -20,13 +20,13 @@ use Rattle.core_model.specs.State.{Core}
 use Rattle.core_model.specs.Step.{is_worn, stepped}
 use Rattle.core_model.specs.Stepped.{Stepped, faults, counted, counted_by}
 use Rattle.core_fits.specs.Fits.{IsOfLeasing}
-use Rattle.lease_moves.specs.Invariant.{Inv}
-use Rattle.lease_moves.specs.View.{View}
+use Rattle.cache_laws.specs.Moves.Invariant.{Inv}
+use Rattle.cache_laws.specs.Moves.View.{View}
 use Rattle.row_laws.specs.Rows.{row_of}
 use Rattle.core_moves.specs.Sees.{term_of, Sees, Moves}
 use Rattle.core_moves.proofs.Clocks.{clocks_move}
 use Rattle.step_moves.specs.Work.{call_in}
-use Rattle.idle_laws.proofs.Touches.{IsAmong}
+use Rattle.core_laws.proofs.Watches.Touches.{IsAmong}
 use Rattle.turn_laws.proofs.Clocked.{not_worn, clock_leasing, clock_settings, clock_streams}
 use Rattle.turn_laws.proofs.Openings.{Unmoved, work_unmoved, Opened, work_opened}
 

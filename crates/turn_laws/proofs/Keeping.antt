@@ -5,8 +5,8 @@ use Rattle.core_model.specs.declared.event.CoreEvent.{CoreEvent}
 use Rattle.core_model.specs.declared.settings.Settings.{Settings}
 use Rattle.core_model.specs.State.{Opening, Core}
 use Rattle.core_model.specs.Step.{opening_at, stepped}
-use Rattle.core_laws.specs.Kept.{IsHeard}
-use Rattle.core_laws.proofs.Staying.{steps_stay}
+use Rattle.core_laws.specs.Steps.Kept.{IsHeard}
+use Rattle.core_laws.proofs.Steps.Staying.{steps_stay}
 use Rattle.core_fits.specs.Fits.{EachOf}
 use Rattle.owner_fits.specs.Names.{NamesOwners}
 use Rattle.step_moves.specs.Work.{MaySend}

@@ -9,7 +9,7 @@ use Rattle.core_model.specs.declared.event.StepFault.TheVariants as fault
 use Rattle.core_model.specs.State.{Opening, Core}
 use Rattle.core_model.specs.Step.{opening_at, stepped}
 use Rattle.core_model.specs.Stepped.{Stepped, faults}
-use Rattle.idle_laws.proofs.Touches.{Side, number_of, side, with_step, Touch, leaves, hears, ticks, joins, heard_leasing, broke_leasing, cut_leasing, told, cut, took, left_it, opens_leasing, sends, step_touches}
+use Rattle.core_laws.proofs.Watches.Touches.{Side, number_of, side, with_step, Touch, leaves, hears, ticks, joins, heard_leasing, broke_leasing, cut_leasing, told, cut, took, left_it, opens_leasing, sends, step_touches}
 
 abbrev pub Renumbers : Side → Side → Type 0
 Renumbers a d = (d.leasing ≡ a.leasing) ⊎ (d.leasing ≡ Some (a.broadcasts.given + 1))

@@ -26,7 +26,7 @@ use Rattle.core_model.specs.Watching.{streams_sent}
 use Rattle.core_fits.specs.Fits.{IsOfLeasing}
 use Rattle.core_fits.proofs.Openings.{OpensIf, first_opens}
 use Rattle.core_moves.specs.Sees.{ground_in}
-use Rattle.idle_laws.proofs.Touches.{IsAmong}
+use Rattle.core_laws.proofs.Watches.Touches.{IsAmong}
 use Rattle.step_moves.specs.Work.{call_in}
 use Rattle.turn_laws.proofs.StreamJobs.{IsOneIf, first_is_one}
 

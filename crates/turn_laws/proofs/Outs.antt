@@ -1,17 +1,17 @@
 -- What is out at a proxy behind a step that sends no call was out before, for the same.
 use Rattle.std.proofs.Common.{◌≡◌, ◌≢◌, ℕ, ◌+◌, List, [], ◌∷◌, sym, ◌∙◌, ap}
 use Rattle.std.specs.List.{Contains}
-use Rattle.guard_laws.proofs.Elements.{Each, each_of, of_each}
+use Rattle.cache_laws.proofs.Guards.Elements.{Each, each_of, of_each}
 use Rattle.core_model.specs.declared.event.CoreEvent.{CoreEvent}
 use Rattle.core_model.specs.declared.out_call.OutCall.{OutCall}
 use Rattle.core_model.specs.Fits.{CoreOk}
 use Rattle.core_model.specs.Sending.{next_call}
 use Rattle.core_model.specs.State.{Core}
 use Rattle.core_model.specs.Step.{stepped}
-use Rattle.core_laws.specs.Kept.{IsHeard}
-use Rattle.core_laws.proofs.Stepping.{steps_keep}
+use Rattle.core_laws.specs.Steps.Kept.{IsHeard}
+use Rattle.core_laws.proofs.Steps.Stepping.{steps_keep}
 use Rattle.core_fits.specs.Fits.{EachOf}
-use Rattle.lease_moves.specs.View.{Call}
+use Rattle.cache_laws.specs.Moves.View.{Call}
 use Rattle.call_laws.specs.Forms.{Form}
 use Rattle.owner_fits.specs.Laws.{OwnersFit}
 use Rattle.bridge_laws.specs.Shown.{OutShown}

@@ -20,16 +20,16 @@ use Rattle.store_model.specs.Events.{event_of, events_of_changes, events_after, 
 use Rattle.store_model.specs.History.{History, newest, with_revision, changed_key}
 use Rattle.store_model.specs.Records.{record_now}
 use Rattle.store_model.specs.State.{State}
-use Rattle.store_sound.specs.TestedKeys.{keys_pass}
-use Rattle.guard_laws.proofs.Elements.{Each, each_append, of_each}
-use Rattle.guard_laws.specs.OwnershipKeys.{is_key, has_owner}
-use Rattle.lease_moves.specs.View.{View}
-use Rattle.lease_moves.specs.Answers.{in_event}
-use Rattle.store_moves.specs.StoreView.{Stands}
-use Rattle.store_moves.specs.ToldAnswers.{TellsEvent}
-use Rattle.store_moves.proofs.ToldProofs.{events_tell}
+use Rattle.store_laws.specs.Lives.TestedKeys.{keys_pass}
+use Rattle.cache_laws.proofs.Guards.Elements.{Each, each_append, of_each}
+use Rattle.cache_laws.specs.Guards.OwnershipKeys.{is_key, has_owner}
+use Rattle.cache_laws.specs.Moves.View.{View}
+use Rattle.cache_laws.specs.Moves.Answers.{in_event}
+use Rattle.cache_laws.specs.Store.StoreView.{Stands}
+use Rattle.cache_laws.specs.Store.ToldAnswers.{TellsEvent}
+use Rattle.cache_laws.proofs.Store.ToldProofs.{events_tell}
 use Rattle.wait_model.specs.Notices.{owned_key}
-use Rattle.core_laws.proofs.Comes.{by_test}
+use Rattle.core_laws.proofs.Steps.Comes.{by_test}
 use Rattle.owner_fits.specs.Names.{change_named}
 use Rattle.row_laws.specs.Notices.{TellsChange}
 

@@ -19,7 +19,7 @@ use Rattle.core_model.specs.ClockWork.{clock_work}
 use Rattle.core_model.specs.Heard.{heard}
 use Rattle.core_model.specs.State.{Opening, Core}
 use Rattle.core_model.specs.Step.{opening_at, stepped}
-use Rattle.core_laws.specs.Kept.{HeardBytes, IsHeard}
+use Rattle.core_laws.specs.Steps.Kept.{HeardBytes, IsHeard}
 use Rattle.core_fits.specs.Fits.{EachOf, IsOfLeasing}
 use Rattle.owner_fits.specs.Names.{NamesOwners}
 use Rattle.core_moves.specs.Clients.{TickMoves}
@@ -33,7 +33,7 @@ use Rattle.world_model.specs.Places.{nth, with_kept, place_at, ended, with_core,
 use Rattle.world_model.specs.Sends.{next_stream, new_stream, closed_in}
 use Rattle.world_model.specs.State.{Place, OpenedStream, World, word}
 use Rattle.world_laws.proofs.Effects.{ticks, asks_it, posts_it, calls, opens, closes, answers, loses, delivers, cuts, takes, waits, leaves}
-use Rattle.idle_laws.proofs.Touches.{side, IsAmong}
+use Rattle.core_laws.proofs.Watches.Touches.{side, IsAmong}
 use Rattle.held_laws.proofs.Streams.{apart_none, found_is}
 use Rattle.held_laws.proofs.Worlds.{one_place, placed_itself}
 use Rattle.renewed_laws.proofs.Calls.{Counts, work_counts, is_work, other_counts}

@@ -10,11 +10,11 @@ use Rattle.store_model.specs.declared.watch.OpenWatch.{OpenWatch}
 use Rattle.store_model.specs.History.{History}
 use Rattle.store_model.specs.State.{State}
 use Rattle.store_model.specs.Watches.{opened, watch_of}
-use Rattle.store_sound.proofs.SoundProofs.{openings_keep_sound}
-use Rattle.event_laws.proofs.LeavingProofs.{openings_leave_watches}
-use Rattle.store_moves.proofs.ReadSteps.{unseen_step}
-use Rattle.space_laws.specs.Stored.{stored_watch}
-use Rattle.space_laws.proofs.Watches.{openings_are_stored}
+use Rattle.store_laws.proofs.Lives.SoundProofs.{openings_keep_sound}
+use Rattle.store_laws.proofs.Events.LeavingProofs.{openings_leave_watches}
+use Rattle.cache_laws.proofs.Store.ReadSteps.{unseen_step}
+use Rattle.namespace_laws.specs.Stored.Stored.{stored_watch}
+use Rattle.namespace_laws.proofs.Stored.Watches.{openings_are_stored}
 use Rattle.core_fits.specs.Fits.{EachOf}
 use Rattle.core_model.specs.State.{Opening}
 use Rattle.core_model.specs.Step.{opening_at}

@@ -23,20 +23,20 @@ use Rattle.wait_model.specs.declared.write.Write.{Write}
 use Rattle.wait_model.specs.declared.write.WriteStage.{WriteStage}
 use Rattle.wait_model.specs.declared.write.WriteStage.TheVariants.{Waiting, Sends, Finds}
 use Rattle.wait_model.specs.Writes.{first_by, stage_sends, sends, job_of}
-use Rattle.wait_laws.specs.Laws.{shown_records}
-use Rattle.wait_laws.proofs.Kept.{first_passes}
+use Rattle.core_laws.specs.Writes.Laws.{shown_records}
+use Rattle.core_laws.proofs.Writes.Kept.{first_passes}
 use Rattle.core_model.specs.declared.out_call.OutCall.{OutCall}
 use Rattle.core_model.specs.declared.out_call.OutJob.{OutJob}
 use Rattle.core_model.specs.declared.out_call.OutJob.TheVariants as job
 use Rattle.core_model.specs.Fits.{CoreOk, has_number, calls_of, wait_numbers, is_wait, is_write_job, is_write_out, passes}
 use Rattle.core_model.specs.Lookups.{out_at}
 use Rattle.core_model.specs.State.{Core}
-use Rattle.core_laws.proofs.Calls.{found_is, only_found}
-use Rattle.core_laws.proofs.Lists.{same_number}
+use Rattle.core_laws.proofs.Steps.Calls.{found_is, only_found}
+use Rattle.core_laws.proofs.Steps.Lists.{same_number}
 use Rattle.owner_fits.specs.Names.{written_named, answer_named, owner_named}
 use Rattle.owner_fits.proofs.Hearing.{first_has}
-use Rattle.lease_moves.specs.View.{Outcome}
-use Rattle.store_moves.specs.ToldAnswers.{TellsOwners, TellsWritten}
+use Rattle.cache_laws.specs.Moves.View.{Outcome}
+use Rattle.cache_laws.specs.Store.ToldAnswers.{TellsOwners, TellsWritten}
 use Rattle.call_laws.specs.Forms.{Form, Writes, Tells}
 use Rattle.core_moves.specs.Answers.{form_of_job}
 use Rattle.turn_laws.specs.Known.{is_created, shows_created}

@@ -11,13 +11,13 @@ use Rattle.etcd_types.specs.declared.record.Kv.{Kv}
 use Rattle.proxy_model.specs.Fits.{branch_of}
 use Rattle.core_model.specs.Heard.{heard}
 use Rattle.script_text.specs.declared.line.Line.{Line}
-use Rattle.wait_laws.specs.Laws.{shown_records}
+use Rattle.core_laws.specs.Writes.Laws.{shown_records}
 use Rattle.watch_model.specs.Lookups.{numbered}
 use Rattle.world_model.specs.declared.sent_call.SentCall.{SentCall}
 use Rattle.world_model.specs.Places.{nth, place_at}
 use Rattle.world_model.specs.State.{Place, OpenedStream, World}
 use Rattle.world_model.specs.Transcript.{world_behind}
-use Rattle.idle_laws.proofs.Touches.{side}
+use Rattle.core_laws.proofs.Watches.Touches.{side}
 use Rattle.held_laws.proofs.Holding.{IsApart}
 
 pub record StreamsKnown (w : World) : Type 0 where

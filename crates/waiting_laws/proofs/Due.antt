@@ -18,7 +18,7 @@ use Rattle.wait_model.specs.Writes.{first_by}
 use Rattle.read_model.specs.declared.acquire.Acquire.{Acquire}
 use Rattle.core_model.specs.DueJobs.{ForAcquire, Placed, placed, if_due, due_writes, due_acquire, due_ask, due_opening, due_stream, due_jobs}
 use Rattle.core_model.specs.State.{Core}
-use Rattle.core_laws.proofs.Lists.{number_itself}
+use Rattle.core_laws.proofs.Steps.Lists.{number_itself}
 use Rattle.watch_model.specs.Lookups.{stream_at}
 use Rattle.watch_model.specs.State.{Stream}
 use Rattle.waiting_laws.specs.Calls.{has_due, is_for_writes, acquires_for, IsWriteDue}

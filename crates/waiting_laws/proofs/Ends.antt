@@ -41,7 +41,7 @@ use Rattle.core_model.specs.Kinds.{is_body_of}
 use Rattle.core_model.specs.Lookups.{moment, reads_of}
 use Rattle.core_model.specs.Sessions.{without_session, seat_is_over, deadline_passed, seat_calls, seat_granted, granted_by, grant_failed, grant_answered, seat_free, keep_failed, seat_renewed, kept, kept_by, keep_answered}
 use Rattle.core_model.specs.State.{Core}
-use Rattle.core_laws.proofs.Comes.{by_test}
+use Rattle.core_laws.proofs.Steps.Comes.{by_test}
 use Rattle.waiting_laws.proofs.Entries.{entry_fits, put_out, none_out}
 use Rattle.waiting_laws.proofs.Owned.{OwnOut, proceeded_out, forgotten_out, EndOut, answered_out, lost_out}
 

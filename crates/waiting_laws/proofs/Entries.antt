@@ -25,7 +25,7 @@ use Rattle.wait_model.specs.SeveralKeys.{given_up_over, by_ranges}
 use Rattle.wait_model.specs.SingleKeys.{Turn, let_go_leased, begun_over, any_key, keys_begun, by_keys}
 use Rattle.wait_model.specs.Stages.{staged, gone_on, is_waiting, stage_on}
 use Rattle.wait_model.proofs.Tables.{at-each, at-without}
-use Rattle.core_laws.proofs.Comes.{by_test}
+use Rattle.core_laws.proofs.Steps.Comes.{by_test}
 use Rattle.waiting_laws.specs.Calls.{is_rescind_of}
 
 -- where this tells whether the rescind is out

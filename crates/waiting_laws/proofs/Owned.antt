@@ -53,8 +53,8 @@ use Rattle.wait_model.specs.State.{Ownership}
 use Rattle.wait_model.specs.Writes.{first_by, has_ticket, sends, asks, job_of, without_call}
 use Rattle.wait_model.proofs.Bools.{or_rest}
 use Rattle.core_model.specs.Fits.{passes}
-use Rattle.core_laws.proofs.Comes.{by_test}
-use Rattle.core_laws.proofs.Lists.{number_turned, number_itself}
+use Rattle.core_laws.proofs.Steps.Comes.{by_test}
+use Rattle.core_laws.proofs.Steps.Lists.{number_turned, number_itself}
 use Rattle.waiting_laws.specs.Calls.{is_rescind_of}
 use Rattle.waiting_laws.proofs.Due.{any_front, any_back}
 use Rattle.waiting_laws.proofs.Entries.{phase_fits, is_among, entry_fits, AreOut, unsent_fits, given_up_keeps, put_out, each_out, without_out, wrote_out, unwrote_out, left_out, passed_out}

@@ -37,8 +37,8 @@ use Rattle.core_model.specs.Fits.{CoreOk, once, has_number, numbers_of, wait_num
 use Rattle.core_model.specs.State.{Core}
 use Rattle.core_model.specs.WaitsFor as idle
 use Rattle.core_fits.specs.Fits.{EachOf, IsSame, is_reading}
-use Rattle.core_laws.proofs.Idle.{none_is_idle}
-use Rattle.core_laws.proofs.Lists.{same_number, number_itself, any_mapped, any_filtered}
+use Rattle.core_laws.proofs.Steps.Idle.{none_is_idle}
+use Rattle.core_laws.proofs.Steps.Lists.{same_number, number_itself, any_mapped, any_filtered}
 use Rattle.waiting_laws.specs.Calls.{asks_for, keeps_for, is_own_call, is_revoke_call, AcquireRuns, KeepaliveRuns, WriteRuns, RevokeRuns, RescindRuns, AskRuns, IsWriteOut}
 use Rattle.waiting_laws.specs.Waiting.{AcquireOf, OwnerWriteOf, IsWrite, RescindOf, WaitsFor, calls, acquires, joined, behind_owner, sends, asks_owner, awaits_deletion, behind_acquire, behind_rescind, behind_write, shares_keepalive, follows_keepalive}
 use Rattle.waiting_laws.specs.Laws.{RescindsAreOut, RequestsWait}

@@ -3,17 +3,17 @@ use Rattle.std.proofs.Common.{refl, sym, subst}
 use Rattle.core_model.specs.ClockWork.{clock_work}
 use Rattle.core_model.specs.State.{Core}
 use Rattle.core_model.specs.Step.{stepped}
-use Rattle.core_laws.proofs.Middle.{clock_whole}
-use Rattle.core_laws.proofs.Start.{start_fits}
-use Rattle.core_laws.proofs.Stepping.{steps_keep}
-use Rattle.core_laws.proofs.Whole.{is_ok, of_ok}
+use Rattle.core_laws.proofs.Steps.Middle.{clock_whole}
+use Rattle.core_laws.proofs.Steps.Start.{start_fits}
+use Rattle.core_laws.proofs.Steps.Stepping.{steps_keep}
+use Rattle.core_laws.proofs.Steps.Whole.{is_ok, of_ok}
 use Rattle.core_fits.proofs.Fit.{fits_start, fits_step, fits_clock}
-use Rattle.idle_laws.proofs.Alone.{steps_leave_alone}
-use Rattle.idle_laws.proofs.Runs as watches
+use Rattle.core_laws.proofs.Watches.Alone.{steps_leave_alone}
+use Rattle.core_laws.proofs.Watches.Runs as watches
 use Rattle.watch_model.specs.State.{Broadcasts}
 use Rattle.watch_laws.specs.Alone.{StandAlone}
-use Rattle.idle_laws.specs.Laws.{AreWaiting}
-use Rattle.idle_laws.proofs.Touches.{clock_watches}
+use Rattle.core_laws.specs.Watches.Laws.{AreWaiting}
+use Rattle.core_laws.proofs.Watches.Touches.{clock_watches}
 use Rattle.waiting_laws.specs.Sound.{StartsSound, StepsStaySound, ClockWorkStaysSound, SoundIsNotIdle}
 use Rattle.waiting_laws.proofs.Ends.{CoreOut, clock_out}
 use Rattle.waiting_laws.proofs.Requests.{requests_wait}

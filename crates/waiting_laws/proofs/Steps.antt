@@ -56,7 +56,7 @@ use Rattle.core_model.specs.Takes.{item_taken, taken, on_take, has_left, watcher
 use Rattle.core_model.specs.Takes as takes
 use Rattle.core_model.specs.Watching.{stream_message, stream_item, taken_item, stream_job, with_watches}
 use Rattle.core_model.specs.Watching as watching
-use Rattle.core_laws.proofs.Comes.{by_test}
+use Rattle.core_laws.proofs.Steps.Comes.{by_test}
 use Rattle.waiting_laws.specs.Laws.{RescindsAreOut}
 use Rattle.waiting_laws.proofs.Entries.{phase_fits, is_among, entry_fits, none_out}
 use Rattle.waiting_laws.proofs.Owned.{OwnOut, proceeded_out, message_out, given_up_out, SentOut, job_sent_out}

@@ -3,7 +3,7 @@ use Rattle.std.proofs.Common.{◌≡◌, ℕ, ◌==◌, true, false, not, List, 
 use Rattle.std.specs.List.{list_any}
 use Rattle.etcd_types.proofs.Bools.{or_left}
 use Rattle.core_fits.specs.Fits.{EachOf}
-use Rattle.core_laws.proofs.Lists.{number_itself}
+use Rattle.core_laws.proofs.Steps.Lists.{number_itself}
 use Rattle.core_model.specs.DueJobs.{due_phase}
 use Rattle.core_model.specs.State.{Core}
 use Rattle.core_model.specs.WaitsFor as idle

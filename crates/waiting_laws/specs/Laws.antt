@@ -6,7 +6,7 @@ use Rattle.proxy_model.specs.Keyed.{at}
 use Rattle.core_model.specs.Fits.{CoreOk}
 use Rattle.core_model.specs.State.{Core}
 use Rattle.core_fits.specs.Fits.{CoreFits}
-use Rattle.idle_laws.specs.Laws.{AreWaiting}
+use Rattle.core_laws.specs.Watches.Laws.{AreWaiting}
 use Rattle.waiting_laws.specs.Calls.{is_rescind_out}
 use Rattle.waiting_laws.specs.Waiting.{EachRequestWaits, EachWatchWaits}
 

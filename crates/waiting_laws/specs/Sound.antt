@@ -9,9 +9,9 @@ use Rattle.core_model.specs.ClockWork.{clock_work}
 use Rattle.core_model.specs.Fits.{CoreOk}
 use Rattle.core_model.specs.State.{Core, first_core}
 use Rattle.core_model.specs.Step.{stepped}
-use Rattle.core_laws.specs.Kept.{IsHeard}
+use Rattle.core_laws.specs.Steps.Kept.{IsHeard}
 use Rattle.core_fits.specs.Fits.{CoreFits}
-use Rattle.idle_laws.specs.Laws.{AreWaiting}
+use Rattle.core_laws.specs.Watches.Laws.{AreWaiting}
 use Rattle.waiting_laws.specs.Laws.{RescindsAreOut}
 use Rattle.waiting_laws.specs.Waiting.{NothingIsIdle}
 

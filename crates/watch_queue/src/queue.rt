@@ -159,10 +159,3 @@ impl Queue {
         self.events.truncate_back(self.within);
     }
 }
-
-fn crosses<T: Send>(_it: &T) {}
-
-/// A queue may go to another thread.
-pub fn queue_crosses(queue: &Queue) {
-    crosses(queue);
-}

@@ -18,7 +18,7 @@ use Rattle.core_model.specs.declared.event.Outcome.TheVariants as outcome
 use Rattle.core_model.specs.declared.event.StepFault.{StepFault}
 use Rattle.core_model.specs.Watching.{stream_job, with_watches}
 use Rattle.held_laws.proofs.Streams.{found_is}
-use Rattle.idle_laws.proofs.Touches.{Side, is_plain, Touch, leaves, hears, ticks, took, opens_leasing, sends}
+use Rattle.core_laws.proofs.Watches.Touches.{Side, is_plain, Touch, leaves, hears, ticks, took, opens_leasing, sends}
 
 -- the streams and the watches are as they were
 abbrev pub Same : Side → Side → Type 0

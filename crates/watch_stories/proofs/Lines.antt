@@ -26,8 +26,8 @@ use Rattle.world_model.specs.Places.{nth, place_at, is_among, with_core}
 use Rattle.world_model.specs.Sends.{new_stream, closed_in}
 use Rattle.world_model.specs.State.{Place, OpenedStream, World, word}
 use Rattle.world_laws.proofs.Effects.{Turn, ticks, asks_it, posts_it, calls, opens, closes, answers, loses, delivers as delivers_it, cuts, takes, waits, leaves}
-use Rattle.idle_laws.proofs.Touches.{Side, side, Touch, leaves as leaves_all, took, left_it}
-use Rattle.idle_laws.proofs.Holding.{watch_itself}
+use Rattle.core_laws.proofs.Watches.Touches.{Side, side, Touch, leaves as leaves_all, took, left_it}
+use Rattle.core_laws.proofs.Watches.Holding.{watch_itself}
 use Rattle.held_laws.proofs.Items.{IsSilent, taken_still, asked_same}
 use Rattle.held_laws.proofs.Knowing.{IsKnown}
 use Rattle.held_laws.proofs.Places.{counted_side, stepping}

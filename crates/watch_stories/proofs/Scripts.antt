@@ -12,7 +12,7 @@ use Rattle.script_text.specs.declared.item.Item.{Item}
 use Rattle.script_text.specs.declared.item.Item.TheVariants as item
 use Rattle.script_text.specs.declared.line.Line.{Line}
 use Rattle.script_text.specs.declared.line.Line.TheVariants as line
-use Rattle.store_sound.proofs.SoundProofs.{starts_sound}
+use Rattle.store_laws.proofs.Lives.SoundProofs.{starts_sound}
 use Rattle.watch_model.specs.Lookups.{place_stream, watch_at}
 use Rattle.watch_model.specs.Queues.{item_events, queued_events}
 use Rattle.watch_model.specs.State.{Stream, Watch}
@@ -28,9 +28,9 @@ use Rattle.world_model.specs.Places.{nth, is_among, with_core}
 use Rattle.world_model.specs.State.{Place, World, starting_world}
 use Rattle.world_model.specs.Transcript.{Taken, taken, items_and_then, transcript_from}
 use Rattle.world_laws.proofs.Effects.{Turn, ticks, asks_it, posts_it, calls, opens, closes, answers, loses, delivers, cuts, takes, waits, leaves, Begins, first, again, Effect, starts, sets, refuses_post, executes, expires, applies, pushes, turns}
-use Rattle.idle_laws.proofs.Touches.{Side, Touch, leaves as leaves_all, took}
+use Rattle.core_laws.proofs.Watches.Touches.{Side, Touch, leaves as leaves_all, took}
 use Rattle.held_laws.proofs.Growing.{Grows}
-use Rattle.idle_laws.proofs.Holding.{watch_itself}
+use Rattle.core_laws.proofs.Watches.Holding.{watch_itself}
 use Rattle.held_laws.proofs.Items.{queued-append}
 use Rattle.held_laws.proofs.Lines.{begun_world}
 use Rattle.held_laws.proofs.Messages.{GoOn, AreMessages}

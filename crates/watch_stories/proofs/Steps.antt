@@ -35,7 +35,7 @@ use Rattle.world_model.specs.Answers.{seen}
 use Rattle.world_model.specs.Lives.{begins, life, asked_as, pushed_into, delivers}
 use Rattle.world_model.specs.Places.{nth, with_nth, kept_at, with_kept}
 use Rattle.world_model.specs.State.{OpenedStream, Numbered}
-use Rattle.idle_laws.proofs.Touches.{Side, is_other, is_plain, told_unwrapped, told_stream, Touch, leaves, joins, heard_leasing, broke_leasing, cut_leasing, told, cut}
+use Rattle.core_laws.proofs.Watches.Touches.{Side, is_other, is_plain, told_unwrapped, told_stream, Touch, leaves, joins, heard_leasing, broke_leasing, cut_leasing, told, cut}
 use Rattle.held_laws.proofs.Holding.{IsApart}
 use Rattle.held_laws.proofs.Items.{IsSilent, life_still, taken_still, asked-append, or_later}
 use Rattle.held_laws.proofs.Kept.{kept_itself, kept_other, nth_other}

@@ -36,7 +36,7 @@ use Rattle.world_model.specs.Places.{kept_at, with_kept}
 use Rattle.world_model.specs.State.{OpenedStream, Numbered}
 use Rattle.held_laws.proofs.Items.{IsSilent, life-append}
 use Rattle.held_laws.proofs.Kept.{kept_other}
-use Rattle.idle_laws.proofs.Touches.{told_unwrapped, told_stream}
+use Rattle.core_laws.proofs.Watches.Touches.{told_unwrapped, told_stream}
 use Rattle.watch_stories.specs.Stories.{Spot, member, concerns}
 use Rattle.watch_stories.proofs.Facts.{View, later, IsOpen, AreOpen, mute_open, fewer_open, without_fewer}
 use Rattle.watch_stories.proofs.Items.{IsMute}

@@ -18,7 +18,7 @@ use Rattle.world_model.specs.Answers.{seen}
 use Rattle.world_model.specs.Lives.{life, pushed_into, delivers}
 use Rattle.world_model.specs.Places.{nth, with_nth, place_at}
 use Rattle.world_model.specs.State.{Place, OpenedStream, World}
-use Rattle.idle_laws.proofs.Touches.{side}
+use Rattle.core_laws.proofs.Watches.Touches.{side}
 use Rattle.held_laws.proofs.Items.{life_still}
 use Rattle.held_laws.proofs.Kept.{nth_other}
 use Rattle.held_laws.proofs.Links.{StreamOk}

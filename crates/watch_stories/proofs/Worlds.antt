@@ -26,7 +26,7 @@ use Rattle.world_model.specs.Starts.{new_place}
 use Rattle.world_model.specs.Streams.{with_message}
 use Rattle.world_model.specs.State.{Place, OpenedStream, World, Numbered}
 use Rattle.world_laws.proofs.Effects.{Turn, ticks, asks_it, posts_it, calls, opens, closes, answers, loses, delivers as delivers_it, cuts, takes, waits, leaves, Begins, first, again, Effect, starts, sets, refuses_post, executes, expires, applies, pushes, turns}
-use Rattle.idle_laws.proofs.Touches.{Side}
+use Rattle.core_laws.proofs.Watches.Touches.{Side}
 use Rattle.held_laws.proofs.Items.{IsSilent, silent-append, life-append, life_still, line_silent, reply_silent, replies_silent}
 use Rattle.held_laws.proofs.Kept.{nth_itself, nth_other}
 use Rattle.held_laws.proofs.Lines.{start_silent, started_life}

@@ -3,9 +3,9 @@ use Rattle.std.proofs.Common.{◌≡◌, ℕ, ◌+◌, ◌-◌, subst, List, [],
 use Rattle.script_text.specs.declared.item.Item.{Item}
 use Rattle.script_text.specs.declared.line.Line.{Line}
 use Rattle.store_model.specs.State.{State, starting}
-use Rattle.store_sound.specs.Lives.{StoreStep, stepped, lived}
-use Rattle.store_sound.specs.Sound.{Sound}
-use Rattle.store_sound.proofs.LifeProofs.{lives_are_sound}
+use Rattle.store_laws.specs.Lives.Lives.{StoreStep, stepped, lived}
+use Rattle.store_laws.specs.Lives.Sound.{Sound}
+use Rattle.store_laws.proofs.Lives.LifeProofs.{lives_are_sound}
 use Rattle.world_laws.specs.Laws.{HasLived}
 use Rattle.world_laws.proofs.Watches.{Moves}
 use Rattle.script_text.specs.declared.line.Line.TheVariants as line

@@ -41,8 +41,8 @@ use Rattle.world_model.specs.StoreLines.{not_due, expired_if, expired_by, store_
 use Rattle.world_model.specs.Streams.{pushed_as, pushed_at, pushed_of, open_place, was_delivered, delivered_as, delivered_at, delivered_of, was_cut, cut_at, cut_of}
 use Rattle.world_model.specs.Takes.{is_watch, took, taken_if, taken_at, message_taken, has_left, left_if, left_at, left}
 use Rattle.world_model.specs.Transcript.{Done, step, done}
-use Rattle.store_laws.proofs.RequestProofs.{whole-exec}
-use Rattle.store_sound.specs.Lives.{executes, opens}
+use Rattle.store_laws.proofs.Requests.RequestProofs.{whole-exec}
+use Rattle.store_laws.specs.Lives.Lives.{executes, opens}
 use Rattle.world_laws.proofs.Watches.{Moves, KeepsStore, pushes_keep, progress_keeps, LeavesStore, expiries_leave, applies_leave}
 use Rattle.world_laws.specs.Laws.{OneStepped, IsOwn, GainsItsOwn}
 

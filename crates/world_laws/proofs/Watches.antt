@@ -9,7 +9,7 @@ use Rattle.store_model.specs.Leases.{expired}
 use Rattle.store_model.specs.Members.{lacks_member, applied}
 use Rattle.store_model.specs.State.{State, applied_by}
 use Rattle.store_model.specs.Transactions.{has_lease}
-use Rattle.store_sound.specs.Lives.{StoreStep, expires, applies, pushes, progresses, state_or, pushed_or, stepped}
+use Rattle.store_laws.specs.Lives.Lives.{StoreStep, expires, applies, pushes, progresses, state_or, pushed_or, stepped}
 use Rattle.store_model.specs.Watches.{Pushed, watch_of, push_events, push_to, for_watch, pushed, is_synced, progress_to, progressed, events_for}
 
 -- a store as it was, or after one step of its life

@@ -7,8 +7,8 @@ use Rattle.script_text.specs.declared.item.Item.TheVariants as item
 use Rattle.script_text.specs.declared.line.Line.{Line}
 use Rattle.script_text.specs.declared.line.Line.TheVariants as line
 use Rattle.store_model.specs.State.{starting}
-use Rattle.store_sound.specs.Lives.{StoreStep, lived}
-use Rattle.store_sound.specs.Sound.{Sound}
+use Rattle.store_laws.specs.Lives.Lives.{StoreStep, lived}
+use Rattle.store_laws.specs.Lives.Sound.{Sound}
 use Rattle.world_model.specs.Answers.{AnswersAreTheStores, MessagesAreTheStores}
 use Rattle.world_model.specs.declared.fault.LineRefusal.{LineRefusal}
 use Rattle.world_model.specs.Places.{place_at, with_place, with_core}

@@ -7,8 +7,8 @@ use Rattle.lease_txn.specs.declared.not_shape.NotShape.{NotShape}
 use Rattle.lease_txn.specs.declared.not_shape.NotShape.TheVariants.{Shape, NoMemory}
 use Rattle.proxy_model.specs.Keyed.{at}
 use Rattle.read_core.specs.Falls.{again_stage}
-use Rattle.read_laws.specs.InPlace.{placed_by}
-use Rattle.read_laws.proofs.InPlace.{answers_in_place}
+use Rattle.core_laws.specs.PlainReads.InPlace.{placed_by}
+use Rattle.core_laws.proofs.PlainReads.InPlace.{answers_in_place}
 use Rattle.read_model.specs.declared.asked.Asked.{Asked}
 use Rattle.read_model.specs.declared.asked.Stage.{Stage}
 use Rattle.read_model.specs.declared.asked.Stage.TheVariants as stage

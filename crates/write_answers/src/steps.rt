@@ -1,6 +1,6 @@
 ghost use Rattle.std.specs.Prelude.{◌≡◌, Bool, map, IfOk, OnOk, OnErr};
 ghost use Rattle.known_asks.specs.Changes.{restaged, staged_by};
-ghost use Rattle.read_laws.specs.InPlace.{placed_by};
+ghost use Rattle.core_laws.specs.PlainReads.InPlace.{placed_by};
 ghost use Rattle.read_model.specs.Fits.{ReadsOk};
 ghost use Rattle.read_model.specs.WriteAnswers.{settled_ask, wait_answered};
 ghost use Rattle.wait_model.specs.Endings.{answered};

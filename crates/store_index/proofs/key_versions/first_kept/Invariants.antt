@@ -1,6 +1,6 @@
 -- The versions passed are below the revision.
 use Rattle.std.proofs.Common.{◌≡◌, take, drop, None}
-use Rattle.kept_model.specs.Versions.{kept, kept_with}
+use Rattle.compaction_model.specs.Versions.{kept, kept_with}
 use Rattle.store_index.specs.Held.{held_last}
 use Rattle.store_index.proofs.key_versions.first_kept.Given as goal
 

@@ -1,5 +1,5 @@
 use Rattle.std.proofs.Common.{◌≡◌, ◌++◌, ℕ, take, drop, None, sym, subst, arith, rules}
-use Rattle.kept_model.specs.Versions.{held_list}
+use Rattle.compaction_model.specs.Versions.{held_list}
 use Rattle.store_index.specs.Held.{held_last}
 use Rattle.store_index.proofs.KeptPlaces.{held_put, held_deletion, held_none}
 use Rattle.store_index.proofs.key_versions.held_before.Goals.{else-place-gt0-via-then-place-gt0+else-is_some, else-place-gt0-via-else-place-gt0}

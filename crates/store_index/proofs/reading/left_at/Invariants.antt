@@ -1,6 +1,6 @@
 -- Only versions that are too late were passed.
 use Rattle.std.proofs.Common.{◌≡◌, ◌≤◌, length, take, None}
-use Rattle.kept_model.specs.Versions.{last_left, up_to}
+use Rattle.compaction_model.specs.Versions.{last_left, up_to}
 use Rattle.store_index.proofs.reading.left_at.Given as goal
 
 abbrev pub invariant-loop-count : goal.invariant-loop-count

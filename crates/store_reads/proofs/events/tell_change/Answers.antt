@@ -6,8 +6,8 @@ use Rattle.std.proofs.lemmas.Option.{get_or_from_slice_get}
 use Rattle.std.specs.Option.{option_copied}
 use Rattle.etcd_types.specs.Ranges.{contains}
 use Rattle.etcd_types.specs.declared.watch.Event.{Event}
-use Rattle.kept_model.specs.declared.version.Version.{Version}
-use Rattle.kept_model.specs.Versions.{last_left}
+use Rattle.compaction_model.specs.declared.version.Version.{Version}
+use Rattle.compaction_model.specs.Versions.{last_left}
 use Rattle.store_model.specs.Watches.{next_after}
 use Rattle.store_reads.specs.Told.{left_passes, told_left, left_to_tell}
 use Rattle.store_reads.specs.Places.{count_same}

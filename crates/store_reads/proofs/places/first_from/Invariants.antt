@@ -1,7 +1,7 @@
 -- Before the low place all is earlier, and from the high one on nothing is.
 use Rattle.std.proofs.Common.{◌≡◌, ◌≤◌, ◌<◌, ◌+◌, ◌-◌, ℕ, Some, length}
 use Rattle.std.specs.List.{slice_get}
-use Rattle.kept_model.specs.declared.version.Version.{Version}
+use Rattle.compaction_model.specs.declared.version.Version.{Version}
 use Rattle.store_reads.proofs.places.first_from.Given as goal
 
 abbrev pub invariant-loop-low : goal.invariant-loop-low

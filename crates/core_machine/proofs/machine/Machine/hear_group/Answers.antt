@@ -3,7 +3,7 @@ use Rattle.std.proofs.Common.{◌≡◌, true, sym, ap, ◌∙◌}
 use Rattle.read_model.specs.State.{Reads}
 use Rattle.core_model.specs.Ends.{is_keepalive}
 use Rattle.core_model.specs.Lookups.{with_reads, out_at}
-use Rattle.core_laws.proofs.Calls.{found_is}
+use Rattle.core_laws.proofs.Steps.Calls.{found_is}
 use Rattle.core_machine.specs.contracts.machine.Machine.{the_view}
 use Rattle.core_machine.specs.Answers.{ended_in}
 use Rattle.core_machine.specs.Keeping.{Kept, on}

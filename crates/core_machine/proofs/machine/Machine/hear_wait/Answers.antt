@@ -3,7 +3,7 @@ use Rattle.std.proofs.Common.{◌≡◌, Some, None, sym, ap, subst, ◌∙◌}
 use Rattle.read_model.specs.State.{Reads, Moment}
 use Rattle.read_model.specs.WriteAnswers.{wait_answered}
 use Rattle.core_model.specs.Lookups.{moment, reads_of, with_reads, out_at}
-use Rattle.core_laws.proofs.Calls.{found_is}
+use Rattle.core_laws.proofs.Steps.Calls.{found_is}
 use Rattle.core_machine.specs.contracts.machine.Machine.{the_view}
 use Rattle.core_machine.specs.Answers.{heard_in, ended_in, Loses}
 use Rattle.core_machine.specs.Keeping.{Kept, on}

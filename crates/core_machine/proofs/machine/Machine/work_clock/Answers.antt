@@ -5,8 +5,8 @@ use Rattle.core_model.specs.ClockWork.{begun}
 use Rattle.core_model.specs.Fits.{is_standing}
 use Rattle.core_model.specs.Lookups.{reads_of}
 use Rattle.core_model.specs.Sessions.{deadline_passed}
-use Rattle.core_laws.proofs.Middle.{deadline_mid}
-use Rattle.core_laws.proofs.Whole.{begun_mid}
+use Rattle.core_laws.proofs.Steps.Middle.{deadline_mid}
+use Rattle.core_laws.proofs.Steps.Whole.{begun_mid}
 use Rattle.core_machine.specs.Keeping.{Kept, on}
 use Rattle.core_machine.proofs.machine.Machine.work_clock.Goals as goal
 

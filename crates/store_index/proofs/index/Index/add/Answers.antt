@@ -1,6 +1,6 @@
 use Rattle.std.proofs.Common.{◌<◌, List, ℕ, length, refl, ◌++◌, ◌∷◌, [], ◌∙◌, sym, ap, arith}
 use Rattle.std.proofs.lemmas.Bool.Decides.{nat_tests}
-use Rattle.kept_model.specs.Places.{changed_keys}
+use Rattle.compaction_model.specs.Places.{changed_keys}
 use Rattle.store_index.proofs.IndexLemmas.{keeps_as, some_as, grown_by, some_grown, taken_back}
 use Rattle.store_index.proofs.index.Index.add.Goals as goal
 

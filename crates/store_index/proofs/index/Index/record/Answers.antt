@@ -1,6 +1,6 @@
 use Rattle.std.proofs.Common.{List, None, ◌∙◌, ap}
-use Rattle.kept_model.specs.declared.version.Version.{Version}
-use Rattle.kept_model.specs.Versions.{last_left}
+use Rattle.compaction_model.specs.declared.version.Version.{Version}
+use Rattle.compaction_model.specs.Versions.{last_left}
 use Rattle.store_index.proofs.IndexLemmas.{record_held}
 use Rattle.store_index.proofs.index.Index.record.Goals as goal
 

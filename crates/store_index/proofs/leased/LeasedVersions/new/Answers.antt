@@ -1,6 +1,6 @@
 use Rattle.std.proofs.Common.{◌≡◌, None, Some, sym, ◌∙◌, ap}
 use Rattle.etcd_types.specs.declared.record.Kv.{Kv}
-use Rattle.kept_model.specs.Versions.{last_left}
+use Rattle.compaction_model.specs.Versions.{last_left}
 use Rattle.store_index.specs.Maps.{Entries, versions_of}
 use Rattle.store_index.proofs.leased.LeasedVersions.new.Goals as goal
 

@@ -1,5 +1,5 @@
 use Rattle.std.proofs.Common.{◌∙◌, ap, rules}
-use Rattle.kept_model.specs.Versions.{kept}
+use Rattle.compaction_model.specs.Versions.{kept}
 use Rattle.store_index.specs.Maps.{Entries, versions_of}
 use Rattle.store_index.proofs.Compacting.{is_there, retained, compacted, compacted-HaveVersions}
 use Rattle.store_index.proofs.versions.Versions.compact.Goals as goal

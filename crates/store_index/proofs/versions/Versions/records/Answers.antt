@@ -1,7 +1,7 @@
 use Rattle.std.proofs.Common.{List, ◌++◌, sym, ◌∙◌, ap}
 use Rattle.std.specs.Option.{option_to_list}
 use Rattle.etcd_types.specs.declared.record.Kv.{Kv}
-use Rattle.kept_model.specs.declared.version.Version.{Version}
+use Rattle.compaction_model.specs.declared.version.Version.{Version}
 use Rattle.store_index.specs.Maps.{left_by}
 use Rattle.store_index.proofs.OneKey.{one_shown, nothing_left}
 use Rattle.store_index.proofs.versions.Versions.records.Goals as goal

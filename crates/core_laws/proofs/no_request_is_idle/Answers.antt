@@ -1,6 +1,0 @@
-use Rattle.core_laws.proofs.Idle.{none_is_idle}
-use Rattle.core_laws.proofs.Start.{start_fits}
-use Rattle.core_laws.proofs.no_request_is_idle.Goals as goal
-
-pub returns : goal.returns
-returns c = record { start = start_fits; none = none_is_idle }

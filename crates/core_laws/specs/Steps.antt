@@ -1,0 +1,4 @@
+pub mod Laws
+pub mod Outcomes
+pub mod Kept
+pub mod Staying

@@ -1,5 +1,0 @@
-use Rattle.event_laws.proofs.WatchProofs.{tell_each_once, tell_all, tell_up_to_next}
-use Rattle.event_laws.proofs.laws.watches_tell_each_event_once.Goals as goal
-
-pub returns : goal.returns
-returns c = record { once = tell_each_once; next = tell_up_to_next; all = tell_all }

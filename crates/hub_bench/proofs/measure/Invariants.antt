@@ -1,8 +1,0 @@
-use Rattle.std.proofs.Common.{◌≡◌}
-use Rattle.hub_bench.proofs.measure.Given as goal
-
-abbrev pub invariant-loop-number : goal.invariant-loop-number
-invariant-loop-number g l = l.first.hub ≡ l.hub.value
-
-abbrev pub invariant-loop : goal.invariant-loop
-invariant-loop g l = l.first.hub ≡ l.hub.value

@@ -1,5 +1,0 @@
-use Rattle.idle_laws.proofs.Runs.{start_waits, none_is_idle, steps_keep, runs_leave_none}
-use Rattle.idle_laws.proofs.no_watch_is_idle.Goals as goal
-
-pub returns : goal.returns
-returns c = record { start = start_waits; none = none_is_idle; steps = steps_keep; runs = runs_leave_none }

@@ -1,5 +1,0 @@
-use Rattle.image_laws.proofs.Hearing.{answers_are_images, replies_are_heard_bare}
-use Rattle.image_laws.proofs.answers_are_images.Goals as goal
-
-pub returns : goal.returns
-returns c = record { answers = answers_are_images; heard = replies_are_heard_bare }

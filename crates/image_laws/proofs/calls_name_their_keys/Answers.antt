@@ -1,5 +1,0 @@
-use Rattle.image_laws.proofs.StepNaming.{starts_named, steps_stay_named, jobs_go_under}
-use Rattle.image_laws.proofs.calls_name_their_keys.Goals as goal
-
-pub returns : goal.returns
-returns c = record { starts = starts_named; steps = steps_stay_named; jobs = jobs_go_under }

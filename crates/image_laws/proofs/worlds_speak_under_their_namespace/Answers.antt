@@ -1,5 +1,0 @@
-use Rattle.image_laws.proofs.Images.{proxies_stay_under, calls_go_under, streams_go_under}
-use Rattle.image_laws.proofs.worlds_speak_under_their_namespace.Goals as goal
-
-pub returns : goal.returns
-returns c = record { proxies = proxies_stay_under; calls = calls_go_under; streams = streams_go_under }

@@ -1,5 +1,0 @@
-use Rattle.kept_laws.proofs.TellingHistories.{events_by_kept}
-use Rattle.kept_laws.proofs.laws.events_by_kept.Goals as goal
-
-pub returns : goal.returns
-returns c = events_by_kept

@@ -1,5 +1,0 @@
-use Rattle.kept_laws.proofs.Running.{operations_by_kept}
-use Rattle.kept_laws.proofs.laws.operations_by_kept.Goals as goal
-
-pub returns : goal.returns
-returns c = operations_by_kept

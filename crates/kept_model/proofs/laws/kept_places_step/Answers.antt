@@ -1,5 +1,0 @@
-use Rattle.kept_model.proofs.PlaceProofs.{places_grow, places_again}
-use Rattle.kept_model.proofs.laws.kept_places_step.Goals as goal
-
-pub returns : goal.returns
-returns c = record { grow = places_grow; again = places_again }

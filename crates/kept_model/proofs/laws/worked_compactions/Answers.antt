@@ -1,5 +1,0 @@
-use Rattle.std.proofs.Common.{refl}
-use Rattle.kept_model.proofs.laws.worked_compactions.Goals as goal
-
-pub returns : goal.returns
-returns c = record { all = refl; put = (refl, refl); deletion = (refl, refl) }

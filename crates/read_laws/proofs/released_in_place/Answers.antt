@@ -1,5 +1,0 @@
-use Rattle.read_laws.proofs.InPlace.{plain_in_place, again_in_place, answers_in_place, wins_in_place}
-use Rattle.read_laws.proofs.released_in_place.Goals as goal
-
-pub returns : goal.returns
-returns c = record { plain = plain_in_place; again = again_in_place; answers = answers_in_place; wins = wins_in_place }

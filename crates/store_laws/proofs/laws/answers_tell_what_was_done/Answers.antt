@@ -1,5 +1,0 @@
-use Rattle.store_laws.proofs.AnsweredProofs.{refusals_are_known, replies_tell_revisions}
-use Rattle.store_laws.proofs.laws.answers_tell_what_was_done.Goals as goal
-
-pub returns : goal.returns
-returns c = record { refusals = refusals_are_known; revisions = replies_tell_revisions }

@@ -1,5 +1,0 @@
-use Rattle.store_laws.proofs.RequestProofs.{make_one_revision, expiries_make_one_revision}
-use Rattle.store_laws.proofs.laws.requests_make_one_revision.Goals as goal
-
-pub returns : goal.returns
-returns c = record { requests = make_one_revision; expiries = expiries_make_one_revision }

@@ -1,5 +1,0 @@
-use Rattle.store_moves.proofs.CachedProofs.{held_records_are_true, cached_reads_are_true, cached_snapshots_are_true}
-use Rattle.store_moves.proofs.laws.cached_answers_are_true.Goals as goal
-
-pub returns : goal.returns
-returns c = record { records = held_records_are_true; reads = cached_reads_are_true; snapshots = cached_snapshots_are_true }

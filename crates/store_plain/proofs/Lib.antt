@@ -1,3 +1,0 @@
-pub mod LeaseLemmas
-pub mod PushLemmas
-pub mod Stores

@@ -1,5 +1,0 @@
-use Rattle.store_plain.proofs.Stores.{states_agree}
-use Rattle.store_plain.proofs.laws.states_of_a_store_agree.Goals as goal
-
-pub returns : goal.returns
-returns c = states_agree
