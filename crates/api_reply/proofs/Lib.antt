@@ -1,3 +1,5 @@
 pub mod BodyLemmas
 pub mod NoFloats
 pub mod PlainAnswers
+pub mod SentItems
+pub mod SentTexts

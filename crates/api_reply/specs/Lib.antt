@@ -1,1 +1,3 @@
 pub mod PlainAnswers
+pub mod SentItems
+pub mod SentTexts

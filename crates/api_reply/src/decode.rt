@@ -1,4 +1,4 @@
-ghost use Rattle.std.specs.Prelude.{◌≡◌};
+ghost use Rattle.std.specs.Prelude.{◌≡◌, Ok, IfSome};
 ghost use Rattle.serde_json.specs.View.{members_view};
 ghost use Rattle.json_model.specs.Faults.{GivesReply, of_reply};
 ghost use Rattle.json_model.specs.Texts.{without_line_feed, line_object};
@@ -6,6 +6,7 @@ ghost use Rattle.json_model.specs.Answers as spec;
 ghost use Rattle.json_model.specs.WatchItems as items;
 
 use crate::plain::plain_answer;
+use crate::sent::sent_events;
 use etcd_types::{Answer, NoMemory, Request, WatchItem};
 use json_fields::object_of;
 use json_model::NotReply;
@@ -87,15 +88,33 @@ pub fn decode_reply(
     }
 }
 
-/// The message of a watch that a line is, with or without its line feed: `{"result":OBJECT}`. One with `canceled` is a
-/// cancellation, else one with `created` tells that the watch began, else it has events, or none. Unknown fields are left
-/// aside.
-///
-/// `Unreadable` is told exactly where the line isn't one JSON object in the mapping.
+/// The message with events that stands as etcd writes it.
+fn sent_item(alloc: Global, line: &[u8]) -> Option<WatchItem>
+    ensures { IfSome result (λ item. items.item_of line.now ≡ Ok item) }
+{
+    let (header, events) = sent_events(alloc, without_line_feed(line))?;
+    Some(WatchItem::Events { header, events })
+}
+
 #[tactic(auto, unfolding(json_model::specs::WatchItems::item_of))]
-pub fn decode_item(alloc: Global, line: &[u8]) -> Result<WatchItem, NotReply>
+fn item_by_value(alloc: Global, line: &[u8]) -> Result<WatchItem, NotReply>
     ensures { GivesReply (λ item. item) result (items.item_of line.now) }
 {
     let members = line_members(alloc, line)?;
     Ok(item_among(alloc, &members)?)
+}
+
+/// The message of a watch that a line is, with or without its line feed: `{"result":OBJECT}`. One with `canceled` is a
+/// cancellation, else one with `created` tells that the watch began, else it has events, or none. Unknown fields are left
+/// aside.
+///
+/// `Unreadable` is told exactly where the line isn't one JSON object in the mapping. A message with events that stands as
+/// etcd writes it takes no memory but that of its events.
+pub fn decode_item(alloc: Global, line: &[u8]) -> Result<WatchItem, NotReply>
+    ensures { GivesReply (λ item. item) result (items.item_of line.now) }
+{
+    match sent_item(alloc, line) {
+        Some(item) => Ok(item),
+        None => item_by_value(alloc, line),
+    }
 }

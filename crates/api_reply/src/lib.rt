@@ -10,6 +10,7 @@ mod encode;
 mod plain;
 mod records;
 mod responses;
+mod sent;
 
 pub use decode::{decode_item, decode_reply};
 pub use encode::{encode_item, encode_reply};

@@ -10,7 +10,7 @@ use memchr::memchr;
 use std::str;
 
 /// The greatest revision and the greatest term of the API.
-const NUMBER_MAX: u64 = i64::MAX as u64;
+pub(crate) const NUMBER_MAX: u64 = i64::MAX as u64;
 
 /// The number whose digits these are. Written again it is the same text, so it has no sign and no leading zero.
 fn number_of(digits: &[u8]) -> Option<u64>
@@ -26,14 +26,14 @@ fn number_of(digits: &[u8]) -> Option<u64>
 }
 
 /// What stands behind the piece with which the text begins.
-fn after<'a>(text: &'a [u8], piece: &[u8]) -> Option<&'a [u8]>
+pub(crate) fn after<'a>(text: &'a [u8], piece: &[u8]) -> Option<&'a [u8]>
     ensures { IfSome result (λ rest. text.now ≡ piece.now ++ rest.now) }
 {
     text.strip_prefix(piece)
 }
 
 /// The number with which the text begins, and what stands behind the piece that follows it. A quotation mark ends the digits.
-fn number_before<'a>(text: &'a [u8], piece: &[u8]) -> Option<(u64, &'a [u8])>
+pub(crate) fn number_before<'a>(text: &'a [u8], piece: &[u8]) -> Option<(u64, &'a [u8])>
     ensures { IfSome result (λ parts. text.now ≡ decimal parts.0 ++ (piece.now ++ parts.1.now)) }
 {
     let end = memchr(b'"', text)?;

@@ -1,4 +1,4 @@
-ghost use Rattle.std.specs.Prelude.{◌≡◌, None};
+ghost use Rattle.std.specs.Prelude.{◌≡◌, None, IsOk};
 ghost use Rattle.member_links.specs.Answers.{faults_of};
 
 use crate::call_answer::CallAnswer;
@@ -31,7 +31,11 @@ impl<R: Net<Stream = TcpStream> + Times + Wait + Drop> Source for SocketAnswer<R
         }
     }
 
-    fn check(&mut self) -> Result<(), Failed> {
+    /// A member that is gone is seen by the next read.
+    fn check(&mut self) -> Result<(), Failed>
+        ensures there { IsOk result }
+        ensures kept { faults_of self.new ≡ faults_of self.old }
+    {
         match self {
             SocketAnswer::Call(call) => call.check(),
             SocketAnswer::Stream(stream) => stream.check(),

@@ -1,4 +1,4 @@
-ghost use Rattle.std.specs.Prelude.{◌≡◌, ◌+◌, None, IfOk};
+ghost use Rattle.std.specs.Prelude.{◌≡◌, ◌+◌, ◌<◌, ◌↔◌, None, IfOk, IsOk, IsTrue};
 ghost use Rattle.std.specs.Io.{ReadsAtMost};
 
 use crate::members::Members;
@@ -57,7 +57,9 @@ impl<R: Drop> CallAnswer<R> {
     }
 
     /// Whether a byte of it came.
-    pub(crate) fn has_begun(&self) -> bool {
+    pub(crate) fn has_begun(&self) -> bool
+        ensures { IsTrue result ↔ (self.now.room < CALL_LIMIT) }
+    {
         self.room < CALL_LIMIT
     }
 }
@@ -128,10 +130,15 @@ impl<R: Times + Wait + Drop> Source for CallAnswer<R> {
     }
 
     /// A member that is gone is seen by the next read.
-    fn check(&mut self) -> Result<(), Failed> {
+    fn check(&mut self) -> Result<(), Failed>
+        ensures there { IsOk result }
+        ensures stays { self.new ≡ self.old }
+    {
         Ok(())
     }
 
     /// All of it has one limit of time.
-    fn mark(&mut self, _mark: ReadMark) {}
+    fn mark(&mut self, _mark: ReadMark)
+        ensures stays { self.new ≡ self.old }
+    {}
 }

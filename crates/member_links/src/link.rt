@@ -1,5 +1,8 @@
 ghost use Rattle.std.specs.Prelude.{◌≡◌, None, IfOk};
+ghost use Rattle.std.specs.IoError.{error_kind};
+ghost use Rattle.outside.specs.Calls.{HasLinkCause};
 ghost use Rattle.member_links.specs.Answers.{faults_of};
+ghost use Rattle.member_links.specs.Faults.{is_of_worker, link_fault, counted};
 
 use crate::answer::SocketAnswer;
 use crate::call_answer::CallAnswer;
@@ -61,16 +64,19 @@ impl<R: Drop> SocketLink<R> {
 }
 
 /// Whether a call of this kind is made by a worker.
-fn is_of_worker(kind: CallKind) -> bool {
+fn is_of_worker(kind: CallKind) -> bool
+    ensures { result ≡ is_of_worker kind }
+{
     !matches!(kind, CallKind::Watches(_) | CallKind::Asks)
 }
 
 /// How a link reports an error.
-fn link_fault(error: &io::Error) -> LinkFault {
-    if error.kind() == ErrorKind::OutOfMemory {
-        LinkFault::NoMemory
-    } else {
-        LinkFault::Failed
+fn link_fault(error: &io::Error) -> LinkFault
+    ensures { result ≡ link_fault (error_kind error.now) }
+{
+    match error.kind() {
+        ErrorKind::OutOfMemory => LinkFault::NoMemory,
+        _ => LinkFault::Failed,
     }
 }
 
@@ -276,7 +282,11 @@ impl<R: Net<Stream = TcpStream> + Times + Wait + Eprint + Drop + Clone> Link for
         member: u32,
         kind: CallKind,
         call: &[u8],
-    ) -> Result<SocketAnswer<R>, LinkFault> {
+    ) -> Result<SocketAnswer<R>, LinkFault>
+        ensures fresh { IfOk result (λ answer. faults_of answer ≡ 0) }
+        ensures cause { HasLinkCause self.old.faults self.new.faults result }
+        ensures counted { self.new.faults ≡ counted self.old.faults result }
+    {
         self.enter(kind);
         match self.begun(member, kind, call) {
             Ok(answer) => Ok(answer),

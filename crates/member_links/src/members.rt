@@ -1,4 +1,5 @@
-ghost use Rattle.std.specs.Prelude.{◌≡◌, length, IfOk};
+ghost use Rattle.std.specs.Prelude.{◌≡◌, ◌≢◌, ◌↔◌, length, IfOk, IsOk, OnOk};
+ghost use Rattle.member_links.specs.Numbers.{IsThere};
 
 use crate::busy::Busy;
 use crate::health::{Asked, Health};
@@ -109,7 +110,9 @@ impl Members {
     }
 
     /// The member of this number. It is `NotFound` where there is none.
-    pub(crate) fn member(&self, number: u32) -> io::Result<&Member> {
+    pub(crate) fn member(&self, number: u32) -> io::Result<&Member>
+        ensures { IsOk result ↔ IsThere self.now number }
+    {
         let place = (number as usize).wrapping_sub(1);
         self.all
             .get(place)
@@ -118,7 +121,9 @@ impl Members {
 
     /// The members that a call to the one of this number goes to, one after the other as long as none takes a byte of it: that one
     /// and those behind it, then those before it, but those that are down behind all others, and none that refused to be asked.
-    pub(crate) fn order(&self, number: u32) -> io::Result<Vec<&Member>> {
+    pub(crate) fn order(&self, number: u32) -> io::Result<Vec<&Member>>
+        ensures { OnOk result (IsThere self.now number) }
+    {
         let first = self.member(number)?.number;
         let mut order = Vec::new(self.alloc);
         let mut down = Vec::new(self.alloc);
@@ -263,7 +268,9 @@ impl Members {
     }
 
     /// Whether a member answers, as far as it is known. One that isn't there is down.
-    pub fn health(&self, number: u32) -> Health {
+    pub fn health(&self, number: u32) -> Health
+        ensures { (result ≢ Health.Down) → IsThere self.now number }
+    {
         match self.member(number) {
             Ok(member) => member.pulse.health(),
             Err(_) => Health::Down,

@@ -1,4 +1,4 @@
-ghost use Rattle.std.specs.Prelude.{◌≡◌, None};
+ghost use Rattle.std.specs.Prelude.{◌≡◌, None, IsOk};
 ghost use Rattle.std.specs.Io.{ReadsAtMost};
 
 use crate::members::Members;
@@ -108,7 +108,10 @@ impl<R: Net<Stream = TcpStream> + Times + Wait + Drop> Source for StreamAnswer<R
     }
 
     /// A member that is gone is seen by the next read.
-    fn check(&mut self) -> Result<(), Failed> {
+    fn check(&mut self) -> Result<(), Failed>
+        ensures there { IsOk result }
+        ensures stays { self.new ≡ self.old }
+    {
         Ok(())
     }
 

@@ -1,4 +1,5 @@
 //! Streams of ranges that brought a message that is too long to be read: each time such a stream is begun again, a longer rest comes before.
+ghost use Rattle.std.specs.Prelude.{◌≡◌, ◌*◌, min};
 
 use crate::member::Member;
 use socket_limits::{line_time, time};
@@ -56,7 +57,9 @@ pub(crate) fn range_of(alloc: Global, call: &[u8]) -> Result<Vec<u8>, AllocError
 }
 
 /// The rest behind this one.
-fn longer(rest: u64) -> u64 {
+fn longer(rest: u64) -> u64
+    ensures { result ≡ min (rest * 2) 60000 }
+{
     rest.saturating_mul(2).min(MOST)
 }
 

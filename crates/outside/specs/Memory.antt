@@ -1,5 +1,5 @@
 -- What the forms over memory hold, and what their calls do. Counts end at the last number of 64 bits, where they stay.
-use Rattle.std.specs.Prelude.{◌≡◌, ◌==◌, ℕ, Bool, true, false, min, List, [], ◌∷◌, ◌++◌, drop, take, length, map, Option, None, Some, Result, Ok, Err}
+use Rattle.std.specs.Prelude.{◌≡◌, ◌==◌, ℕ, Bool, true, false, min, max, List, [], ◌∷◌, ◌++◌, drop, take, length, map, Option, None, Some, Result, Ok, Err}
 use Rattle.std.specs.List.{list_any}
 use Rattle.outside.specs.Faults.{one_more}
 use Rattle.outside.specs.declared.source.Failed.{Failed}
@@ -68,6 +68,10 @@ pub record LinkState : Type 0 where
   pub calls : ℕ
   pub faults : ℕ
 
+-- an answer of a link over memory, which no read was made of yet: these bytes, in pieces of at most this size (0 counts as 1)
+abbrev pub fresh_answer : List ℕ → ℕ → Supply
+fresh_answer bytes piece = record { left = bytes; piece = max piece 1; failing = []; calls = 0; faults = 0 }
+
 -- it was called once more; what it is to answer stays
 pub record IsCalled (before now : LinkState) : Type 0 where
   pub replies : now.replies ≡ before.replies
@@ -84,6 +88,11 @@ pub record SpawnerState (P : Type 0) : Type 0 where
   pub calls : ℕ
   pub faults : ℕ
 
+-- what taking the part that was started last leaves: all parts but this one; or there was none
+abbrev pub TakesLast : {P : Type 0} → List P → List P → Option P → Type 0
+TakesLast old new (Some part) = old ≡ new ++ part ∷ []
+TakesLast old new None = (old ≡ []) × (new ≡ [])
+
 -- a host over memory: the connections that it still accepts, in order; whether it stops once none is left; the calls that were
 -- made, where it tells them; which calls fail (numbered from 1), how often it was called, and how often it has failed
 pub record HostState (C : Type 0) : Type 0 where
@@ -93,6 +102,10 @@ pub record HostState (C : Type 0) : Type 0 where
   pub failing : List ℕ
   pub calls : ℕ
   pub faults : ℕ
+
+-- an accept whose call isn't one of those that fail does so only where no connection is left and it doesn't stop then
+abbrev pub FailsToAccept : {C : Type 0} → HostState C → Type 0
+FailsToAccept old = is_failing old.failing old.calls ≡ false → (old.waiting ≡ []) × (old.stops ≡ false)
 
 -- what an accept leaves: all connections but the first, which came; or none came, since none was left and it stops then
 abbrev pub Accepts : {C : Type 0} → HostState C → HostState C → Option C → Type 0

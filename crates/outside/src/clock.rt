@@ -11,8 +11,9 @@ pub trait Clock {
         ensures reading { result ≡ last self.new }
         ensures later { last self.old ≤ last self.new };
 
-    /// Lets some time pass, about this many milliseconds. It promises nothing.
-    fn pause(&mut self, millis: u64);
+    /// Lets some time pass, about this many milliseconds. It is no reading, and promises nothing of the time.
+    fn pause(&mut self, millis: u64)
+        ensures unread { last self.new ≡ last self.old };
 }
 
 /// A clock that stands until it is moved on.

@@ -1,7 +1,7 @@
-ghost use Rattle.std.specs.Prelude.{◌≡◌, true, false, IsErr, OnOk, OnErr, IfOk, [], ◌∷◌, Some};
+ghost use Rattle.std.specs.Prelude.{◌≡◌, ◌↔◌, true, false, IsErr, OnOk, OnErr, IfOk, [], ◌∷◌, Some};
 ghost use Rattle.outside.specs.Calls.{Adds, Listened, Accepted};
 ghost use Rattle.outside.specs.Faults.{HasCause, one_more};
-ghost use Rattle.outside.specs.Memory.{is_failing, Accepts};
+ghost use Rattle.outside.specs.Memory.{is_failing, Accepts, FailsToAccept};
 ghost use Rattle.outside.specs.Notes.{host_call};
 
 use crate::host::Host;
@@ -99,8 +99,8 @@ impl<C: Drop> Host for MemHost<C> {
     fn listen(&mut self, address: &Bytes) -> Result<(), Failed>
         ensures made { Adds self.old.made self.new.made (Listened address.now result ∷ []) }
         ensures cause { HasCause self.old.faults self.new.faults result }
-        ensures chosen { is_failing self.old.failing self.old.calls ≡ true → IsErr result }
-        ensures waiting { self.new.waiting ≡ self.old.waiting }
+        ensures chosen { IsErr result ↔ (is_failing self.old.failing self.old.calls ≡ true) }
+        ensures waiting { (self.new.waiting ≡ self.old.waiting) × (self.new.stops ≡ self.old.stops) }
         ensures calls { (self.new.failing ≡ self.old.failing) × (self.new.calls ≡ one_more self.old.calls) }
     {
         let mut answer = Ok(());
@@ -119,6 +119,7 @@ impl<C: Drop> Host for MemHost<C> {
         ensures made { Adds self.old.made self.new.made (Accepted result ∷ []) }
         ensures cause { HasCause self.old.faults self.new.faults result }
         ensures chosen { is_failing self.old.failing self.old.calls ≡ true → IsErr result }
+        ensures only { IsErr result → FailsToAccept self.old }
         ensures came { IfOk result (Accepts self.old self.new) }
         ensures stays { OnErr result (self.new.waiting ≡ self.old.waiting) }
         ensures kept { (self.new.failing ≡ self.old.failing) × (self.new.stops ≡ self.old.stops) }

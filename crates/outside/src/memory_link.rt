@@ -1,6 +1,6 @@
 ghost use Rattle.std.specs.Prelude.{◌≡◌, true, IfOk, IfErr, IsErr, [], ◌∷◌, Some, slice_get};
 ghost use Rattle.outside.specs.Calls.{Adds, Begun, Ended, had, HasLinkCause};
-ghost use Rattle.outside.specs.Memory.{is_failing, IsCalled};
+ghost use Rattle.outside.specs.Memory.{is_failing, fresh_answer, IsCalled};
 ghost use Rattle.outside.specs.Notes.{link_call, supply_left};
 ghost use Rattle.outside.specs.declared.link.LinkFault.TheVariants.{NoMemory as Wanting};
 
@@ -70,7 +70,7 @@ impl MemLink {
     // The next reply.
     fn reply(&mut self) -> Result<MemSource, LinkFault>
         ensures gave { IfOk result (λ answer. slice_get self.old.replies self.old.calls ≡ Some answer.left) }
-        ensures fresh { IfOk result (λ answer. answer.faults ≡ 0) }
+        ensures fresh { IfOk result (λ answer. answer ≡ fresh_answer answer.left self.old.piece) }
         ensures chosen { is_failing self.old.failing self.old.calls ≡ true → IsErr result }
         ensures cause { HasLinkCause self.old.faults self.new.faults result }
         ensures rest { IsCalled self.old self.new }
@@ -110,7 +110,7 @@ impl Link for MemLink {
     /// A call whose reply finds no memory answers so.
     fn begin(&mut self, member: u32, kind: CallKind, call: &[u8]) -> Result<MemSource, LinkFault>
         ensures made { Adds self.old.made self.new.made (Begun member kind call.now (had supply_left result) ∷ []) }
-        ensures fresh { IfOk result (λ answer. answer.faults ≡ 0) }
+        ensures fresh { IfOk result (λ answer. answer ≡ fresh_answer answer.left self.old.piece) }
         ensures cause { HasLinkCause self.old.faults self.new.faults result }
         ensures gave { IfOk result (λ answer. slice_get self.old.replies self.old.calls ≡ Some answer.left) }
         ensures chosen { is_failing self.old.failing self.old.calls ≡ true → IsErr result }
@@ -146,8 +146,7 @@ impl Link for MemLink {
 
 // A source of these bytes.
 fn source_of(alloc: Global, bytes: &Bytes, piece: usize) -> Result<MemSource, LinkFault>
-    ensures gave { IfOk result (λ source. source.left ≡ bytes.now) }
-    ensures fresh { IfOk result (λ source. source.faults ≡ 0) }
+    ensures fresh { IfOk result (λ source. source ≡ fresh_answer bytes.now piece) }
     ensures wanting { IfErr result (λ fault. fault ≡ Wanting) }
 {
     match Vec::from_slice(alloc, bytes.as_slice()) {

@@ -1,7 +1,7 @@
 ghost use Rattle.std.specs.Prelude.{◌≡◌, true, IfErr, IsErr, OnOk, OnErr, [], ◌∷◌, ◌++◌, Some};
 ghost use Rattle.outside.specs.Calls.{Adds, is_done};
 ghost use Rattle.outside.specs.Faults.{HasCause, one_more};
-ghost use Rattle.outside.specs.Memory.{is_failing};
+ghost use Rattle.outside.specs.Memory.{is_failing, TakesLast};
 
 use crate::parts::{Part, Spawner};
 use std::alloc::Global;
@@ -52,8 +52,11 @@ impl<P: Drop, C: Drop> MemSpawner<P, C> {
         }
     }
 
-    /// Takes the part that was started last.
-    pub fn take(&mut self) -> Option<Part<P, C>> {
+    /// Takes the part that was started last, where it keeps one.
+    pub fn take(&mut self) -> Option<Part<P, C>>
+        ensures last { TakesLast self.old.parts self.new.parts result }
+        ensures rest { self.new ≡ record self.old { parts = self.new.parts } }
+    {
         self.parts.pop()
     }
 

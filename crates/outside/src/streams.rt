@@ -1,4 +1,4 @@
-ghost use Rattle.std.specs.Prelude.{◌≡◌};
+ghost use Rattle.std.specs.Prelude.{◌≡◌, IsOk};
 
 use crate::marks::{ReadMark, WriteMark};
 use crate::sink::Sink;
@@ -54,11 +54,17 @@ impl<R: Read + Drop> Source for Reading<R> {
     }
 
     /// A reader doesn't say whether its other end is there.
-    fn check(&mut self) -> Result<(), Failed> {
+    fn check(&mut self) -> Result<(), Failed>
+        ensures there { IsOk result }
+        ensures stays { self.new ≡ self.old }
+    {
         Ok(())
     }
 
-    fn mark(&mut self, _mark: ReadMark) {}
+    /// It keeps no mark.
+    fn mark(&mut self, _mark: ReadMark)
+        ensures stays { self.new ≡ self.old }
+    {}
 }
 
 /// A writer as a sink. A write that a signal interrupts is tried again, 2^32 - 1 times in all.
@@ -103,5 +109,8 @@ impl<W: Write + Drop> Sink for Writing<W> {
         Err(Failed)
     }
 
-    fn mark(&mut self, _mark: WriteMark) {}
+    /// It keeps no mark.
+    fn mark(&mut self, _mark: WriteMark)
+        ensures stays { self.new ≡ self.old }
+    {}
 }

@@ -123,7 +123,9 @@ impl<R: Times + Wait> Clock for SystemClock<R> {
         unreachable!()
     }
 
-    fn pause(&mut self, millis: u64) {
+    fn pause(&mut self, millis: u64)
+        ensures stays { self.new ≡ self.old }
+    {
         thread::sleep(&self.rt, Duration::from_millis(millis));
     }
 }

@@ -1,5 +1,6 @@
-ghost use Rattle.std.specs.Prelude.{◌≡◌, ◌≤◌, ◌∷◌, [], None, IfOk};
+ghost use Rattle.std.specs.Prelude.{◌≡◌, ◌∷◌, [], None, IfOk};
 ghost use Rattle.outside.specs.Draw.{Gives};
+ghost use Rattle.outside.specs.Faults.{AtMostOnce};
 
 use crate::draw::Draw;
 use crate::seeded_draw::SeededDraw;
@@ -52,7 +53,8 @@ impl<R: RandomSource> Draw for SystemDraw<R> {
 
     fn word(&mut self) -> u64
         ensures untold { Gives None None (result ∷ []) }
-        ensures kept { self.old.faults ≤ self.new.faults }
+        ensures counted { AtMostOnce self.old.faults self.new.faults }
+        ensures inner { self.new.inner ≡ self.old.inner }
     {
         let mut room = [0u8; 8];
         match self.rt.fill_bytes(&mut room) {

@@ -6,7 +6,7 @@ use Rattle.wait_model.specs.declared.wait.WaitJob.{WaitJob}
 use Rattle.wait_model.specs.declared.wait.WaitJob.TheVariants as wait
 use Rattle.core_model.specs.State.{Core}
 use Rattle.core_fits.specs.Fits.{EachOf}
-use Rattle.core_laws.proofs.Lists.{same_number}
+use Rattle.core_laws.proofs.Steps.Lists.{same_number}
 use Rattle.step_moves.proofs.Walk.{CoreFit}
 use Rattle.script_text.specs.declared.item.Item.{Item}
 use Rattle.world_model.specs.declared.sent_call.SentCall.{SentCall}
@@ -14,10 +14,11 @@ use Rattle.world_model.specs.Places.{nth, with_nth, place_at}
 use Rattle.world_model.specs.State.{Place, World}
 use Rattle.held_laws.proofs.Kept.{nth_itself, nth_other}
 use Rattle.session_laws.proofs.Lists.{nth_front}
-use Rattle.owned_laws.specs.Owned.{Owning, asks, sends, owns, owner_key, gave_up}
+use Rattle.owned_laws.specs.Owned.{Owning, asks, sends, owns, write_asked, write_sent, owner_key, gave_up}
 use Rattle.owned_laws.specs.Watched.{AllSpare}
 use Rattle.owned_laws.proofs.Cores.{CoreSo}
-use Rattle.owned_laws.proofs.Told.{HasCall, Kept, KeysOk, Rescinded, OutsOk}
+use Rattle.owned_laws.proofs.Kept.{HasCall, Kept, KeysOk, Rescinded, OutsOk}
+use Rattle.owned_laws.proofs.Late.{in_time_before}
 use Rattle.owned_laws.proofs.Ways.{OfRescind, JobSo, CallSo, plain}
 
 pub no_true : {A : Type 0} → false ≡ true → A
@@ -69,11 +70,18 @@ call_on before after p life number own c h = let g = c number h.call h.there in 
 pub less_later : (a b c : ℕ) → a < b → b ≤ c → a < c
 less_later a b c h k = omega (arith, h, k)
 
--- where the core stays
-pub kept_on : (before after : List SentCall) (bound next p life : ℕ) (k : List ℕ) (t : ℕ) (o : Owning) (c : Core) → Carry before after → bound ≤ next → Kept before bound p life k t o c → Kept after next p life k t o c
-kept_on before after bound next p life k t asks c g l h = h
-kept_on before after bound next p life k t (sends number n) c g l h = record { own = h.own; call = call_on before after p life number h.own g h.call; below = less_later n bound next h.below l; so = h.so }
-kept_on before after bound next p life k t (owns n create) c g l h = (less_later n bound next h.0 l, h.1)
+-- where the core stays, and its clock doesn't go back
+pub kept_on : (before after : List SentCall) (bound next p life now later : ℕ) (k : List ℕ) (t : ℕ) (o : Owning) (c : Core) → Carry before after → bound ≤ next → now ≤ later → Kept before bound p life now k t o c → Kept after next p life later k t o c
+kept_on before after bound next p life now later k t asks c g l u h = h
+kept_on before after bound next p life now later k t (sends number n) c g l u h = record { own = h.own; call = call_on before after p life number h.own g h.call; below = less_later n bound next h.below l; so = h.so }
+kept_on before after bound next p life now later k t (owns n create) c g l u h = (less_later n bound next h.0 l, h.1)
+kept_on before after bound next p life now later k t (write_asked n create v) c g l u h = record { below = less_later n bound next h.below l; client = h.client; so = λ e. h.so (in_time_before now later v u e) }
+kept_on before after bound next p life now later k t (write_sent n create v number) c g l u h = record {
+  own = h.own;
+  call = call_on before after p life number h.own g h.call;
+  below = less_later n bound next h.below l;
+  so = λ e. h.so (in_time_before now later v u e);
+}
 
 -- ---- of one proxy
 
@@ -81,7 +89,7 @@ pub record ProxyOwned (namespace leasing : List ℕ) (bound : ℕ) (items : List
   -- entries stand in the order of their keys
   pub order : CoreFit x.core.own.waits.prefix x.core
   pub outs : OutsOk namespace leasing items p x.core
-  pub keys : KeysOk namespace leasing bound all items p x.life x.core
+  pub keys : KeysOk namespace leasing bound all items p x.life x.clock x.core
 
 abbrev pub AllOwned : List Item → World → ℕ → Type 0
 AllOwned items w bound = (p : ℕ) (x : Place) → place_at w p ≡ Some x → ProxyOwned w.namespace w.leasing bound items w.calls p x

@@ -1,5 +1,5 @@
 -- A key that is watched, step by step: the clock's work, ends of calls, requests, messages and sent jobs leave it so.
-use Rattle.std.proofs.Common.{◌≡◌, ℕ, ◌==◌, Bool, true, false, cond, List, [], ◌∷◌, ◌++◌, map, Option, None, Some, Ok, Err, refl, sym, ◌∙◌, ap, subst}
+use Rattle.std.proofs.Common.{◌≡◌, ℕ, ◌==◌, Bool, true, false, cond, ◌&&◌, List, [], ◌∷◌, ◌++◌, map, Option, None, Some, Ok, Err, refl, sym, ◌∙◌, ap, subst}
 use Rattle.etcd_types.specs.declared.answer.Answer.{Answer}
 use Rattle.etcd_types.specs.declared.answer.Answer.TheVariants.{Done, Refused}
 use Rattle.etcd_types.specs.declared.answer.Body.{Body}
@@ -62,8 +62,13 @@ use Rattle.core_model.specs.Watching as watching
 use Rattle.core_model.specs.Watching.{stream_message, stream_item, stream_job, stream_sent, taken_item}
 use Rattle.owned_laws.specs.Watched.{AllSpare, seat_is}
 use Rattle.owned_laws.proofs.Modes.{Mode, Seated}
-use Rattle.owned_laws.proofs.Own.{OwnSo, pass_so, message_so as own_message_so, resync_so, compaction_so, submitted_so, SentSo, job_sent_so}
-use Rattle.owned_laws.proofs.Grounds.{ReadsSo, MayEnd, AfterSo, ReadsIf, decided_so, over_reads, taken_off_so, acquire_answered_so, acquire_lost_so, acquire_sent_so, wait_answered_so, wait_lost_so}
+use Rattle.owned_laws.proofs.Own.{Misses as MissesBy, no_own, OwnSo, pass_so, message_so as own_message_so, resync_so, compaction_so, submitted_so, SentSo, job_sent_so}
+use Rattle.core_fits.specs.Fits.{EachOf}
+use Rattle.core_laws.proofs.Steps.Lists.{same_number}
+use Rattle.read_model.specs.TakingOff.{is_writes}
+use Rattle.wait_model.specs.declared.write.Write.{Write}
+use Rattle.wait_model.specs.Writes as writes
+use Rattle.owned_laws.proofs.Grounds.{Spared, ReadsSo, MayEnd, AfterSo, ReadsIf, decided_so, over_reads, taken_off_so, acquire_answered_so, acquire_lost_so, acquire_sent_so, wait_answered_so, wait_lost_so}
 
 either : {A : Type 0} (P : A → Type 0) (b : Bool) (x y : A) → P x → P y → P (cond b x y)
 either P true x y h i = h
@@ -141,13 +146,28 @@ module _ (M : Mode) where
       let n = none_seated s in
       over_reads M (moment d now) (reads_of d) n.0 (t (n.1 c.seat))
 
-  pub clock_so : (now : ℕ) (c : Core) → CoreSo c → CoreSo (clock_work now c)
+  -- the owner's own write doesn't time out
+  abbrev pub OnTime : ℕ → Core → Type 0
+  OnTime now c = EachOf (Spared M (times_out now)) (deadline_passed now (begun c)).asks
+
+  pub clock_by : (now : ℕ) (c : Core) → OnTime now c → CoreSo c → CoreSo (clock_work now c)
   unfolding clock_work
-  clock_so now c t =
+  clock_by now c l t =
       let b : CoreSo (begun c) = with_own c (step_begun c.steps c.own) (λ r. record { outs = r.outs; over = r.over; mark = r.mark; entry = r.entry }) t in
       let d = deadline_passed now (begun c) in
       let e : CoreSo d = either CoreSo (seat_is_over c.seat now) (without_session now (begun c)) (begun c) (ended_so now (begun c) b) b in
-      go_on (requests_timed_out now d) (λ s. taken_off_so M (moment d now) (times_out now) (map (timed_out_ask now) d.asks) (reads_of d) (e s))
+      go_on (requests_timed_out now d) (λ s. taken_off_so M (moment d now) (times_out now) (map (timed_out_ask now) d.asks) (reads_of d) l (e s))
+
+  all_spared : (p : Asked → Bool) (xs : List Asked) → ((q : Write → Bool) → MissesBy M q) → EachOf (Spared M p) xs
+  all_spared p [] n = tt
+  all_spared p (a ∷ xs) n = ((λ e. n (writes.has_ticket a.ticket)), all_spared p xs n)
+
+  -- where no write is the owner's own
+  pub none_late : M.mine ≡ None → (now : ℕ) (c : Core) → OnTime now c
+  none_late n now c = all_spared (times_out now) (deadline_passed now (begun c)).asks (λ q. no_own M.mine q n)
+
+  pub clock_so : M.mine ≡ None → (now : ℕ) (c : Core) → CoreSo c → CoreSo (clock_work now c)
+  clock_so n now c t = clock_by now c (none_late n now c) t
 
   -- ---- calls end
 
@@ -201,23 +221,27 @@ module _ (M : Mode) where
   abbrev pub MayEndAs : Option Seat → OutJob → Type 0
   MayEndAs s j = Seated M.session s → (i : List ℕ) → j ≡ job.Acquire i → MayEnd M i
 
-  lost_job_so : (now : ℕ) (o : OutCall) (j : OutJob) (c : Core) → MayEndAs c.seat j → CoreSo c → CoreSo (lost_job now o j c)
+  -- and isn't the call of the owner's own write
+  abbrev pub EndsAs : Option Seat → OutCall → OutJob → Type 0
+  EndsAs s o j = MayEndAs s j × MissesBy M (writes.sends o.call)
+
+  lost_job_so : (now : ℕ) (o : OutCall) (j : OutJob) (c : Core) → EndsAs c.seat o j → CoreSo c → CoreSo (lost_job now o j c)
   lost_job_so now o (job.Grant lease) c f t = grant_failed_so o c t
   lost_job_so now o (job.Keep lease) c f t = keep_failed_so o c t
-  lost_job_so now o (job.Acquire i) c f t = λ s. acquire_lost_so M c.members.count (moment c now) i (reads_of c) (f s i refl) (t s)
-  lost_job_so now o job.Wait c f t = λ s. wait_lost_so M (moment c now) o.call (reads_of c) (t s)
+  lost_job_so now o (job.Acquire i) c f t = λ s. acquire_lost_so M c.members.count (moment c now) i (reads_of c) (f.0 s i refl) (t s)
+  lost_job_so now o job.Wait c f t = λ s. wait_lost_so M (moment c now) o.call (reads_of c) f.1 (t s)
   lost_job_so now o (job.Ask j) c f t = t
   lost_job_so now o (job.Group lease) c f t = t
 
-  lost_call_so : (now : ℕ) (o : OutCall) (c : Core) → MayEndAs c.seat o.job → CoreSo c → CoreSo (lost_call now o c)
+  lost_call_so : (now : ℕ) (o : OutCall) (c : Core) → EndsAs c.seat o o.job → CoreSo c → CoreSo (lost_call now o c)
   lost_call_so now o c f t = lost_job_so now o o.job (member_failed o c) f t
 
-  job_so : (now : ℕ) (o : OutCall) (j : OutJob) (a : Answer) (c : Core) → MayEndAs c.seat j → CoreSo c → IfSo (answered_job now o j a c)
+  job_so : (now : ℕ) (o : OutCall) (j : OutJob) (a : Answer) (c : Core) → EndsAs c.seat o j → CoreSo c → IfSo (answered_job now o j a c)
   job_so now o (job.Grant lease) (Done reply) c f t = granted_so o reply.body c t
   job_so now o (job.Grant lease) (Refused r) c f t = grant_failed_so o c t
   job_so now o (job.Keep lease) (Done reply) c f t = renewed_so now o reply.body c t
   job_so now o (job.Keep lease) (Refused r) c f t = keep_failed_so o c t
-  job_so now o (job.Acquire i) a c f t = by (acquire_answered (moment c now) i a (reads_of c)) (λ s. acquire_answered_so M (moment c now) i a (reads_of c) (f s i refl) (t s))
+  job_so now o (job.Acquire i) a c f t = by (acquire_answered (moment c now) i a (reads_of c)) (λ s. acquire_answered_so M (moment c now) i a (reads_of c) (f.0 s i refl) (t s))
     where
       by_end : (ends : Bool) (r : Reads) → (Seated M.session c.seat → (ends ≡ true → M.hold ≡ true → ⊥) → ReadsSo M r) → CoreSo (with_reads (cond ends (record c { seat = None }) c) r)
       by_end true r h = λ s. let n = none_seated s in h (n.1 c.seat) (λ e. n.0)
@@ -226,7 +250,7 @@ module _ (M : Mode) where
       by : (q : Option AfterAcquire) → (Seated M.session c.seat → AfterSo M q) → IfSo (acquire_if c q)
       by None h = tt
       by (Some x) h = by_end x.ends x.reads h
-  job_so now o job.Wait a c f t = by (wait_answered (moment c now) o.call a (reads_of c)) (λ s. wait_answered_so M (moment c now) o.call a (reads_of c) (t s))
+  job_so now o job.Wait a c f t = by (wait_answered (moment c now) o.call a (reads_of c)) (λ s. wait_answered_so M (moment c now) o.call a (reads_of c) f.1 (t s))
     where
       by : (q : Option Reads) → (Seated M.session c.seat → ReadsIf M q) → IfSo (reads_if c q)
       by None h = tt
@@ -235,7 +259,7 @@ module _ (M : Mode) where
   job_so now o (job.Group lease) a c f t =
       either IfSo (answers_keepalive a) (Some (record c { asks = groups_ended c.own.waits.step o.call lease (verdict.Said a) c.asks })) None t tt
 
-  heard_so : (now : ℕ) (o : OutCall) (h : Option Answer) (c : Core) → MayEndAs c.seat o.job → CoreSo c → CoreSo (heard_call now o h c)
+  heard_so : (now : ℕ) (o : OutCall) (h : Option Answer) (c : Core) → EndsAs c.seat o o.job → CoreSo c → CoreSo (heard_call now o h c)
   heard_so now o None c f t = lost_call_so now o c f t
   heard_so now o (Some a) c f t = by (answered_job now o o.job a c) (job_so now o o.job a c f t)
     where
@@ -243,11 +267,11 @@ module _ (M : Mode) where
       by None h = lost_call_so now o c f t
       by (Some d) h = h
 
-  pub answered_so : (now call : ℕ) (a : Answer) (c : Core) → ((o : OutCall) → out_at call c.out ≡ Some o → MayEndAs c.seat o.job) → CoreSo c → StepSo (on_answer now call a c)
+  pub answered_so : (now call : ℕ) (a : Answer) (c : Core) → ((o : OutCall) → out_at call c.out ≡ Some o → EndsAs c.seat o o.job) → CoreSo c → StepSo (on_answer now call a c)
   unfolding on_answer
   answered_so now call a c f t = by (out_at call c.out) refl
     where
-      by_answer : (o : OutCall) (b : Answer) → MayEndAs c.seat o.job → CoreSo (writes_go_on (answered_call now o b (call_gone call c)))
+      by_answer : (o : OutCall) (b : Answer) → EndsAs c.seat o o.job → CoreSo (writes_go_on (answered_call now o b (call_gone call c)))
       by_answer o (Done reply) g = let d = header_taken reply.header (call_gone call c) in go_on (heard_call now o (heard c.settings.namespace (Done reply)) d) (heard_so now o (heard c.settings.namespace (Done reply)) d g t)
       by_answer o (Refused r) g = go_on (heard_call now o (heard c.settings.namespace (Refused r)) (call_gone call c)) (heard_so now o (heard c.settings.namespace (Refused r)) (call_gone call c) g t)
 
@@ -255,7 +279,7 @@ module _ (M : Mode) where
       by None e = t
       by (Some o) e = by_answer o a (f o e)
 
-  pub lost_so : (now call : ℕ) (c : Core) → ((o : OutCall) → out_at call c.out ≡ Some o → MayEndAs c.seat o.job) → CoreSo c → StepSo (on_lost now call c)
+  pub lost_so : (now call : ℕ) (c : Core) → ((o : OutCall) → out_at call c.out ≡ Some o → EndsAs c.seat o o.job) → CoreSo c → StepSo (on_lost now call c)
   unfolding on_lost
   lost_so now call c f t = by (out_at call c.out) refl
     where
@@ -351,9 +375,17 @@ module _ (M : Mode) where
       by_ask None = by_watch (watch_at ticket c.watches.watches)
       by_ask (Some a) = by_stage a.stage
 
-  pub leave_so : (now ticket : ℕ) (c : Core) → CoreSo c → StepSo (on_leave now ticket c)
+  leaves_spared : (ticket : ℕ) (xs : List Asked) → MissesBy M (writes.has_ticket ticket) → EachOf (Spared M (Rattle.core_model.specs.Lookups.has_ticket ticket)) xs
+  leaves_spared ticket [] n = tt
+  leaves_spared ticket (a ∷ xs) n = (by (a.ticket == ticket) refl, leaves_spared ticket xs n)
+    where
+      by : (b : Bool) → (a.ticket == ticket) ≡ b → b && is_writes a.stage ≡ true → MissesBy M (writes.has_ticket a.ticket)
+      by true e f = subst (λ (i : ℕ). MissesBy M (writes.has_ticket i)) (sym (same_number a.ticket ticket e)) n
+      by false e f = absurd (cc)
+
+  pub leave_so : (now ticket : ℕ) (c : Core) → MissesBy M (writes.has_ticket ticket) → CoreSo c → StepSo (on_leave now ticket c)
   unfolding on_leave
-  leave_so now ticket c t = by_ask (ask_at ticket c.asks)
+  leave_so now ticket c n t = by_ask (ask_at ticket c.asks)
     where
       by_watch : (w : Option Watch) → StepSo (watcher_left ticket w c)
       by_watch None = t
@@ -361,7 +393,7 @@ module _ (M : Mode) where
 
       by_ask : (o : Option Asked) → StepSo (left now ticket o c)
       by_ask None = by_watch (watch_at ticket c.watches.watches)
-      by_ask (Some a) = go_on (takes.has_left now ticket c) (λ s. taken_off_so M (moment c now) (Rattle.core_model.specs.Lookups.has_ticket ticket) (Rattle.core_model.specs.Lookups.without_ask ticket c.asks) (reads_of c) (t s))
+      by_ask (Some a) = go_on (takes.has_left now ticket c) (λ s. taken_off_so M (moment c now) (Rattle.core_model.specs.Lookups.has_ticket ticket) (Rattle.core_model.specs.Lookups.without_ask ticket c.asks) (reads_of c) (leaves_spared ticket c.asks n) (t s))
 
   -- ---- ticks, messages and cuts
 
@@ -457,7 +489,7 @@ module _ (M : Mode) where
 
   -- a call of writes or entries that goes out
   abbrev pub GoesOut : Option DueJob → Core → Type 0
-  GoesOut j c = j ≡ Some ForWrites → (x : JobSent) → job_sent (next_call c) c.own ≡ Some x → OwnSo M c.own → M.Outs x.own.waits.out
+  GoesOut j c = j ≡ Some ForWrites → (x : JobSent) → job_sent (next_call c) c.own ≡ Some x → OwnSo M c.own → M.Outs x.own.waits.out × MissesBy M (writes.has_ticket x.due.ticket)
 
   sent_so : (now : ℕ) (j : Option DueJob) (c : Core) → Stands c j → GoesOut j c → CoreSo c → StepSo (sent_by now j c)
   sent_so now None c s g t = t
@@ -466,7 +498,7 @@ module _ (M : Mode) where
     where
       by : (o : Option JobSent) → job_sent (next_call c) c.own ≡ o → StepSo (writes_sent now o c)
       by None e = t
-      by (Some x) e = with_own c x.own (λ r. subst (SentSo M) e (job_sent_so M (next_call c) c.own r) (g refl x e r)) t
+      by (Some x) e = with_own c x.own (λ r. let o = g refl x e r in subst (SentSo M) e (job_sent_so M (next_call c) c.own r) o.1 o.0) t
   sent_so now (Some (ForAcquire i x)) c s g t = λ y. acquire_sent_so M (next_call c) i x (reads_of c) s.0 s.1 (t y)
   sent_so now (Some (ForAsk a)) c s g t = t
   sent_so now (Some (ForGroup lease ticket)) c s g t = t

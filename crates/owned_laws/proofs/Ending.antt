@@ -1,16 +1,19 @@
 -- A call of a proxy ends: what items tell of its owned keys goes on, and an acquire that was won makes its key owned.
-use Rattle.std.proofs.Common.{◌≡◌, ◌⊎◌, inl, inr, ℕ, ◌+◌, ◌==◌, Bool, true, false, cond, List, [], ◌∷◌, ◌++◌, Option, None, Some, Ok, refl, sym, ◌∙◌, ap, subst, arith}
+use Rattle.std.proofs.Common.{◌≡◌, ℕ, ◌+◌, ◌==◌, Bool, true, false, cond, List, [], ◌∷◌, ◌++◌, Option, None, Some, Ok, refl, sym, ◌∙◌, ap, subst, arith}
 use Rattle.etcd_types.specs.declared.answer.Answer.{Answer}
 use Rattle.etcd_types.proofs.KeyOrder.{same-equal}
+use Rattle.wait_model.specs.declared.write.Write.{Write}
+use Rattle.wait_model.specs.Writes.{is_out_as, sends as sends_own, stage_sends}
 use Rattle.core_model.specs.declared.event.CoreEvent.{CoreEvent}
 use Rattle.core_model.specs.declared.event.CoreEvent.TheVariants as event
 use Rattle.core_model.specs.declared.event.Outcome.{Outcome}
+use Rattle.core_model.specs.declared.out_call.OutCall.{OutCall}
 use Rattle.core_model.specs.ClockWork.{clock_work}
-use Rattle.core_model.specs.Lookups.{live_number}
+use Rattle.core_model.specs.Lookups.{live_number, out_at}
 use Rattle.core_model.specs.State.{Seat, Core}
 use Rattle.core_model.specs.Step.{happened, stepped}
 use Rattle.core_model.specs.Stepped.{Stepped}
-use Rattle.core_laws.proofs.Lists.{same_number, number_itself}
+use Rattle.core_laws.proofs.Steps.Lists.{same_number, number_itself, number_turned}
 use Rattle.script_text.specs.declared.item.Item.{Item}
 use Rattle.script_text.specs.declared.item.Item.TheVariants as item
 use Rattle.world_model.specs.declared.sent_call.SentCall.{SentCall}
@@ -22,16 +25,19 @@ use Rattle.session_laws.proofs.Steps.{gave}
 use Rattle.session_laws.proofs.Turns.{bound_of}
 use Rattle.cached_laws.proofs.Steps.{stepped_is}
 use Rattle.cached_laws.proofs.WaitTold.{Seated, told_seated, seated_behind}
-use Rattle.owned_laws.specs.Owned.{Owning, asks, sends, owns, owner_key, gave_up, claim_in, is_numbered, owned}
+use Rattle.owned_laws.specs.OwnWrites.{OwnWrite, is_in_time, settles_as}
+use Rattle.owned_laws.specs.Owned.{Owning, asks, sends, owns, write_asked, write_sent, owner_key, gave_up, awaits_call, claim_in, is_numbered}
 use Rattle.owned_laws.proofs.Carrying.{no_true, some_number, some_call, carry_changed, less_later, each_map, plain_so}
 use Rattle.owned_laws.proofs.Standing.{Before, later, mine, agrees, owners, prefix_is, named, Lets, keep}
 use Rattle.owned_laws.proofs.Cores as cores
 use Rattle.owned_laws.proofs.Cores.{CoreSo}
-use Rattle.owned_laws.proofs.Modes.{Mode}
-use Rattle.owned_laws.proofs.Steps.{Leaves, EndsSo, counted_so, asking_ends, sending_ends, holding_ends, Wins, IsHeldIn, acquire_won}
-use Rattle.owned_laws.proofs.Told as told
-use Rattle.owned_laws.proofs.Told.{HasCall, Kept, KeysOk, Rescinded, IsWon, told_answered, told_lost}
-use Rattle.owned_laws.proofs.Ways.{NotOf, plain, asking, sending_as, holds}
+use Rattle.owned_laws.proofs.Kept.{HasCall, mine_as, Kept, KeysOk, Rescinded}
+use Rattle.owned_laws.proofs.Late.{AsksOther, on_time}
+use Rattle.owned_laws.proofs.Modes.{IsMine, Mode}
+use Rattle.owned_laws.proofs.OwnSteps.{own_step_answered}
+use Rattle.owned_laws.proofs.Steps.{Leaves, EndsSo, counted_so, asking_ends, sending_ends, holding_ends, writing_ends, Wins, IsHeldIn, acquire_won}
+use Rattle.owned_laws.proofs.Told.{IsWon, IsDone, AnsweredAs, wins_it, settles_it, answers_other, told_answered, told_lost}
+use Rattle.owned_laws.proofs.Ways.{NotOf, plain, asking, sending_as, holds, writes_own}
 
 module _ {namespace : List ℕ} {items : List Item} {w : World} {p : ℕ} {x : Place} (known : Before namespace items w p x) where
   abbrev next : ℕ
@@ -65,18 +71,45 @@ module _ {namespace : List ℕ} {items : List Item} {w : World} {p : ℕ} {x : P
           absurd (let z : true ≡ false = sym (number_itself number) ∙ ap (λ (y : ℕ). y == number) is ∙ n in cc)
       by false f = refl
 
-  ends_lets : (e : CoreEvent) (number : ℕ) (call : SentCall) (k : List ℕ) (t : ℕ) (o : Owning) → ((M : Mode) → EndsSo M d call.own → Leaves M d e) → nth w.calls number ≡ Some call → call.proxy ≡ p → call.life ≡ x.life → ((c n : ℕ) → o ≡ sends c n → (c == number) ≡ false)
+  -- a call that is answered isn't the write's own
+  due_apart : (v : OwnWrite) (call : ℕ) (y : Write) → IsMine (mine_as v None) y → sends_own call y ≡ false
+  due_apart v call y i = ap (stage_sends call) i.stage ∙ ap (is_out_as call) i.sends.1
+
+  out_apart : (v : OwnWrite) (own call : ℕ) (y : Write) → (own == call) ≡ false → IsMine (mine_as v (Some own)) y → sends_own call y ≡ false
+  out_apart v own call y n i = ap (stage_sends call) i.stage ∙ ap (is_out_as call) i.sends ∙ n
+
+  out_number : (call : ℕ) (out : List OutCall) (o : OutCall) → out_at call out ≡ Some o → o.call ≡ call
+  out_number call [] o e = absurd (cc)
+  out_number call (y ∷ ys) o e = by (λ g. out_number call ys o g) (y.call == call) refl e
+    where
+      same_out : (y z : OutCall) → Some y ≡ Some z → y ≡ z
+      same_out y z g = cc
+
+      by : (out_at call ys ≡ Some o → o.call ≡ call) → (b : Bool) → (y.call == call) ≡ b → cond b (Some y) (out_at call ys) ≡ Some o → o.call ≡ call
+      by more true f g = ap (λ (z : OutCall). z.call) (sym (same_out y o g)) ∙ same_number y.call call f
+      by more false f g = more g
+
+  ends_lets : (e : CoreEvent) (number : ℕ) (call : SentCall) (k : List ℕ) (t : ℕ) (o : Owning) → ((i : ℕ) → AsksOther e i) → ((M : Mode) → EndsSo M d call.own → Leaves M d e) → nth w.calls number ≡ Some call → call.proxy ≡ p → call.life ≡ x.life → awaits_call number o ≡ false
       → Lets known e k t o
-  ends_lets e number call k t asks l i its lived n = λ s. l (asking k t) (asking_ends k t d call.own)
-  ends_lets e number call k t (sends c m) l i its lived n = λ j v s. l (sending_as k j m) (sending_ends k j m d call.own (owners known) (own_apart number c call j i its lived v (n c m refl)) s)
-  ends_lets e number call k t (owns m create) l i its lived n = λ y f c u s. l (holds k m y f) (holding_ends k m y f d call.own (owners known) s)
+  ends_lets e number call k t asks u l i its lived n = λ s. l (asking k t) (asking_ends k t d call.own)
+  ends_lets e number call k t (sends c m) u l i its lived n = λ j v s. l (sending_as k j m) (sending_ends k j m d call.own (owners known) (own_apart number c call j i its lived v n) s)
+  ends_lets e number call k t (owns m create) u l i its lived n = λ y f c z s. l (holds k m y f) (holding_ends k m y f d call.own (owners known) s)
+  ends_lets e number call k t (write_asked m create v) u l i its lived n =
+      (u v.ticket, λ b y f c s. l (writes_own k m (mine_as v None) y f) (writing_ends k m (mine_as v None) y f d call.own (owners known) (λ o g z j. due_apart v o.call z j) s))
+  ends_lets e number call k t (write_sent m create v c) u l i its lived n = (
+    u v.ticket,
+    λ j h b y f g s.
+        l (writes_own k m (mine_as v (Some j)) y f)
+        (writing_ends k m (mine_as v (Some j)) y f d call.own (owners known)
+        (λ o g' z q. out_apart v j o.call z (ap (λ (m : ℕ). j == m) (out_number call.own d.out o g') ∙ number_turned call.own j (own_apart number c call j i its lived h n)) q) s),
+  )
 
   pub lost_keys : (number : ℕ) (call : SentCall) → nth w.calls number ≡ Some call → call.proxy ≡ p → call.life ≡ x.life
-      → KeysOk nsp lea next (with_nth w.calls number (record call { settled = true })) (items ++ item.Lost number ∷ []) p x.life (stepped x.core (event.Lost call.own) x.clock).core
+      → KeysOk nsp lea next (with_nth w.calls number (record call { settled = true })) (items ++ item.Lost number ∷ []) p x.life x.clock (stepped x.core (event.Lost call.own) x.clock).core
   lost_keys number call e its lived k t o f =
       let u = told_lost nsp lea k p t items number o f in
       keep known (event.Lost call.own) k t o (with_nth w.calls number (record call { settled = true })) (carry_changed w.calls number call (record call { settled = true }) e refl refl refl)
-      (ends_lets (event.Lost call.own) number call k t o (λ M z. z) e its lived u.1) ((mine known).keys k t o u.0)
+      (ends_lets (event.Lost call.own) number call k t o (λ i. tt) (λ M z. z) e its lived u.1) ((mine known).keys k t o u.0)
 
   -- the session that is told as live is the proxy's
 
@@ -102,7 +135,7 @@ module _ {namespace : List ℕ} {items : List Item} {w : World} {p : ℕ} {x : P
       by false f = refl
 
   won_kept : (number : ℕ) (call : SentCall) (a : Answer) (o : Outcome) (k : List ℕ) (t : ℕ) (own : Owning) → nth w.calls number ≡ Some call → call.executed ≡ Some a → (stepped x.core (event.Answer call.own a) x.clock).outcome ≡ Ok o → IsWon nsp lea k p t items number own
-      → Kept (with_nth w.calls number (record call { settled = true })) next p x.life k t own (stepped x.core (event.Answer call.own a) x.clock).core
+      → Kept (with_nth w.calls number (record call { settled = true })) next p x.life x.clock k t own (stepped x.core (event.Answer call.own a) x.clock).core
   won_kept number call a o k t own e ran is v =
       let s = (mine known).keys k t (sends number v.n) v.sent in
       let one = some_call s.call.call call (sym s.call.there ∙ e) in
@@ -112,26 +145,47 @@ module _ {namespace : List ℕ} {items : List Item} {w : World} {p : ℕ} {x : P
       let T = Rescinded nsp lea items p in
       let sits = seated v.n v.numbered v.live in
       let wins : Wins k v.n call.own x.clock a v.create d = record {
-        stands = cores.clock_so (sending_as k call.own v.n) x.clock x.core (subst (λ (y : ℕ). CoreSo (sending_as k y v.n) x.core) m s.so);
+        stands = cores.clock_so (sending_as k call.own v.n) refl x.clock x.core (subst (λ (y : ℕ). CoreSo (sending_as k y v.n) x.core) m s.so);
         agrees = agrees known;
         live = seated_number v.n d.seat (seated_behind v.n x.clock x.core sits);
         claim = ap (λ (l : List ℕ). claim_in l d.own.waits.prefix k (Some a)) (named known) ∙ ap (λ (l : List ℕ). claim_in nsp l k (Some a)) (prefix_is known) ∙ ap (claim_in nsp lea k) (sym ((known.beside.sessions.calls number).ran ∙ ap ran_to e ∙ ran)) ∙ v.claim;
-        outs = each_map T (NotOf k v.create) (not_of k v.create v.kept) d.own.waits.out (cores.clock_so (plain [] T) x.clock x.core (plain_so T x.core (mine known).outs) tt tt).0.outs;
+        outs = each_map T (NotOf k v.create) (not_of k v.create v.kept) d.own.waits.out (cores.clock_so (plain [] T) refl x.clock x.core (plain_so T x.core (mine known).outs) tt tt).0.outs;
       } in
       let r = acquire_won k v.n call.own x.clock v.create d a wins in
-      subst (λ (y : Owning). Kept (with_nth w.calls number (record call { settled = true })) next p x.life k t y (stepped x.core ev x.clock).core) (sym v.won) (
+      subst (λ (y : Owning). Kept (with_nth w.calls number (record call { settled = true })) next p x.life x.clock k t y (stepped x.core ev x.clock).core) (sym v.won) (
         less_later v.n (bound_of w) next s.below (later known),
         subst (λ (z : Stepped). IsHeldIn k v.n v.create z.core) (sym (stepped_is x.core ev x.clock gave'.0))
             (record { entry = r.entry; held = r.held; created = r.created; so = counted_so (holds k v.n r.entry r.held) (happened x.clock ev d) r.so }),
       )
 
+  -- the write's own call is answered, in time
+  done_kept : (number : ℕ) (call : SentCall) (a : Answer) (o : Outcome) (k : List ℕ) (t : ℕ) (own : Owning) → nth w.calls number ≡ Some call → call.executed ≡ Some a → (stepped x.core (event.Answer call.own a) x.clock).outcome ≡ Ok o → IsDone nsp lea k p t items number own
+      → Kept (with_nth w.calls number (record call { settled = true })) next p x.life x.clock k t own (stepped x.core (event.Answer call.own a) x.clock).core
+  done_kept number call a o k t own e ran is u =
+      let v = u.write in
+      let s = (mine known).keys k t (write_sent u.n u.create v number) u.sent in
+      let one = some_call s.call.call call (sym s.call.there ∙ e) in
+      let m : s.own ≡ call.own = sym s.call.own_is ∙ ap (λ (y : SentCall). y.own) one in
+      let ev = event.Answer call.own a in
+      let gave' = gave x.core ev x.clock o is in
+      let early = ap (λ (i : ℕ). is_in_time i v) (sym (known.beside.sessions.places p x known.there).clock) ∙ u.in_time in
+      let h = s.so early in
+      let settled = ap (λ (l : List ℕ). settles_as l d.own.waits.prefix v.request (Some a)) (named known) ∙ ap (λ (l : List ℕ). settles_as nsp l v.request (Some a)) (prefix_is known)
+      ∙ ap (settles_as nsp lea v.request) (sym ((known.beside.sessions.calls number).ran ∙ ap ran_to e ∙ ran)) ∙ u.settled in
+      let r = own_step_answered k u.n (mine_as v (Some s.own)) h.entry h.writing x.clock call.own a x.core o gave'.0 (on_time k u.n (mine_as v (Some s.own)) h.entry h.writing v.since x.clock early x.core h.asked)
+      (ap (λ (i : ℕ). Some i) m) (agrees known) gave'.1 settled h.so in
+      subst (λ (y : Owning). Kept (with_nth w.calls number (record call { settled = true })) next p x.life x.clock k t y (stepped x.core ev x.clock).core) (sym u.again) (
+        less_later u.n (bound_of w) next s.below (later known),
+        record { entry = r.entry; held = r.held; created = r.created ∙ h.created; so = r.so },
+      )
+
   pub answered_keys : (number : ℕ) (call : SentCall) (a : Answer) (o : Outcome) → nth w.calls number ≡ Some call → call.proxy ≡ p → call.life ≡ x.life → call.executed ≡ Some a → (stepped x.core (event.Answer call.own a) x.clock).outcome ≡ Ok o
-      → KeysOk nsp lea next (with_nth w.calls number (record call { settled = true })) (items ++ item.Answered number ∷ []) p x.life (stepped x.core (event.Answer call.own a) x.clock).core
+      → KeysOk nsp lea next (with_nth w.calls number (record call { settled = true })) (items ++ item.Answered number ∷ []) p x.life x.clock (stepped x.core (event.Answer call.own a) x.clock).core
   answered_keys number call a o e its lived ran is k t own f = by (told_answered nsp lea k p t items number own f)
     where
-      by : IsWon nsp lea k p t items number own ⊎ ((owned nsp lea k p t items ≡ Some own) × told.IsApart nsp lea k p t items number)
-          → Kept (with_nth w.calls number (record call { settled = true })) next p x.life k t own (stepped x.core (event.Answer call.own a) x.clock).core
-      by (inl v) = won_kept number call a o k t own e ran is v
-      by (inr (u, n)) =
+      by : AnsweredAs nsp lea k p t items number own → Kept (with_nth w.calls number (record call { settled = true })) next p x.life x.clock k t own (stepped x.core (event.Answer call.own a) x.clock).core
+      by (wins_it v) = won_kept number call a o k t own e ran is v
+      by (settles_it v) = done_kept number call a o k t own e ran is v
+      by (answers_other u n) =
           keep known (event.Answer call.own a) k t own (with_nth w.calls number (record call { settled = true })) (carry_changed w.calls number call (record call { settled = true }) e refl refl refl)
-          (ends_lets (event.Answer call.own a) number call k t own (λ M z. z) e its lived (λ c m i. n c m (u ∙ ap (λ (y : Owning). Some y) i))) ((mine known).keys k t own u)
+          (ends_lets (event.Answer call.own a) number call k t own (λ i. tt) (λ M z. z) e its lived n) ((mine known).keys k t own u)

@@ -20,6 +20,7 @@ use Rattle.wait_model.specs.Endings.{answered, lost, forgotten}
 use Rattle.wait_model.specs.GuardedAnswers.{Ending}
 use Rattle.wait_model.specs.Phases.{is_session}
 use Rattle.wait_model.specs.State.{Ownership}
+use Rattle.wait_model.specs.Writes.{sends, has_ticket}
 use Rattle.wait_model.proofs.Tables.{at-without}
 use Rattle.read_model.specs.declared.acquire.Acquire.{Acquire}
 use Rattle.read_model.specs.declared.asked.Asked.{Asked}
@@ -30,9 +31,10 @@ use Rattle.read_model.specs.SessionEnd.{is_due_acquire, dropped, over, session_o
 use Rattle.read_model.specs.State.{Reads, Moment, Ground, ground_of, on}
 use Rattle.read_model.specs.TakingOff.{is_writes, forgotten_all, falls, taken_off}
 use Rattle.read_model.specs.WriteAnswers.{ending, answered_by, wait_answered, wait_lost}
+use Rattle.core_fits.specs.Fits.{EachOf}
 use Rattle.owned_laws.specs.Watched.{NoneOver}
-use Rattle.owned_laws.proofs.Modes.{Mode}
-use Rattle.owned_laws.proofs.Own.{OwnSo, EndSo, at_other, answered_so, lost_so, forgotten_so, over_so}
+use Rattle.owned_laws.proofs.Modes.{Mine, Mode}
+use Rattle.owned_laws.proofs.Own.{OverOf, Misses, OwnSo, EndSo, at_other, answered_so, lost_so, forgotten_so, over_so}
 
 either : {A : Type 0} (P : A → Type 0) (b : Bool) (x y : A) → P x → P y → P (cond b x y)
 either P true x y h i = h
@@ -98,6 +100,10 @@ module _ (M : Mode) where
       mark : at (with_at g.own.waits.spoiled k (Some false)) k ≡ Some false
       mark = at-with_at g.own.waits.spoiled k k (Some false) ∙ ap (λ (b : Bool). cond b (Some false) (at g.own.waits.spoiled k)) (same-itself k)
 
+      unwritten : (q : Option Mine) → (is_some q ≡ true → ⊥) → OverOf k q g.own.waits.writes
+      unwritten None n = f.unwritten
+      unwritten (Some m) n = absurd (n refl)
+
       none : {A : Type 0} (x : Entry) → ◌≡◌ {A = Option Entry} (Some x) None → A
       none x e = absurd (cc)
 
@@ -109,7 +115,7 @@ module _ (M : Mode) where
             subst M.Then (sym is) (c.1 (subst M.Then f.acquire r.1) unheld),
           )
       by (inr c) = (
-        record { outs = c.0 g.own.waits.out; over = λ y. f.unwritten; mark = λ y. mark; entry = λ y. absurd (c.1.1 y) },
+        record { outs = c.0 g.own.waits.out; over = λ y. unwritten M.mine (λ z. c.1.1 (M.writes z)); mark = λ y. mark; entry = λ y. absurd (c.1.1 y) },
         subst M.Then (sym is) c.1.0,
       )
 
@@ -163,21 +169,28 @@ module _ (M : Mode) where
       released_so false m (on (over (ground_of r)) r.asks)
       (dropped_so (λ j. is_due_acquire (at r.acquires j)) (record (ground_of r) { own = Rattle.wait_model.specs.SessionEnd.session_ended r.own }) (λ e. e) (as_before (ground_of r) (Rattle.wait_model.specs.SessionEnd.session_ended r.own) r.acquires refl (over_so M r.own n) t))
 
-  all_forgotten : (p : Asked → Bool) (xs : List Asked) (own : Ownership) → OwnSo M own → OwnSo M (forgotten_all p xs own)
-  all_forgotten p [] own t = t
-  all_forgotten p (a ∷ rest) own t =
-      all_forgotten p rest (cond (p a && is_writes a.stage) (forgotten a.ticket own) own) (either (OwnSo M) (p a && is_writes a.stage) (forgotten a.ticket own) own (forgotten_so M a.ticket own t) t)
+  -- of the requests that end none is the owner's own write
+  abbrev pub Spared : (Asked → Bool) → Asked → Type 0
+  Spared p a = p a && is_writes a.stage ≡ true → Misses M (has_ticket a.ticket)
+
+  all_forgotten : (p : Asked → Bool) (xs : List Asked) (own : Ownership) → EachOf (Spared p) xs → OwnSo M own → OwnSo M (forgotten_all p xs own)
+  all_forgotten p [] own s t = t
+  all_forgotten p (a ∷ rest) own s t = all_forgotten p rest (cond (p a && is_writes a.stage) (forgotten a.ticket own) own) s.1 (by (p a && is_writes a.stage) s.0)
+    where
+      by : (b : Bool) → (b ≡ true → Misses M (has_ticket a.ticket)) → OwnSo M (cond b (forgotten a.ticket own) own)
+      by true n = forgotten_so M a.ticket own (n refl) t
+      by false n = t
 
   second : (a b : Bool) → a && b ≡ true → b ≡ true
   second true b e = e
   second false b e = absurd (cc)
 
-  pub taken_off_so : (m : Moment) (p : Asked → Bool) (xs : List Asked) (r : Reads) → ReadsSo r → ReadsSo (taken_off m p xs r)
-  taken_off_so m p xs r t =
+  pub taken_off_so : (m : Moment) (p : Asked → Bool) (xs : List Asked) (r : Reads) → EachOf (Spared p) r.asks → ReadsSo r → ReadsSo (taken_off m p xs r)
+  taken_off_so m p xs r s t =
       released_so false m (on (dropped (falls p r) (record (ground_of r) { own = forgotten_all p r.asks r.own })) xs)
       (dropped_so (falls p r) (record (ground_of r) { own = forgotten_all p r.asks r.own })
       (second (list_any (λ a. p a && Rattle.read_model.specs.Acquires.acquires_at k a) r.asks) (is_due_acquire (at r.acquires k)))
-      (as_before (ground_of r) (forgotten_all p r.asks r.own) r.acquires refl (all_forgotten p r.asks r.own) t))
+      (as_before (ground_of r) (forgotten_all p r.asks r.own) r.acquires refl (all_forgotten p r.asks r.own s) t))
 
   -- ---- acquires
 
@@ -271,12 +284,12 @@ module _ (M : Mode) where
   ending_so m None r f t = tt
   ending_so m (Some x) r f t = released_so true m (ending x r) (as_before (ground_of r) x.own r.acquires refl f t)
 
-  pub wait_answered_so : (m : Moment) (call : ℕ) (a : Answer) (r : Reads) → ReadsSo r → ReadsIf (wait_answered m call a r)
-  wait_answered_so m call a r t = ending_so m (answered call a m.session m.now r.own) r (by (answered call a m.session m.now r.own) (answered_so M call a m.session m.now r.own)) t
+  pub wait_answered_so : (m : Moment) (call : ℕ) (a : Answer) (r : Reads) → Misses M (sends call) → ReadsSo r → ReadsIf (wait_answered m call a r)
+  wait_answered_so m call a r n t = ending_so m (answered call a m.session m.now r.own) r (by (answered call a m.session m.now r.own) (answered_so M call a m.session m.now r.own n)) t
     where
       by : (o : Option Ending) → (OwnSo M r.own → EndSo M o) → EndIf r.own o
       by None f = tt
       by (Some x) f = f
 
-  pub wait_lost_so : (m : Moment) (call : ℕ) (r : Reads) → ReadsSo r → ReadsSo (wait_lost m call r)
-  wait_lost_so m call r t = released_so false m (ending (lost call r.own) r) (as_before (ground_of r) (lost call r.own).own r.acquires refl (lost_so M call r.own) t)
+  pub wait_lost_so : (m : Moment) (call : ℕ) (r : Reads) → Misses M (sends call) → ReadsSo r → ReadsSo (wait_lost m call r)
+  wait_lost_so m call r n t = released_so false m (ending (lost call r.own) r) (as_before (ground_of r) (lost call r.own).own r.acquires refl (lost_so M call r.own n) t)

@@ -1,5 +1,5 @@
 -- What a proxy hears lets its owned keys be: ticks, requests that write other keys, and messages that tell of no revocation.
-use Rattle.std.proofs.Common.{◌≡◌, ◌⊎◌, inl, inr, ℕ, ◌+◌, ◌==◌, ◌<◌, Bool, true, false, cond, not, ◌&&◌, List, [], ◌∷◌, ◌++◌, Option, None, Some, Ok, refl, sym, ◌∙◌, ap, subst, arith}
+use Rattle.std.proofs.Common.{◌≡◌, ℕ, ◌+◌, ◌==◌, ◌<◌, Bool, true, false, cond, not, ◌&&◌, List, [], ◌∷◌, ◌++◌, Option, None, Some, Ok, refl, sym, ◌∙◌, ap, subst, arith}
 use Rattle.etcd_types.specs.declared.request.Request.{Request}
 use Rattle.etcd_types.specs.declared.watch.WatchItem.{WatchItem}
 use Rattle.etcd_types.specs.declared.watch.WatchItem.TheVariants as watch
@@ -10,18 +10,16 @@ use Rattle.proxy_model.specs.Unwrapped.{item_without}
 use Rattle.wait_model.specs.Covers.{covered}
 use Rattle.core_model.specs.declared.event.CoreEvent.TheVariants as event
 use Rattle.core_model.specs.declared.event.Outcome.{Outcome}
-use Rattle.core_model.specs.Asking.{asked_at, refused_or_taken, if_unknown, on_ask}
 use Rattle.core_model.specs.ClockWork.{clock_work}
-use Rattle.core_model.specs.Lookups.{moment, is_known}
 use Rattle.core_model.specs.Refusals.{refusal_of}
 use Rattle.core_model.specs.Sessions.{drawn_session}
 use Rattle.core_model.specs.State.{Opening, Core}
 use Rattle.core_model.specs.Step.{opening_at, happened, stepped}
 use Rattle.core_model.specs.Stepped.{Stepped}
-use Rattle.core_laws.proofs.Lists.{same_number, number_itself}
+use Rattle.core_laws.proofs.Steps.Lists.{same_number, number_itself}
 use Rattle.script_text.specs.declared.item.Item.{Item}
 use Rattle.script_text.specs.declared.item.Item.TheVariants as item
-use Rattle.world_model.specs.Lives.{next_message}
+use Rattle.world_model.specs.Lives.{clock_of, next_message}
 use Rattle.world_model.specs.Places.{nth}
 use Rattle.world_model.specs.State.{Place, OpenedStream, World, word}
 use Rattle.session_laws.proofs.Steps.{gave}
@@ -30,15 +28,17 @@ use Rattle.cached_laws.specs.Reads.{is_served}
 use Rattle.cached_laws.specs.Streams.{leasing_of}
 use Rattle.cached_laws.proofs.NewTold.{next_is}
 use Rattle.cached_laws.proofs.Steps.{stepped_is, clock_leasing}
-use Rattle.owned_laws.specs.Owned.{Owning, asks, sends, owns, message_revokes, told_revokes, is_stream, writes_over, create_of, owned}
+use Rattle.owned_laws.specs.Owned.{Owning, asks, sends, owns, write_asked, write_sent, message_revokes, told_revokes, is_stream, writes_over, has_write, create_of, owned}
 use Rattle.owned_laws.specs.Watched.{AllSpare}
 use Rattle.owned_laws.proofs.Carrying.{no_true, carry_itself, unwatched}
 use Rattle.owned_laws.proofs.Standing.{Before, here, mine, agrees, due, prefix_is, named, Lets, keep}
 use Rattle.owned_laws.proofs.Cores.{CoreSo, PassesIn, Passes}
 use Rattle.owned_laws.proofs.Modes.{Mode}
 use Rattle.owned_laws.proofs.Steps.{happened_so, counted_so, unasked_so}
-use Rattle.owned_laws.proofs.Told.{Kept, KeysOk, told_asked, told_delivered, all_spare}
-use Rattle.owned_laws.proofs.Ways.{OfRescind, plain, asking, sending_as, holds}
+use Rattle.owned_laws.proofs.Kept.{mine_as, Kept, KeysOk}
+use Rattle.owned_laws.proofs.OwnKept.{unknown_gives, own_begins_kept}
+use Rattle.owned_laws.proofs.Told.{AskedAs, begins_it, writes_it, asks_other, told_asked, told_delivered, all_spare}
+use Rattle.owned_laws.proofs.Ways.{OfRescind, plain, asking, sending_as, holds, writes_own}
 
 module _ {namespace : List ℕ} {items : List Item} {w : World} {p : ℕ} {x : Place} (known : Before namespace items w p x) where
   abbrev next : ℕ
@@ -75,6 +75,8 @@ module _ {namespace : List ℕ} {items : List Item} {w : World} {p : ℕ} {x : P
   tick_lets k t asks = λ s. tt
   tick_lets k t (sends number n) = λ m c s. tt
   tick_lets k t (owns n create) = λ e f c l s. drawn n l
+  tick_lets k t (write_asked n create v) = (tt, λ l e f c s. drawn n l)
+  tick_lets k t (write_sent n create v number) = (tt, λ m c l e f g s. drawn n l)
 
   -- ---- requests
 
@@ -85,18 +87,12 @@ module _ {namespace : List ℕ} {items : List Item} {w : World} {p : ℕ} {x : P
       by None f g = g
       by (Some r) f g = absurd (cc)
 
-  ask_lets : (k : List ℕ) (t : ℕ) (o : Owning) (ticket draw : ℕ) (q : Request) → writes_over lea k q ≡ false → Lets known (event.Ask ticket q draw) k t o
-  ask_lets k t asks ticket draw q n = λ s. misses k true q n
-  ask_lets k t (sends number m) ticket draw q n = λ i c s. misses k true q n
-  ask_lets k t (owns m create) ticket draw q n = λ e f c l s. misses k true q n
-
-  pub unknown_gives : (c : Core) (now ticket draw : ℕ) (q : Request) (o : Outcome) → (on_ask now ticket q draw c).outcome ≡ Ok o → is_known ticket c ≡ false
-  unfolding on_ask
-  unknown_gives c now ticket draw q o e = by (is_known ticket c) e
-    where
-      by : (b : Bool) → (if_unknown b ticket c (refused_or_taken (refusal_of c.own.waits.prefix q) (moment c now) (asked_at now ticket q draw) c)).outcome ≡ Ok o → b ≡ false
-      by true f = absurd (cc)
-      by false f = refl
+  ask_lets : (k : List ℕ) (t : ℕ) (o : Owning) (ticket draw : ℕ) (q : Request) → writes_over lea k q ≡ false → has_write ticket o ≡ false → Lets known (event.Ask ticket q draw) k t o
+  ask_lets k t asks ticket draw q n h = λ s. misses k true q n
+  ask_lets k t (sends number m) ticket draw q n h = λ i c s. misses k true q n
+  ask_lets k t (owns m create) ticket draw q n h = λ e f c l s. misses k true q n
+  ask_lets k t (write_asked m create v) ticket draw q n h = (h, λ l e f c s. misses k true q n)
+  ask_lets k t (write_sent m create v number) ticket draw q n h = (h, λ i j l e f c s. misses k true q n)
 
   -- the ticket is asked here
   begun_so : (k : List ℕ) (ticket draw : ℕ) (q : Request) (o : Outcome) → writes_over lea k q ≡ false → (stepped x.core (event.Ask ticket q draw) x.clock).outcome ≡ Ok o → CoreSo (asking k ticket) (stepped x.core (event.Ask ticket q draw) x.clock).core
@@ -106,15 +102,18 @@ module _ {namespace : List ℕ} {items : List Item} {w : World} {p : ℕ} {x : P
       subst (λ (s : Stepped). CoreSo (asking k ticket) s.core) (sym (stepped_is x.core e x.clock gave'.0))
       (counted_so (asking k ticket) (happened x.clock e d) (happened_so (asking k ticket) x.clock e d (due known) (misses k true q n) (unasked_so k ticket d (agrees known) (unknown_gives d x.clock ticket draw q o gave'.1))))
 
-  pub ask_keys : (before : List Item) (ticket draw : ℕ) (q : Request) (o : Outcome) → ((k : List ℕ) (t : ℕ) → owned nsp lea k p t before ≡ owned nsp lea k p t items) → (stepped x.core (event.Ask ticket q draw) x.clock).outcome ≡ Ok o
-      → KeysOk nsp lea next w.calls (before ++ item.Asked p ticket q ∷ []) p x.life (stepped x.core (event.Ask ticket q draw) x.clock).core
-  ask_keys before ticket draw q o same is k t own f = by (told_asked nsp lea k p t before ticket q own f)
+  pub ask_keys : (before : List Item) (ticket draw : ℕ) (q : Request) (o : Outcome) → ((k : List ℕ) (t : ℕ) → owned nsp lea k p t before ≡ owned nsp lea k p t items) → clock_of p before ≡ clock_of p items → (stepped x.core (event.Ask ticket q draw) x.clock).outcome ≡ Ok o
+      → KeysOk nsp lea next w.calls (before ++ item.Asked p ticket q ∷ []) p x.life x.clock (stepped x.core (event.Ask ticket q draw) x.clock).core
+  ask_keys before ticket draw q o same clock is k t own f = by (told_asked nsp lea k p t before ticket q own f)
     where
-      by : (writes_over lea k q ≡ false) × (((ticket ≡ t) × (own ≡ asks)) ⊎ (owned nsp lea k p t before ≡ Some own)) → Kept w.calls next p x.life k t own (stepped x.core (event.Ask ticket q draw) x.clock).core
-      by (n, inl i) =
-          subst (λ (y : Owning). Kept w.calls next p x.life k t y (stepped x.core (event.Ask ticket q draw) x.clock).core) (sym i.1)
-          (subst (λ (m : ℕ). CoreSo (asking k m) (stepped x.core (event.Ask ticket q draw) x.clock).core) i.0 (begun_so k ticket draw q o n is))
-      by (n, inr e) = keep known (event.Ask ticket q draw) k t own w.calls (carry_itself w.calls) (ask_lets k t own ticket draw q n) ((mine known).keys k t own (sym (same k t) ∙ e))
+      by : AskedAs nsp lea k p t before ticket q own → Kept w.calls next p x.life x.clock k t own (stepped x.core (event.Ask ticket q draw) x.clock).core
+      by (begins_it n i j) =
+          subst (λ (y : Owning). Kept w.calls next p x.life x.clock k t y (stepped x.core (event.Ask ticket q draw) x.clock).core) (sym j)
+          (subst (λ (m : ℕ). CoreSo (asking k m) (stepped x.core (event.Ask ticket q draw) x.clock).core) i (begun_so k ticket draw q o n is))
+      by (writes_it n create u over keeps client j) =
+          subst (λ (y : Owning). Kept w.calls next p x.life x.clock k t y (stepped x.core (event.Ask ticket q draw) x.clock).core) (sym j)
+          (own_begins_kept known k t ticket draw q o n create (clock_of p before) (sym (same k t) ∙ u) over keeps client (clock ∙ (known.beside.sessions.places p x known.there).clock) is)
+      by (asks_other n e h) = keep known (event.Ask ticket q draw) k t own w.calls (carry_itself w.calls) (ask_lets k t own ticket draw q n h) ((mine known).keys k t own (sym (same k t) ∙ e))
 
   -- ---- messages
 
@@ -161,8 +160,10 @@ module _ {namespace : List ℕ} {items : List Item} {w : World} {p : ℕ} {x : P
     item_lets k t asks n = λ u. passes_in k None (asking k t) refl (λ y. no_true y) n
     item_lets k t (sends c m) n = λ j v u. passes_in k None (sending_as k j m) refl (λ y. no_true y) n
     item_lets k t (owns m create) n = λ e f c l u. passes_in k (Some create) (holds k m e f) refl (λ y. no_some e.create create c) n
+    item_lets k t (write_asked m create v) n = (tt, λ l e f c u. passes_in k (Some create) (writes_own k m (mine_as v None) e f) refl (λ y. no_some e.create create c) n)
+    item_lets k t (write_sent m create v sent) n = (tt, λ j g l e f c u. passes_in k (Some create) (writes_own k m (mine_as v (Some j)) e f) refl (λ y. no_some e.create create c) n)
 
-    pub item_keys : KeysOk nsp lea next w.calls (items ++ item.Delivered number ∷ []) p x.life (stepped x.core (event.Item s.own i) x.clock).core
+    pub item_keys : KeysOk nsp lea next w.calls (items ++ item.Delivered number ∷ []) p x.life x.clock (stepped x.core (event.Item s.own i) x.clock).core
     item_keys k t o f = let u = told_delivered nsp lea k p t items number o f in keep known (event.Item s.own i) k t o w.calls (carry_itself w.calls) (item_lets k t o u.1) ((mine known).keys k t o u.0)
 
     pub plain_passes : (T : OfRescind) → PassesIn (plain [] T) d s.own i

@@ -4,10 +4,19 @@ pub mod Grounds
 pub mod Cores
 pub mod Ways
 pub mod Steps
+pub mod OwnWrites
+pub mod Beginning
+pub mod OwnSends
+pub mod OwnSteps
+pub mod OwnWork
+pub mod OwnDue
+pub mod Late
+pub mod Kept
 pub mod Told
 pub mod Sent
 pub mod Carrying
 pub mod Standing
+pub mod OwnKept
 pub mod Hearing
 pub mod Ending
 pub mod Sending
@@ -17,3 +26,4 @@ pub mod Replied
 pub mod Tails
 pub mod Whole
 pub mod Worked
+pub mod WorkedWrites

@@ -1,6 +1,6 @@
 -- What stands at one key of a proxy's ownership, as writes and entries go on: while no write is over the key and no revoking word comes for
 -- it, an acquire of it stays unspoiled, and a held entry stays as it is.
-use Rattle.std.proofs.Common.{◌≡◌, ℕ, ◌+◌, ◌==◌, Bool, true, false, cond, not, ◌&&◌, ◌||◌, List, [], ◌∷◌, ◌++◌, map, Option, None, Some, is_some, refl, sym, ◌∙◌, ap, subst}
+use Rattle.std.proofs.Common.{◌≡◌, ◌⊎◌, inl, inr, ℕ, ◌+◌, ◌==◌, Bool, true, false, cond, not, ◌&&◌, ◌||◌, List, [], ◌∷◌, ◌++◌, map, Option, None, Some, is_some, refl, sym, ◌∙◌, ap, subst}
 use Rattle.std.specs.List.{list_any}
 use Rattle.std.specs.Option.{option_map}
 use Rattle.etcd_types.specs.declared.answer.Answer.{Answer}
@@ -12,7 +12,6 @@ use Rattle.etcd_types.specs.declared.watch.Change.TheVariants as change
 use Rattle.etcd_types.specs.Keys.{same}
 use Rattle.etcd_types.proofs.KeyOrder.{same-equal}
 use Rattle.proxy_model.specs.declared.lease.Entry.{Entry}
-use Rattle.proxy_model.specs.declared.lease.Phase.{Phase}
 use Rattle.proxy_model.specs.declared.ownership.Owner.{Owner}
 use Rattle.proxy_model.specs.declared.ownership.Written.{Written}
 use Rattle.proxy_model.specs.declared.ownership.Written.TheVariants.{Wrote, Blocked}
@@ -23,6 +22,7 @@ use Rattle.proxy_model.specs.LeaseTable.{given_up, is_writing, is_writing_phase}
 use Rattle.proxy_model.specs.SeveralKeys.{written_ranges}
 use Rattle.proxy_model.specs.Leaving.{guard_held}
 use Rattle.proxy_model.proofs.KeyedLaws.{at-with_at}
+use Rattle.wait_model.specs.declared.sending.Sending.{Sending}
 use Rattle.wait_model.specs.declared.sending.Sending.TheVariants as sending
 use Rattle.wait_model.specs.declared.write.Write.{Write}
 use Rattle.wait_model.specs.declared.write.WriteStage.{WriteStage}
@@ -40,7 +40,7 @@ use Rattle.wait_model.specs.GuardedAnswers.{left_entries, Ending, ended_by, stag
 use Rattle.wait_model.specs.Leaving.{rescinded, if_read, rescind_answered}
 use Rattle.wait_model.specs.LeasingStream.{resynced, all_given_up}
 use Rattle.wait_model.specs.Notices.{revoked_turn, put_noticed, deleted_phase, deleted_turn, owned_key, noticed, all_noticed}
-use Rattle.wait_model.specs.Passes.{goes, turn, passed, proceeded}
+use Rattle.wait_model.specs.Passes.{goes, turn, Pass, passed, proceeded}
 use Rattle.wait_model.specs.Phases.{own_entry, is_of, begun, let_go, phase_sent, rescind_sent}
 use Rattle.wait_model.specs.SessionEnd.{stage_ended, session_ended}
 use Rattle.wait_model.specs.SeveralKeys.{any_covered, given_up_over, spoiled_over, by_ranges}
@@ -48,10 +48,12 @@ use Rattle.wait_model.specs.Sent.{JobSent, revoke_job, write_job, is_revoke, cal
 use Rattle.wait_model.specs.SingleKeys.{Turn, let_go_leased, begun_over, any_key, keys_begun, by_keys}
 use Rattle.wait_model.specs.Stages.{staged, gone_on, is_waiting, is_owner, is_due, stage_on}
 use Rattle.wait_model.specs.State.{Ownership}
-use Rattle.wait_model.specs.Writes.{first_by, with_first, without_first, sends, asks, has_ticket, job_of}
+use Rattle.wait_model.specs.Writes.{first_by, with_first, without_first, sends, stage_asks, asks, has_ticket, job_of}
 use Rattle.wait_model.proofs.Tables.{at-each, at-without}
+use Rattle.core_laws.proofs.Writes.Kept.{first_passes}
+use Rattle.core_laws.proofs.Steps.Lists.{same_number}
 use Rattle.owned_laws.specs.Watched.{NoneOver, Spares, AllSpare}
-use Rattle.owned_laws.proofs.Modes.{Mode}
+use Rattle.owned_laws.proofs.Modes.{Mine, IsMine, Mode}
 
 either : {A : Type 0} (P : A → Type 0) (b : Bool) (x y : A) → P x → P y → P (cond b x y)
 either P true x y h i = h
@@ -96,6 +98,107 @@ module _ (k : List ℕ) where
   none_each g [] h = h
   none_each g (w ∷ ws) h = let q = or_none (covers w k) (list_any (λ w. covers w k) ws) h in both_none (covers w k) (list_any (λ w. covers w k) (map (λ w. staged w (g w)) ws)) q.0 (none_each g ws q.1)
 
+-- ---- writes, one of which is over the key: the owner's own
+
+no_true : {A : Type 0} → false ≡ true → A
+no_true e = absurd (cc)
+
+some_write : (x y : Write) → Some x ≡ Some y → x ≡ y
+some_write x y e = cc
+
+module _ (k : List ℕ) where
+  pub none_found : (p : Write → Bool) (x : Write) (ws : List Write) → NoneOver k ws → first_by p ws ≡ Some x → covers x k ≡ false
+  none_found p x [] n e = absurd (cc)
+  none_found p x (y ∷ ws) n e = by (p y) e (none_found p x ws q.1)
+    where
+      q : (covers y k ≡ false) × NoneOver k ws
+      q = or_none (covers y k) (list_any (λ w. covers w k) ws) n
+
+      by : (b : Bool) → cond b (Some y) (first_by p ws) ≡ Some x → (first_by p ws ≡ Some x → covers x k ≡ false) → covers x k ≡ false
+      by true f more = ap (λ (z : Write). covers z k) (sym (some_write y x f)) ∙ q.0
+      by false f more = more f
+
+module _ (k : List ℕ) (m : Mine) where
+  abbrev pub OneOver : List Write → Type 0
+  OneOver [] = ⊥
+  OneOver (x ∷ ws) = (IsMine m x × ((covers x k ≡ true) × NoneOver k ws)) ⊎ ((covers x k ≡ false) × OneOver ws)
+
+  abbrev pub MissesIt : (Write → Bool) → Type 0
+  MissesIt p = (x : Write) → IsMine m x → p x ≡ false
+
+  one_append : (ws vs : List Write) → OneOver ws → NoneOver k vs → OneOver (ws ++ vs)
+  one_append [] vs h i = absurd h
+  one_append (x ∷ ws) vs (inl h) i = inl (h.0, (h.1.0, none_append k ws vs h.1.1 i))
+  one_append (x ∷ ws) vs (inr h) i = inr (h.0, one_append ws vs h.1 i)
+
+  one_first : (p : Write → Bool) (s : WriteStage) (ws : List Write) → MissesIt p → OneOver ws → OneOver (with_first p s ws)
+  one_first p s [] n h = absurd h
+  one_first p s (x ∷ ws) n (inl h) = subst (λ (b : Bool). OneOver (cond b (staged x s ∷ ws) (x ∷ with_first p s ws))) (sym (n x h.0)) (inl (h.0, (h.1.0, none_first k p s ws h.1.1)))
+  one_first p s (x ∷ ws) n (inr h) = either OneOver (p x) (staged x s ∷ ws) (x ∷ with_first p s ws) (inr h) (inr (h.0, one_first p s ws n h.1))
+
+  one_rest : (p : Write → Bool) (ws : List Write) → MissesIt p → OneOver ws → OneOver (without_first p ws)
+  one_rest p [] n h = absurd h
+  one_rest p (x ∷ ws) n (inl h) = subst (λ (b : Bool). OneOver (cond b ws (x ∷ without_first p ws))) (sym (n x h.0)) (inl (h.0, (h.1.0, none_rest k p ws h.1.1)))
+  one_rest p (x ∷ ws) n (inr h) = either OneOver (p x) ws (x ∷ without_first p ws) h.1 (inr (h.0, one_rest p ws n h.1))
+
+  -- a change that leaves the stage of a write whose call is due or out
+  abbrev pub Sparing : (Write → WriteStage) → Type 0
+  Sparing g = (x : Write) (s : Sending) → x.stage ≡ Sends true s → g x ≡ x.stage
+
+  same_stage : (x : Write) (s : WriteStage) → s ≡ x.stage → IsMine m x → IsMine m (staged x s)
+  same_stage x s e i = record { ticket = i.ticket; request = i.request; sending = i.sending; stage = e ∙ i.stage; sends = i.sends }
+
+  one_each : (g : Write → WriteStage) (ws : List Write) → Sparing g → OneOver ws → OneOver (map (λ w. staged w (g w)) ws)
+  one_each g [] n h = absurd h
+  one_each g (x ∷ ws) n (inl h) = inl (same_stage x (g x) (n x h.0.sending h.0.stage) h.0, (h.1.0, none_each k g ws h.1.1))
+  one_each g (x ∷ ws) n (inr h) = inr (h.0, one_each g ws n h.1)
+
+  one_away : (p : Write → Bool) (x : Write) (ws : List Write) → MissesIt p → OneOver ws → first_by p ws ≡ Some x → covers x k ≡ false
+  one_away p x [] n h e = absurd h
+  one_away p x (y ∷ ws) n (inl h) e = none_found k p x ws h.1.1 (ap (λ (b : Bool). cond b (Some y) (first_by p ws)) (sym (n y h.0)) ∙ e)
+  one_away p x (y ∷ ws) n (inr h) e = by (p y) e (one_away p x ws n h.1)
+    where
+      by : (b : Bool) → cond b (Some y) (first_by p ws) ≡ Some x → (first_by p ws ≡ Some x → covers x k ≡ false) → covers x k ≡ false
+      by true f more = ap (λ (z : Write). covers z k) (sym (some_write y x f)) ∙ h.0
+      by false f more = more f
+
+-- at most the owner's own
+abbrev pub OverOf : List ℕ → Option Mine → List Write → Type 0
+OverOf k None ws = NoneOver k ws
+OverOf k (Some m) ws = OneOver k m ws
+
+abbrev pub MissesOf : Option Mine → (Write → Bool) → Type 0
+MissesOf None p = Unit {0}
+MissesOf (Some m) p = MissesIt [] m p
+
+over_append : (k : List ℕ) (o : Option Mine) (ws vs : List Write) → OverOf k o ws → NoneOver k vs → OverOf k o (ws ++ vs)
+over_append k None ws vs h i = none_append k ws vs h i
+over_append k (Some m) ws vs h i = one_append k m ws vs h i
+
+over_with : (k : List ℕ) (o : Option Mine) (p : Write → Bool) (s : WriteStage) (ws : List Write) → MissesOf o p → OverOf k o ws → OverOf k o (with_first p s ws)
+over_with k None p s ws n h = none_first k p s ws h
+over_with k (Some m) p s ws n h = one_first k m p s ws n h
+
+over_without : (k : List ℕ) (o : Option Mine) (p : Write → Bool) (ws : List Write) → MissesOf o p → OverOf k o ws → OverOf k o (without_first p ws)
+over_without k None p ws n h = none_rest k p ws h
+over_without k (Some m) p ws n h = one_rest k m p ws n h
+
+over_each : (k : List ℕ) (o : Option Mine) (g : Write → WriteStage) (ws : List Write) → ((x : Write) (s : Sending) → x.stage ≡ Sends true s → g x ≡ x.stage) → OverOf k o ws → OverOf k o (map (λ w. staged w (g w)) ws)
+over_each k None g ws n h = none_each k g ws h
+over_each k (Some m) g ws n h = one_each k m g ws n h
+
+-- nothing is to be missed where there is none
+pub no_own : (o : Option Mine) (p : Write → Bool) → o ≡ None → MissesOf o p
+no_own None p e = tt
+no_own (Some m) p e = absurd (cc)
+
+pub asks_misses : (o : Option Mine) (call : ℕ) → MissesOf o (asks call)
+asks_misses None call = tt
+asks_misses (Some m) call = λ x i. ap (stage_asks call) i.stage
+
+gone_sparing : (p : List ℕ → Bool) (x : Write) (s : Sending) → x.stage ≡ Sends true s → stage_gone p x.stage ≡ x.stage
+gone_sparing p x s e = ap (stage_gone p) e ∙ sym e
+
 module _ (M : Mode) where
   abbrev k : List ℕ
   k = M.key
@@ -110,7 +213,28 @@ module _ (M : Mode) where
   h = M.hold
 
   abbrev Over : List Write → Type 0
-  Over ws = w ≡ true → NoneOver k ws
+  Over ws = w ≡ true → OverOf k M.mine ws
+
+  abbrev pub Misses : (Write → Bool) → Type 0
+  Misses p = MissesOf M.mine p
+
+  -- a write that isn't the owner's own
+  abbrev Away : Write → Type 0
+  Away x = is_some M.mine ≡ true → covers x k ≡ false
+
+  away_of : (p : Write → Bool) (x : Write) (ws : List Write) → Misses p → Over ws → first_by p ws ≡ Some x → Away x
+  away_of p x ws n o f = by M.mine n (λ y. o (M.holding (M.writes y)))
+    where
+      by : (q : Option Mine) → MissesOf q p → (is_some q ≡ true → OverOf k q ws) → is_some q ≡ true → covers x k ≡ false
+      by None n' o' y = no_true y
+      by (Some m) n' o' y = one_away k m p x ws n' (o' refl) f
+
+  unowned : (x : Write) → Away x → owns x k && is_writing_phase e.phase ≡ false
+  unowned x a = by (is_some M.mine) M.writing a
+    where
+      by : (b : Bool) → is_writing_phase e.phase ≡ b → (b ≡ true → covers x k ≡ false) → owns x k && is_writing_phase e.phase ≡ false
+      by true f g = ap (λ (c : Bool). (is_owner x.stage && c) && is_writing_phase e.phase) (g refl) ∙ ap (λ (c : Bool). c && is_writing_phase e.phase) (and_false (is_owner x.stage))
+      by false f g = ap (λ (c : Bool). owns x k && c) f ∙ and_false (owns x k)
 
   abbrev Mark : Keyed Bool → Type 0
   Mark ss = M.mark ≡ true → at ss k ≡ Some false
@@ -140,25 +264,22 @@ module _ (M : Mode) where
       by y true s = ap (λ (l : List ℕ). f (at es l)) (same-equal j k s) ∙ ap f (i y) ∙ g y s
       by y false s = i y
 
-  owned_stays : (x : Write) (f : List ℕ → Entry → Entry) (es : Keyed Entry) → Stays es → Stays (change_owned x f es)
-  owned_stays x f es i =
-      stays_each _ es (λ y. ap (λ (p : Phase). cond (owns x k && is_writing_phase p) (f k e) e) M.held ∙ ap (λ (b : Bool). cond b (f k e) e) (and_false (owns x k))) i
+  owned_stays : (x : Write) (f : List ℕ → Entry → Entry) (es : Keyed Entry) → Away x → Stays es → Stays (change_owned x f es)
+  owned_stays x f es a i = stays_each _ es (λ y. ap (λ (b : Bool). cond b (f k e) e) (unowned x a)) i
 
-  owns_stays : (x : Write) (es : Keyed Entry) → Stays es → Stays (without (owns_at x es) es)
-  owns_stays x es i = λ y.
+  owns_stays : (x : Write) (es : Keyed Entry) → Away x → Stays es → Stays (without (owns_at x es) es)
+  owns_stays x es a i = λ y.
       at-without (owns_at x es) es k
       ∙ ap (λ (o : Option Entry). cond (owns x k && is_writing o) None o) (i y)
-      ∙ ap (λ (p : Phase). cond (owns x k && is_writing_phase p) None (Some e)) M.held
-      ∙ ap (λ (b : Bool). cond b None (Some e)) (and_false (owns x k))
+      ∙ ap (λ (b : Bool). cond b None (Some e)) (unowned x a)
 
-  kept_stays : (x : Write) (os : List Owner) (es : Keyed Entry) → Stays es → Stays (kept_entries x os es)
-  kept_stays x os es i =
-      owned_stays x _ (without (is_gone x es os) es)
+  kept_stays : (x : Write) (os : List Owner) (es : Keyed Entry) → Away x → Stays es → Stays (kept_entries x os es)
+  kept_stays x os es a i =
+      owned_stays x _ (without (is_gone x es os) es) a
       (λ y.
       at-without (is_gone x es os) es k
       ∙ ap (λ (o : Option Entry). cond (owns x k && is_writing o && not (is_shown es os k)) None o) (i y)
-      ∙ ap (λ (p : Phase). cond (owns x k && is_writing_phase p && not (is_shown es os k)) None (Some e)) M.held
-      ∙ ap (λ (b : Bool). cond (b && not (is_shown es os k)) None (Some e)) (and_false (owns x k)))
+      ∙ ap (λ (b : Bool). cond (b && not (is_shown es os k)) None (Some e)) (unowned x a))
 
   not_own : (session : Option ℕ) (es : Keyed Entry) (o : List ℕ × Owner) → Stays es → h ≡ true → is_own session es o ≡ true → same o.0 k ≡ false
   not_own session es o i y t = by (same o.0 k) refl
@@ -207,20 +328,34 @@ module _ (M : Mode) where
     ),
   )
 
-  turn_so : (step : ℕ) (earlier : List Write) (es : Keyed Entry) (ss : Keyed Bool) (x : Write) → Stays es → Mark ss → Passes x → TurnSo (turn step earlier es ss x)
+  -- the turn of the owner's own write: its call is due or out, so it stays as it is
+  turn_mine : (m : Mine) (step : ℕ) (earlier : List Write) (es : Keyed Entry) (ss : Keyed Bool) (x : Write) → IsMine m x → turn step earlier es ss x ≡ record { entries = es; spoiled = ss; write = x }
+  turn_mine m step earlier es ss x i =
+      let v = staged x (stage_on x.stage) in
+      let on : stage_on x.stage ≡ x.stage = ap stage_on i.stage ∙ sym i.stage in
+      ap (λ (s : WriteStage). cond (is_waiting s && not (list_any (shares x) earlier)) (goes step es ss v) (record { entries = es; spoiled = ss; write = v })) (ap stage_on i.stage)
+      ∙ ap turned on
+    where
+      turned : WriteStage → Turn
+      turned s = record { entries = es; spoiled = ss; write = staged x s }
+
+  pub turn_so : (step : ℕ) (earlier : List Write) (es : Keyed Entry) (ss : Keyed Bool) (x : Write) → Stays es → Mark ss → Passes x → TurnSo (turn step earlier es ss x)
   turn_so step earlier es ss x i m c =
       let v = staged x (stage_on x.stage) in
       either TurnSo (is_waiting v.stage && not (list_any (shares x) earlier)) (goes step es ss v) (record { entries = es; spoiled = ss; write = v })
       (either TurnSo (is_by_keys v) (by_keys step es ss v) (by_ranges step es ss v) (by_keys_so step es ss v i m c) (by_ranges_so step es ss v i m c)) (i, (m, c))
 
-  first_over : (x : Write) (ws : List Write) → Over (x ∷ ws) → Passes x
+  abbrev NoOver : List Write → Type 0
+  NoOver ws = w ≡ true → NoneOver k ws
+
+  first_over : (x : Write) (ws : List Write) → NoOver (x ∷ ws) → Passes x
   first_over x ws o = λ y. (or_none (covers x k) (list_any (λ v. covers v k) ws) (o y)).0
 
-  rest_over : (x : Write) (ws : List Write) → Over (x ∷ ws) → Over ws
+  rest_over : (x : Write) (ws : List Write) → NoOver (x ∷ ws) → NoOver ws
   rest_over x ws o = λ y. (or_none (covers x k) (list_any (λ v. covers v k) ws) (o y)).1
 
-  passed_so : (step : ℕ) (earlier : List Write) (es : Keyed Entry) (ss : Keyed Bool) (ws : List Write) → Stays es → Mark ss → Over ws
-      → let p = passed step earlier es ss ws in Stays p.entries × (Mark p.spoiled × Over p.writes)
+  passed_so : (step : ℕ) (earlier : List Write) (es : Keyed Entry) (ss : Keyed Bool) (ws : List Write) → Stays es → Mark ss → NoOver ws
+      → let p = passed step earlier es ss ws in Stays p.entries × (Mark p.spoiled × NoOver p.writes)
   unfolding passed
   passed_so step earlier es ss [] i m o = (i, (m, o))
   passed_so step earlier es ss (x ∷ ws) i m o =
@@ -229,9 +364,35 @@ module _ (M : Mode) where
       let r = passed_so step (t.write ∷ earlier) t.entries t.spoiled ws b.0 b.1.0 (rest_over x ws o) in
       (r.0, (r.1.0, λ y. both_none (covers t.write k) (list_any (λ v. covers v k) (passed step (t.write ∷ earlier) t.entries t.spoiled ws).writes) (b.1.1 y) (r.1.1 y)))
 
+  abbrev OneSo : Mine → Pass → Type 0
+  OneSo m p = Stays p.entries × (Mark p.spoiled × OneOver k m p.writes)
+
+  passed_one : (m : Mine) (step : ℕ) (earlier : List Write) (es : Keyed Entry) (ss : Keyed Bool) (ws : List Write) → w ≡ true → Stays es → Mark ss → OneOver k m ws → OneSo m (passed step earlier es ss ws)
+  unfolding passed
+  passed_one m step earlier es ss [] t i b o = absurd o
+  passed_one m step earlier es ss (x ∷ ws) t i b (inl o) =
+      let r = passed_so step (x ∷ earlier) es ss ws i b (λ y. o.1.1) in
+      subst
+      (λ (u : Turn).
+      let p = passed step (u.write ∷ earlier) u.entries u.spoiled ws in
+      OneSo m (record { entries = p.entries; spoiled = p.spoiled; writes = u.write ∷ p.writes }))
+      (sym (turn_mine m step earlier es ss x o.0)) (r.0, (r.1.0, inl (o.0, (o.1.0, r.1.1 t))))
+  passed_one m step earlier es ss (x ∷ ws) t i b (inr o) =
+      let u = turn step earlier es ss x in
+      let c = turn_so step earlier es ss x i b (λ y. o.0) in
+      let r = passed_one m step (u.write ∷ earlier) u.entries u.spoiled ws t c.0 c.1.0 o.1 in
+      (r.0, (r.1.0, inr (c.1.1 t, r.1.1)))
+
+  passed_over : (q : Option Mine) (own : Ownership) → (is_some q ≡ true → w ≡ true) → Stays own.entries → Mark own.waits.spoiled → (w ≡ true → OverOf k q own.waits.writes)
+      → let p = passed own.waits.step [] own.entries own.waits.spoiled own.waits.writes in Stays p.entries × (Mark p.spoiled × (w ≡ true → OverOf k q p.writes))
+  passed_over None own h i m o = passed_so own.waits.step [] own.entries own.waits.spoiled own.waits.writes i m o
+  passed_over (Some x) own h i m o =
+      let r = passed_one x own.waits.step [] own.entries own.waits.spoiled own.waits.writes (h refl) i m (o (h refl)) in
+      (r.0, (r.1.0, λ y. r.1.1))
+
   pub pass_so : (own : Ownership) → OwnSo own → OwnSo (proceeded own)
   pass_so own t =
-      let r = passed_so own.waits.step [] own.entries own.waits.spoiled own.waits.writes t.entry t.mark t.over in
+      let r = passed_over M.mine own (λ y. M.holding (M.writes y)) t.entry t.mark t.over in
       record { outs = t.outs; over = r.1.1; mark = r.1.0; entry = r.0 }
 
   -- ---- answers
@@ -265,65 +426,65 @@ module _ (M : Mode) where
       by true g = record { outs = t.outs; over = t.over; mark = t.mark; entry = λ y. stays_other j None own.entries (none y g) t.entry y }
       by false g = t
 
-  over_first : (p : Write → Bool) (s : WriteStage) (ws : List Write) → Over ws → Over (with_first p s ws)
-  over_first p s ws o = λ y. none_first k p s ws (o y)
+  over_first : (p : Write → Bool) (s : WriteStage) (ws : List Write) → Misses p → Over ws → Over (with_first p s ws)
+  over_first p s ws n o = λ y. over_with k M.mine p s ws n (o y)
 
-  over_rest : (p : Write → Bool) (ws : List Write) → Over ws → Over (without_first p ws)
-  over_rest p ws o = λ y. none_rest k p ws (o y)
+  over_rest : (p : Write → Bool) (ws : List Write) → Misses p → Over ws → Over (without_first p ws)
+  over_rest p ws n o = λ y. over_without k M.mine p ws n (o y)
 
-  back_so : (p : Write → Bool) (call : ℕ) (x : Write) (o : Option Bool) (own : Ownership) → OwnSo own → EndSo (revoke_back p call x o own)
-  back_so p call x None own t = tt
-  back_so p call x (Some b) own t = record { outs = t.outs; over = over_first p _ own.waits.writes t.over; mark = t.mark; entry = t.entry }
+  back_so : (p : Write → Bool) (call : ℕ) (x : Write) (o : Option Bool) (own : Ownership) → Misses p → OwnSo own → EndSo (revoke_back p call x o own)
+  back_so p call x None own n t = tt
+  back_so p call x (Some b) own n t = record { outs = t.outs; over = over_first p _ own.waits.writes n t.over; mark = t.mark; entry = t.entry }
 
-  ended_so : (own : Ownership) (es : Keyed Entry) (p : Write → Bool) → Stays es → OwnSo own → OwnSo (ended_by own es p)
-  ended_so own es p i t = record { outs = t.outs; over = over_rest p own.waits.writes t.over; mark = t.mark; entry = i }
+  ended_so : (own : Ownership) (es : Keyed Entry) (p : Write → Bool) → Misses p → Stays es → OwnSo own → OwnSo (ended_by own es p)
+  ended_so own es p n i t = record { outs = t.outs; over = over_rest p own.waits.writes n t.over; mark = t.mark; entry = i }
 
-  revoke_so : (p : Write → Bool) (call : ℕ) (o : Option Write) (a : Answer) (own : Ownership) → OwnSo own → EndSo (revoke_answered p call o a own)
-  revoke_so p call None a own t = t
-  revoke_so p call (Some x) (answer.Done reply) own t = back_so p call x (guard_held reply.body) own t
-  revoke_so p call (Some x) (answer.Refused r) own t = ended_so own own.entries p t.entry t
+  revoke_so : (p : Write → Bool) (call : ℕ) (o : Option Write) (a : Answer) (own : Ownership) → Misses p → OwnSo own → EndSo (revoke_answered p call o a own)
+  revoke_so p call None a own n t = t
+  revoke_so p call (Some x) (answer.Done reply) own n t = back_so p call x (guard_held reply.body) own n t
+  revoke_so p call (Some x) (answer.Refused r) own n t = ended_so own own.entries p n t.entry t
 
-  failed_so : (session : Option ℕ) (p : Write → Bool) (x : Write) (os : List Owner) (own : Ownership) → OwnSo own → OwnSo (failed session p x os own)
-  failed_so session p x os own t =
+  failed_so : (session : Option ℕ) (p : Write → Bool) (x : Write) (os : List Owner) (own : Ownership) → Misses p → Away x → OwnSo own → OwnSo (failed session p x os own)
+  failed_so session p x os own n a t =
       either OwnSo (is_owner x.stage && is_single x.request)
       (staged_by own (without (owns_at x own.entries) own.entries) p (Sends false (sending.Due own.waits.step)))
       (finding session p (by_key [] (other_owners x own.entries os)) own (kept_entries x os own.entries))
-      (record { outs = t.outs; over = over_first p _ own.waits.writes t.over; mark = t.mark; entry = owns_stays x own.entries t.entry })
-      (record { outs = t.outs; over = over_first p _ own.waits.writes t.over; mark = t.mark; entry = left_stays session (by_key [] (other_owners x own.entries os)) (kept_entries x os own.entries) (kept_stays x os own.entries t.entry) })
+      (record { outs = t.outs; over = over_first p _ own.waits.writes n t.over; mark = t.mark; entry = owns_stays x own.entries a t.entry })
+      (record { outs = t.outs; over = over_first p _ own.waits.writes n t.over; mark = t.mark; entry = left_stays session (by_key [] (other_owners x own.entries os)) (kept_entries x os own.entries) (kept_stays x os own.entries a t.entry) })
 
-  done_so : (session : Option ℕ) (p : Write → Bool) (x : Write) (o : Option Written) (own : Ownership) → OwnSo own → EndSo (done_if session p x o own)
-  done_so session p x None own t = tt
-  done_so session p x (Some (Wrote reply)) own t = ended_so own _ p (owned_stays x _ own.entries t.entry) t
-  done_so session p x (Some (Blocked os)) own t = failed_so session p x os own t
+  done_so : (session : Option ℕ) (p : Write → Bool) (x : Write) (o : Option Written) (own : Ownership) → Misses p → Away x → OwnSo own → EndSo (done_if session p x o own)
+  done_so session p x None own n a t = tt
+  done_so session p x (Some (Wrote reply)) own n a t = ended_so own _ p n (owned_stays x _ own.entries a t.entry) t
+  done_so session p x (Some (Blocked os)) own n a t = failed_so session p x os own n a t
 
-  write_so : (session : Option ℕ) (p : Write → Bool) (o : Option Write) (a : Answer) (own : Ownership) → OwnSo own → EndSo (write_answered session p o a own)
-  write_so session p None a own t = t
-  write_so session p (Some x) (answer.Done reply) own t = done_so session p x (written own.waits.prefix x.request reply) own t
-  write_so session p (Some x) (answer.Refused r) own t = ended_so own (unwrote_entries x own.entries) p (owned_stays x _ own.entries t.entry) t
+  write_so : (session : Option ℕ) (p : Write → Bool) (o : Option Write) (a : Answer) (own : Ownership) → first_by p own.waits.writes ≡ o → Misses p → OwnSo own → EndSo (write_answered session p o a own)
+  write_so session p None a own f n t = t
+  write_so session p (Some x) (answer.Done reply) own f n t = done_so session p x (written own.waits.prefix x.request reply) own n (away_of p x own.waits.writes n t.over f) t
+  write_so session p (Some x) (answer.Refused r) own f n t = ended_so own (unwrote_entries x own.entries) p n (owned_stays x _ own.entries (away_of p x own.waits.writes n t.over f) t.entry) t
 
-  job_so : (call : ℕ) (a : Answer) (session : Option ℕ) (now : ℕ) (o : Option WaitJob) (own : Ownership) → ((j : List ℕ) (create : ℕ) → o ≡ Some (job.Rescind j create) → h ≡ true → same j k ≡ true → (e.create == create) ≡ false) → OwnSo own
-      → EndSo (answered_job call a session now o own)
-  job_so call a session now None own f t = t
-  job_so call a session now (Some (job.Rescind j create)) own f t = rescind_so a (rescinded j create now own) (rescinded_so j create now own (f j create refl) t)
-  job_so call a session now (Some (job.Revoke j)) own f t = revoke_so (asks call) call (first_by (asks call) own.waits.writes) a own t
-  job_so call a session now (Some job.Write) own f t = write_so session (sends call) (first_by (sends call) own.waits.writes) a own t
+  job_so : (call : ℕ) (a : Answer) (session : Option ℕ) (now : ℕ) (o : Option WaitJob) (own : Ownership) → ((j : List ℕ) (create : ℕ) → o ≡ Some (job.Rescind j create) → h ≡ true → same j k ≡ true → (e.create == create) ≡ false)
+      → Misses (sends call) → OwnSo own → EndSo (answered_job call a session now o own)
+  job_so call a session now None own f n t = t
+  job_so call a session now (Some (job.Rescind j create)) own f n t = rescind_so a (rescinded j create now own) (rescinded_so j create now own (f j create refl) t)
+  job_so call a session now (Some (job.Revoke j)) own f n t = revoke_so (asks call) call (first_by (asks call) own.waits.writes) a own (asks_misses M.mine call) t
+  job_so call a session now (Some job.Write) own f n t = write_so session (sends call) (first_by (sends call) own.waits.writes) a own refl n t
 
   less_so : (call : ℕ) (own : Ownership) → OwnSo own → OwnSo (without_out call own)
   less_so call own t = record { outs = M.less call own.waits.out t.outs; over = t.over; mark = t.mark; entry = t.entry }
 
-  pub answered_so : (call : ℕ) (a : Answer) (session : Option ℕ) (now : ℕ) (own : Ownership) → OwnSo own → EndSo (answered call a session now own)
+  pub answered_so : (call : ℕ) (a : Answer) (session : Option ℕ) (now : ℕ) (own : Ownership) → Misses (sends call) → OwnSo own → EndSo (answered call a session now own)
   unfolding answered
-  answered_so call a session now own t = job_so call a session now (job_of call own.waits.out) (without_out call own) (λ j create f. M.apart own.waits.out call j create t.outs f) (less_so call own t)
+  answered_so call a session now own n t = job_so call a session now (job_of call own.waits.out) (without_out call own) (λ j create f. M.apart own.waits.out call j create t.outs f) n (less_so call own t)
 
   -- ---- losses, and what is forgotten
 
-  loss_so : (p : Write → Bool) (o : Option Write) (own : Ownership) → OwnSo own → OwnSo (write_lost p o own).own
-  loss_so p None own t = t
-  loss_so p (Some x) own t = ended_so own _ p (owned_stays x _ own.entries t.entry) t
+  loss_so : (p : Write → Bool) (o : Option Write) (own : Ownership) → first_by p own.waits.writes ≡ o → Misses p → OwnSo own → OwnSo (write_lost p o own).own
+  loss_so p None own f n t = t
+  loss_so p (Some x) own f n t = ended_so own _ p n (owned_stays x _ own.entries (away_of p x own.waits.writes n t.over f) t.entry) t
 
-  -- a rescind leaves a held entry as it is
+  -- a rescind leaves an entry that doesn't leave as it is
   still : (b : Bool) → rescind_sent b e ≡ e
-  still b = (λ i. record e { phase = phase_sent b (M.held i) }) ∙ (λ i. record e { phase = (sym M.held) i })
+  still b = λ i. record e { phase = (M.still b) i }
 
   rescind_stays : (b : Bool) (j : List ℕ) (es : Keyed Entry) → Stays es → Stays (changed_at es j (rescind_sent b))
   rescind_stays b j es i = stays_turned j (option_map (rescind_sent b)) es (λ y s. ap (λ (x : Entry). Some x) (still b)) i
@@ -331,28 +492,33 @@ module _ (M : Mode) where
   lost_rescind_stays : (j : List ℕ) (create : ℕ) (es : Keyed Entry) → Stays es → Stays (changed_at es j (λ x. cond (x.create == create) (rescind_sent false x) x))
   lost_rescind_stays j create es i = stays_turned j (option_map (λ x. cond (x.create == create) (rescind_sent false x) x)) es (λ y s. ap (λ (x : Entry). Some x) (either (λ (x : Entry). x ≡ e) (e.create == create) (rescind_sent false e) e (still false) refl)) i
 
-  lost_job_so : (call : ℕ) (o : Option WaitJob) (own : Ownership) → OwnSo own → OwnSo (lost_job call o own).own
-  lost_job_so call None own t = t
-  lost_job_so call (Some (job.Rescind j create)) own t = record { outs = t.outs; over = t.over; mark = t.mark; entry = lost_rescind_stays j create own.entries t.entry }
-  lost_job_so call (Some (job.Revoke j)) own t = loss_so (asks call) (first_by (asks call) own.waits.writes) own t
-  lost_job_so call (Some job.Write) own t = loss_so (sends call) (first_by (sends call) own.waits.writes) own t
+  lost_job_so : (call : ℕ) (o : Option WaitJob) (own : Ownership) → Misses (sends call) → OwnSo own → OwnSo (lost_job call o own).own
+  lost_job_so call None own n t = t
+  lost_job_so call (Some (job.Rescind j create)) own n t = record { outs = t.outs; over = t.over; mark = t.mark; entry = lost_rescind_stays j create own.entries t.entry }
+  lost_job_so call (Some (job.Revoke j)) own n t = loss_so (asks call) (first_by (asks call) own.waits.writes) own refl (asks_misses M.mine call) t
+  lost_job_so call (Some job.Write) own n t = loss_so (sends call) (first_by (sends call) own.waits.writes) own refl n t
 
-  pub lost_so : (call : ℕ) (own : Ownership) → OwnSo own → OwnSo (lost call own).own
+  pub lost_so : (call : ℕ) (own : Ownership) → Misses (sends call) → OwnSo own → OwnSo (lost call own).own
   unfolding lost
-  lost_so call own t = lost_job_so call (job_of call own.waits.out) (without_out call own) (less_so call own t)
+  lost_so call own n t = lost_job_so call (job_of call own.waits.out) (without_out call own) n (less_so call own t)
 
-  forgotten_by_so : (p : Write → Bool) (o : Option Write) (own : Ownership) → OwnSo own → OwnSo (forgotten_by p o own)
-  forgotten_by_so p None own t = t
-  forgotten_by_so p (Some x) own t =
-      ended_so own (given_back x own.entries) p (either Stays (is_due x.stage) (unwrote_entries x own.entries) (left_entries x own.entries) (owned_stays x _ own.entries t.entry) (owned_stays x _ own.entries t.entry)) t
+  forgotten_by_so : (p : Write → Bool) (o : Option Write) (own : Ownership) → first_by p own.waits.writes ≡ o → Misses p → OwnSo own → OwnSo (forgotten_by p o own)
+  forgotten_by_so p None own f n t = t
+  forgotten_by_so p (Some x) own f n t =
+      let a = away_of p x own.waits.writes n t.over f in
+      ended_so own (given_back x own.entries) p n (either Stays (is_due x.stage) (unwrote_entries x own.entries) (left_entries x own.entries) (owned_stays x _ own.entries a t.entry) (owned_stays x _ own.entries a t.entry)) t
 
-  pub forgotten_so : (ticket : ℕ) (own : Ownership) → OwnSo own → OwnSo (forgotten ticket own)
+  pub forgotten_so : (ticket : ℕ) (own : Ownership) → Misses (has_ticket ticket) → OwnSo own → OwnSo (forgotten ticket own)
   unfolding forgotten
-  forgotten_so ticket own t = forgotten_by_so (has_ticket ticket) (first_by (has_ticket ticket) own.waits.writes) own t
+  forgotten_so ticket own n t = forgotten_by_so (has_ticket ticket) (first_by (has_ticket ticket) own.waits.writes) own refl n t
 
   -- at a session's end nothing is held
   pub over_so : (own : Ownership) → (h ≡ true → ⊥) → OwnSo own → OwnSo (session_ended own)
-  over_so own n t = record { outs = t.outs; over = λ y. none_each k (λ x. stage_ended (is_single x.request) x.stage) own.waits.writes (t.over y); mark = t.mark; entry = λ y. absurd (n y) }
+  over_so own n t = record { outs = t.outs; over = λ y. by M.mine (λ z. n (M.writes z)) (t.over y); mark = t.mark; entry = λ y. absurd (n y) }
+    where
+      by : (q : Option Mine) → (is_some q ≡ true → ⊥) → OverOf k q own.waits.writes → OverOf k q (session_ended own).waits.writes
+      by None u o = none_each k (λ x. stage_ended (is_single x.request) x.stage) own.waits.writes o
+      by (Some m) u o = absurd (u refl)
 
   -- ---- notices
 
@@ -375,7 +541,7 @@ module _ (M : Mode) where
       let i = owned_key own.waits.prefix j in
       record {
         outs = t.outs;
-        over = λ y. none_each k (λ x. stage_gone (same i) x.stage) own.waits.writes (t.over y);
+        over = λ y. over_each k M.mine (λ x. stage_gone (same i) x.stage) own.waits.writes (gone_sparing (same i)) (t.over y);
         mark = t.mark;
         entry = stays_turned i (deleted_turn revision) own.entries (λ y g. ap (λ (b : Bool). cond b (deleted_phase e e.phase) (Some e)) (s y g)) t.entry;
       }
@@ -392,7 +558,7 @@ module _ (M : Mode) where
       message_so session xs (noticed session x.change own) (subst (λ (p : List ℕ). AllSpare k w h e.create p xs) (sym (notice_prefix session x.change own)) s.1) (notice_so session x.change own s.0 t)
 
   pub resync_so : (own : Ownership) → OwnSo own → OwnSo (resynced own)
-  resync_so own t = record { outs = t.outs; over = λ y. none_each k (λ x. stage_gone (λ j. true) x.stage) own.waits.writes (t.over y); mark = t.mark; entry = t.entry }
+  resync_so own t = record { outs = t.outs; over = λ y. over_each k M.mine (λ x. stage_gone (λ j. true) x.stage) own.waits.writes (gone_sparing (λ j. true)) (t.over y); mark = t.mark; entry = t.entry }
 
   pub compaction_so : (own : Ownership) → (w ≡ true → ⊥) → OwnSo own → OwnSo (all_given_up own)
   compaction_so own n t = record { outs = t.outs; over = t.over; mark = λ y. absurd (n (M.marked y)); entry = λ y. absurd (n (M.holding y)) }
@@ -400,25 +566,31 @@ module _ (M : Mode) where
   -- ---- a write is handed in, and a job is sent
 
   pub submitted_so : (ticket : ℕ) (q : Request) (own : Ownership) → (w ≡ true → covered (written_ranges q) k ≡ false) → OwnSo own → OwnSo (submitted ticket q own)
-  submitted_so ticket q own c t = record { outs = t.outs; over = λ y. none_append k own.waits.writes (new_write ticket q ∷ []) (t.over y) (both_none (covered (written_ranges q) k) false (c y) refl); mark = t.mark; entry = t.entry }
+  submitted_so ticket q own c t = record { outs = t.outs; over = λ y. over_append k M.mine own.waits.writes (new_write ticket q ∷ []) (t.over y) (both_none (covered (written_ranges q) k) false (c y) refl); mark = t.mark; entry = t.entry }
 
   abbrev pub SentSo : Option JobSent → Type 0
   SentSo None = Unit {0}
-  SentSo (Some x) = M.Outs x.own.waits.out → OwnSo x.own
+  SentSo (Some x) = Misses (has_ticket x.due.ticket) → M.Outs x.own.waits.out → OwnSo x.own
 
-  call_so : (call : ℕ) (d : DueCall) (o : Option Write) (own : Ownership) → OwnSo own → SentSo (call_of call d o own)
-  call_so call d None own t = tt
-  call_so call d (Some x) own t =
-      either (λ s. M.Outs s.own.waits.out → OwnSo s.own) (is_revoke d.place.kind) (revoke_job call d x own) (write_job call d x own)
-      (λ q. record { outs = q; over = over_first (has_ticket d.place.number) _ own.waits.writes t.over; mark = t.mark; entry = t.entry }) (λ q. record { outs = q; over = over_first (has_ticket d.place.number) _ own.waits.writes t.over; mark = t.mark; entry = t.entry })
+  call_so : (call : ℕ) (d : DueCall) (o : Option Write) (own : Ownership) → first_by (has_ticket d.place.number) own.waits.writes ≡ o → OwnSo own → SentSo (call_of call d o own)
+  call_so call d None own f t = tt
+  call_so call d (Some x) own f t =
+      either (λ s. Misses (has_ticket s.due.ticket) → M.Outs s.own.waits.out → OwnSo s.own) (is_revoke d.place.kind) (revoke_job call d x own) (write_job call d x own)
+      (λ n q. record { outs = q; over = over_first (has_ticket d.place.number) _ own.waits.writes (misses n) t.over; mark = t.mark; entry = t.entry }) (λ n q. record { outs = q; over = over_first (has_ticket d.place.number) _ own.waits.writes (misses n) t.over; mark = t.mark; entry = t.entry })
+    where
+      is : x.ticket ≡ d.place.number
+      is = same_number x.ticket d.place.number (first_passes (has_ticket d.place.number) own.waits.writes x f)
+
+      misses : Misses (has_ticket x.ticket) → Misses (has_ticket d.place.number)
+      misses n = subst (λ (i : ℕ). Misses (has_ticket i)) is n
 
   calls_so : (call : ℕ) (o : Option DueCall) (own : Ownership) → OwnSo own → SentSo (call_sent call o own)
   calls_so call None own t = tt
-  calls_so call (Some d) own t = call_so call d (first_by (has_ticket d.place.number) own.waits.writes) own t
+  calls_so call (Some d) own t = call_so call d (first_by (has_ticket d.place.number) own.waits.writes) own refl t
 
   sent_so : (call : ℕ) (o : Option (List ℕ × Entry)) (own : Ownership) → OwnSo own → SentSo (job_sent_after call o own)
   sent_so call None own t = calls_so call (first_call own.waits.writes) own t
-  sent_so call (Some x) own t = λ q. record { outs = q; over = t.over; mark = t.mark; entry = rescind_stays true x.0 own.entries t.entry }
+  sent_so call (Some x) own t = λ n q. record { outs = q; over = t.over; mark = t.mark; entry = rescind_stays true x.0 own.entries t.entry }
 
   pub job_sent_so : (call : ℕ) (own : Ownership) → OwnSo own → SentSo (job_sent call own)
   unfolding job_sent

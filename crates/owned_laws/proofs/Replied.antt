@@ -46,8 +46,8 @@ use Rattle.core_model.specs.Takes.{lesser, least_ready, ready}
 use Rattle.core_fits.specs.Fits.{EachOf}
 use Rattle.core_fits.proofs.CoreRows.{stepped_has}
 use Rattle.core_fits.proofs.CallRows.{Last}
-use Rattle.core_laws.proofs.AskedReads.{held_read_is_replied}
-use Rattle.core_laws.proofs.Lists.{number_itself}
+use Rattle.core_laws.proofs.Steps.AskedReads.{held_read_is_replied}
+use Rattle.core_laws.proofs.Steps.Lists.{number_itself}
 use Rattle.script_text.specs.declared.item.Item.{Item}
 use Rattle.script_text.specs.declared.item.Item.TheVariants as item
 use Rattle.world_model.specs.Asks.{told_at_once}
@@ -67,7 +67,7 @@ use Rattle.owned_laws.proofs.Cores as cores
 use Rattle.owned_laws.proofs.Steps.{IsHeldIn}
 use Rattle.owned_laws.proofs.Carrying.{AllOwned}
 use Rattle.owned_laws.proofs.Standing.{Before, prefix_is}
-use Rattle.owned_laws.proofs.Hearing.{unknown_gives}
+use Rattle.owned_laws.proofs.OwnKept.{unknown_gives}
 use Rattle.owned_laws.proofs.Ending.{seated, seated_number}
 use Rattle.owned_laws.proofs.Ways.{holds}
 
@@ -250,7 +250,7 @@ module _ (namespace : List ℕ) (items : List Item) (w : World) (b : Beside name
   line_replied q reply ticket draw o y answered is same =
       let e = event.Ask ticket q draw in
       let gave' = gave x.core e x.clock o is in
-      let u = unknown_gives known d x.clock ticket draw q o gave'.1 in
+      let u = unknown_gives d x.clock ticket draw q o gave'.1 in
       let a = answered u in
       let given : outcome.Replied (Done reply) ≡ o = some_outcome (outcome.Replied (Done reply)) o (sym (ap (λ (s : Stepped). s.outcome) a) ∙ gave'.1) in
       let core : y.core ≡ (counted (replies d (Done reply))).core = same ∙ ap (λ (s : Stepped). s.core) (stepped_is x.core e x.clock gave'.0) ∙ ap (λ (s : Stepped). (counted s).core) a in
@@ -274,7 +274,7 @@ module _ (namespace : List ℕ) (items : List Item) (w : World) (b : Beside name
         let held : IsHeldIn k session.number o.create x.core = ((g p x at).keys k o.ticket (owns session.number o.create) o.told).1 in
         record {
           entry = held.entry;
-          there = ((cores.clock_so (holds k session.number held.entry held.held) x.clock x.core held.so) (seated_is session.number x.clock d.seat sits) tt).0.entry refl;
+          there = ((cores.clock_so (holds k session.number held.entry held.held) refl x.clock x.core held.so) (seated_is session.number x.clock d.seat sits) tt).0.entry refl;
           held = held.held;
         }
 

@@ -1,13 +1,16 @@
 -- A proxy sends a call: what items tell of its owned keys goes on, and the call that takes a key is its acquire.
-use Rattle.std.proofs.Common.{◌≡◌, ◌⊎◌, inl, inr, ℕ, ◌+◌, ◌<◌, nat_lt, Bool, true, false, ◌&&◌, ◌||◌, List, [], ◌∷◌, ◌++◌, Option, None, Some, Result, Ok, Err, refl, sym, ◌∙◌, ap, subst, arith}
+use Rattle.std.proofs.Common.{◌≡◌, ℕ, ◌+◌, ◌<◌, ◌==◌, nat_lt, Bool, true, false, ◌&&◌, ◌||◌, List, [], ◌∷◌, ◌++◌, Option, None, Some, Result, Ok, Err, refl, sym, ◌∙◌, ap, subst, arith}
 use Rattle.std.proofs.lemmas.Bool.Decides.{nat_tests}
 use Rattle.etcd_types.specs.declared.request.Request.{Request}
 use Rattle.etcd_types.specs.declared.request.Request.TheVariants as request
 use Rattle.proxy_model.specs.declared.lease.Entry.{Entry}
+use Rattle.proxy_model.specs.declared.lease.Phase.TheVariants.{Writing}
 use Rattle.proxy_model.specs.Leaving.{rescind}
 use Rattle.proxy_model.specs.RequestRefusals.{is_session, names_session}
 use Rattle.proxy_model.specs.Wrapped.{request_under}
+use Rattle.wait_model.specs.declared.write.Write.{Write}
 use Rattle.wait_model.specs.Sent.{JobSent, job_sent}
+use Rattle.wait_model.specs.Writes.{has_ticket}
 use Rattle.core_model.specs.declared.event.CoreEvent.TheVariants as event
 use Rattle.core_model.specs.declared.event.Job.TheVariants as job
 use Rattle.core_model.specs.declared.event.Outcome.{Outcome}
@@ -17,13 +20,13 @@ use Rattle.core_model.specs.declared.out_call.OutCall.{OutCall}
 use Rattle.core_model.specs.declared.out_call.OutJob.{OutJob}
 use Rattle.core_model.specs.declared.out_call.OutJob.TheVariants as outjob
 use Rattle.core_model.specs.ClockWork.{clock_work}
-use Rattle.core_model.specs.DueJobs.{first_job}
+use Rattle.core_model.specs.DueJobs.{ForWrites, first_job}
 use Rattle.core_model.specs.Sending.{next_call, out_call}
 use Rattle.core_model.specs.State.{Seat, Core}
 use Rattle.core_model.specs.Step.{happened, is_worn, stepped}
 use Rattle.core_model.specs.Stepped.{Stepped, counted, counted_by}
 use Rattle.core_fits.specs.Fits.{EachOf}
-use Rattle.core_laws.proofs.Lists.{number_itself}
+use Rattle.core_laws.proofs.Steps.Lists.{number_itself, number_turned}
 use Rattle.script_text.specs.declared.item.Item.{Item}
 use Rattle.script_text.specs.declared.item.Item.TheVariants as item
 use Rattle.world_model.specs.declared.sent_call.SentCall.{SentCall}
@@ -41,16 +44,22 @@ use Rattle.session_laws.proofs.Places.{CallOf}
 use Rattle.session_laws.proofs.Steps.{gave}
 use Rattle.session_laws.proofs.Turns.{bound_of, turn_told}
 use Rattle.cached_laws.proofs.Steps.{stepped_is}
-use Rattle.owned_laws.specs.Owned.{Owning, asks, sends, owns, owner_key, gave_up, is_numbered, owned}
+use Rattle.owned_laws.specs.OwnWrites.{OwnWrite}
+use Rattle.owned_laws.specs.Owned.{Owning, asks, sends, owns, write_asked, write_sent, owner_key, gave_up, has_write, is_numbered, owned}
 use Rattle.owned_laws.proofs.Carrying.{no_true, some_number, some_call, carry_pushed, less_later, gave_back}
-use Rattle.owned_laws.proofs.Standing.{Before, later, mine, due, prefix_is, named, order, Lets, keep, outs_by}
+use Rattle.owned_laws.proofs.Standing.{Before, later, mine, core_ok, agrees, owners, due, prefix_is, named, order, Lets, keep, outs_by}
 use Rattle.owned_laws.proofs.Ending.{seated}
 use Rattle.owned_laws.proofs.Cores as cores
-use Rattle.owned_laws.proofs.Cores.{CoreSo}
+use Rattle.owned_laws.proofs.Cores.{CoreSo, GoesOut}
+use Rattle.owned_laws.proofs.Kept.{HasCall, mine_as, Kept, KeysOk, Rescinded, OutsOk}
+use Rattle.owned_laws.proofs.Late.{stays_at, on_time}
+use Rattle.owned_laws.proofs.Modes.{IsMine}
+use Rattle.owned_laws.proofs.OwnDue.{own_goes}
+use Rattle.owned_laws.proofs.OwnWork.{outs_stay}
 use Rattle.owned_laws.proofs.Sent.{is_client, ClientsApart, rescind_tells, rescind_due, writes_out, acquire_out}
 use Rattle.owned_laws.proofs.Steps.{counted_so, sent_each, holding_out}
-use Rattle.owned_laws.proofs.Told.{Kept, KeysOk, Rescinded, OutsOk, IsSent, told_sent}
-use Rattle.owned_laws.proofs.Ways.{asking, sending_as}
+use Rattle.owned_laws.proofs.Told.{IsSent, SentAs, takes_it, sends_write, sends_other, told_sent}
+use Rattle.owned_laws.proofs.Ways.{asking, sending_as, writes_own}
 
 module _ {namespace : List ℕ} {items : List Item} {w : World} {p : ℕ} {x : Place} (known : Before namespace items w p x) where
   abbrev next : ℕ
@@ -126,38 +135,81 @@ module _ {namespace : List ℕ} {items : List Item} {w : World} {p : ℕ} {x : P
     seats_number None r e f = absurd (cc)
     seats_number (Some z) r e f = let one : z ≡ r = cc in ap (λ (v : Seat). is_session v.session.number) (sym one) ∙ f
 
-    work_lets : (k : List ℕ) (t : ℕ) (o : Owning) → Lets known event.Work k t o
-    work_lets k t asks = λ s j z i u. tt
-    work_lets k t (sends c m) = λ n v s j z i u. tt
-    work_lets k t (owns m create) = λ e f c u s. holding_out k m e f d (order known)
+    -- the ticket that a call of a write names
+    named_by : (s : JobSent) → first_job d ≡ Some ForWrites → job_sent (next_call d) d.own ≡ Some s → s.due.ticket ≡ ticket
+    named_by s f j = same_ticket s.due.ticket (next_call d) (request_under d.settings.namespace s.due.request) (sym (writes_out x.clock d s f j) ∙ gave'.1)
+      where
+        same_ticket : (i n : ℕ) (r : Request) → ◌≡◌ {A = Result Outcome StepFault} (Ok (outcome.Job (Some (job.Call n d.members.current i r)))) (Ok (outcome.Job (Some (job.Call own member ticket q)))) → i ≡ ticket
+        same_ticket i n r e = cc
 
-    sending_kept : (k : List ℕ) (t : ℕ) (o : Owning) → IsSent nsp lea k p t items (next_number w) ticket q o → Kept after next p x.life k t o (stepped x.core event.Work x.clock).core
+    -- it is another's than the owner's own write
+    other_ticket : (v : OwnWrite) (c : Option ℕ) (i : ℕ) → (ticket == v.ticket) ≡ false → i ≡ ticket → (y : Write) → IsMine (mine_as v c) y → has_ticket i y ≡ false
+    other_ticket v c i n is y m = ap (λ (j : ℕ). j == i) m.ticket ∙ ap (λ (j : ℕ). v.ticket == j) is ∙ number_turned ticket v.ticket n
+
+    write_lets : (k : List ℕ) (n : ℕ) (v : OwnWrite) (c : Option ℕ) (e : Entry) (f : e.phase ≡ Writing false) → (ticket == v.ticket) ≡ false → GoesOut (writes_own k n (mine_as v c) e f) (first_job d) d
+    write_lets k n v c e f other j s is u = (outs_stay k n (mine_as v c) e f d (order known) u s is, other_ticket v c s.due.ticket other (named_by s j is))
+
+    work_lets : (k : List ℕ) (t : ℕ) (o : Owning) → has_write ticket o ≡ false → Lets known event.Work k t o
+    work_lets k t asks h = λ s j z i u. (tt, tt)
+    work_lets k t (sends c m) h = λ n v s j z i u. (tt, tt)
+    work_lets k t (owns m create) h = λ e f c u s. holding_out k m e f d (order known)
+    work_lets k t (write_asked m create v) h = (tt, λ l e f c s. write_lets k m v None e f h)
+    work_lets k t (write_sent m create v number) h = (tt, λ n i l e f c s. write_lets k m v (Some n) e f h)
+
+    its_call : HasCall after p x.life (next_number w) own
+    its_call = record { call = new_call p (stepped_to x event.Work) own member q; there = last_nth w.calls (new_call p (stepped_to x event.Work) own member q); own_is = refl; mine = refl; lives = refl }
+
+    sending_kept : (k : List ℕ) (t : ℕ) (o : Owning) → IsSent nsp lea k p t items (next_number w) ticket q o → Kept after next p x.life x.clock k t o (stepped x.core event.Work x.clock).core
     sending_kept k t o v =
         let s = seated known v.session.number (ap (is_numbered v.session.number) v.told ∙ number_itself v.session.number) v.live in
         let n = v.session.number in
-        let so = cores.clock_so (asking k t) x.clock x.core ((mine known).keys k t asks v.asked) in
+        let so = cores.clock_so (asking k t) refl x.clock x.core ((mine known).keys k t asks v.asked) in
         let numbered = ap is_session (sym s.number) ∙ seats_number x.core.seat s.its s.there (known.beside.fits p x known.there).numbered in
         let out = acquire_out nsp lea k n own member t x.clock q d (named known) (prefix_is known) numbered v.takes so (due known) clients (gave'.1 ∙ ap (λ (m : ℕ). Ok (outcome.Job (Some (job.Call own member m q)))) v.ticket_is) in
-        subst (λ (z : Owning). Kept after next p x.life k t z (stepped x.core event.Work x.clock).core) (sym v.sent)
+        subst (λ (z : Owning). Kept after next p x.life x.clock k t z (stepped x.core event.Work x.clock).core) (sym v.sent)
         (record {
           own = own;
-          call = record { call = new_call p (stepped_to x event.Work) own member q; there = last_nth w.calls (new_call p (stepped_to x event.Work) own member q); own_is = refl; mine = refl; lives = refl };
+          call = its_call;
           below = (let k = less n (bound_of w) (ap (λ (m : ℕ). nat_lt m (bound_of w)) (sym s.number) ∙ (known.beside.sessions.places p x known.there).known.below s.its s.there) in less_later n (bound_of w) next k (later known));
           so = subst (λ (z : Stepped). CoreSo (sending_as k own n) z.core) (sym (stepped_is x.core event.Work x.clock gave'.0)) (counted_so (sending_as k own n) (happened x.clock event.Work d) out);
         })
 
-    pub sent_keys : KeysOk nsp lea next after (items ++ sentItems) p x.life (stepped x.core event.Work x.clock).core
+    -- the write's own call
+    writing_kept : (k : List ℕ) (t n create : ℕ) (v : OwnWrite) → owned nsp lea k p t items ≡ Some (write_asked n create v) → ticket ≡ v.ticket → Kept after next p x.life x.clock k t (write_sent n create v (next_number w)) (stepped x.core event.Work x.clock).core
+    writing_kept k t n create v told names =
+        let s = (mine known).keys k t (write_asked n create v) told in
+        record {
+          own = own;
+          call = its_call;
+          below = less_later n (bound_of w) next s.below (later known);
+          so = λ early.
+              let h = s.so early in
+              let M = writes_own k n (mine_as v None) h.entry h.writing in
+              let goes = own_goes k v.ticket v.request n h.entry h.writing d (order known) (agrees known) (owners known).acquires.rising s.client x.clock own member q (due known) (gave'.1 ∙ ap (λ (m : ℕ). Ok (outcome.Job (Some (job.Call own member m q)))) names)
+              (cores.clock_by M x.clock x.core (on_time k n (mine_as v None) h.entry h.writing v.since x.clock early x.core h.asked) h.so) in
+              record {
+                entry = h.entry;
+                writing = h.writing;
+                created = h.created;
+                asked = stays_at v.ticket v.since x.core event.Work x.clock (core_ok known) tt h.asked;
+                so = subst (λ (z : Stepped). CoreSo (writes_own k n (mine_as v (Some own)) h.entry h.writing) z.core) (sym (stepped_is x.core event.Work x.clock gave'.0))
+                    (counted_so (writes_own k n (mine_as v (Some own)) h.entry h.writing) (happened x.clock event.Work d) goes);
+              };
+        }
+
+    pub sent_keys : KeysOk nsp lea next after (items ++ sentItems) p x.life x.clock (stepped x.core event.Work x.clock).core
     sent_keys k t o f = by (told_sent nsp lea k p t items (next_number w) member ticket q o f)
       where
-        by : IsSent nsp lea k p t items (next_number w) ticket q o ⊎ (owned nsp lea k p t items ≡ Some o) → Kept after next p x.life k t o (stepped x.core event.Work x.clock).core
-        by (inl v) = sending_kept k t o v
-        by (inr u) = keep known event.Work k t o after (carry_pushed w.calls (new_call p (stepped_to x event.Work) own member q)) (work_lets k t o) ((mine known).keys k t o u)
+        by : SentAs nsp lea k p t items (next_number w) ticket q o → Kept after next p x.life x.clock k t o (stepped x.core event.Work x.clock).core
+        by (takes_it v) = sending_kept k t o v
+        by (sends_write n create v told names is) = subst (λ (y : Owning). Kept after next p x.life x.clock k t y (stepped x.core event.Work x.clock).core) (sym is) (writing_kept k t n create v told names)
+        by (sends_other u h) = keep known event.Work k t o after (carry_pushed w.calls (new_call p (stepped_to x event.Work) own member q)) (work_lets k t o h) ((mine known).keys k t o u)
 
     same_request : (r : Request) (t n m : ℕ) → ◌≡◌ {A = Result Outcome StepFault} (Ok (outcome.Job (Some (job.Call n m t (request_under d.settings.namespace r))))) (Ok (outcome.Job (Some (job.Call own member ticket q)))) → request_under d.settings.namespace r ≡ q
     same_request r t n m e = cc
 
     pub sent_outs : OutsOk nsp lea (items ++ sentItems) p (stepped x.core event.Work x.clock).core
-    sent_outs = outs_by known event.Work sentItems (λ f s j t. sent_each (Rescinded nsp lea (items ++ sentItems) p) (next_call d) d.own (first f s j) t.outs s j)
+    sent_outs = outs_by known event.Work sentItems (λ f s j t. (sent_each (Rescinded nsp lea (items ++ sentItems) p) (next_call d) d.own (first f s j) t.outs s j, tt))
       where
         first : first_job d ≡ Some Rattle.core_model.specs.DueJobs.ForWrites → (s : JobSent) → job_sent (next_call d) d.own ≡ Some s → (z : List ℕ × Entry) → Rattle.wait_model.specs.DueOrder.first_rescind d.own.entries ≡ Some z
             → gave_up (owner_key nsp lea z.0) z.1.create p (items ++ sentItems) ≡ true

@@ -36,7 +36,7 @@ use Rattle.core_model.specs.Sending.{next_call, out_call, sent_by, writes_sent, 
 use Rattle.core_model.specs.Sessions.{session_request}
 use Rattle.core_model.specs.State.{Core}
 use Rattle.core_model.specs.Watching.{stream_job, with_watches}
-use Rattle.core_laws.proofs.Lists.{same_number, number_itself}
+use Rattle.core_laws.proofs.Steps.Lists.{same_number, number_itself}
 use Rattle.cached_laws.specs.Awaited.{is_due_for}
 use Rattle.owned_laws.specs.Owned.{owner_key, puts_under, takes_under, rescinds}
 use Rattle.owned_laws.proofs.Cores.{CoreSo, Stands}

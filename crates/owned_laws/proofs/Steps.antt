@@ -9,7 +9,7 @@ use Rattle.etcd_types.specs.Keys.{same}
 use Rattle.etcd_types.proofs.Bools.{and_first, and_second, and_both}
 use Rattle.etcd_types.proofs.KeyOrder.{same-equal, same-itself}
 use Rattle.proxy_model.specs.declared.lease.Entry.{Entry}
-use Rattle.proxy_model.specs.declared.lease.Phase.TheVariants.{Held}
+use Rattle.proxy_model.specs.declared.lease.Phase.TheVariants.{Held, Writing}
 use Rattle.proxy_model.specs.declared.ownership.Claim.{Claim}
 use Rattle.proxy_model.specs.declared.ownership.Claim.TheVariants.{Acquired, OwnedBy}
 use Rattle.proxy_model.specs.Acquire.{claimed}
@@ -49,9 +49,9 @@ use Rattle.core_model.specs.Step.{happened, is_worn, stepped}
 use Rattle.core_model.specs.Stepped.{Stepped, counted, counted_by}
 use Rattle.watch_model.specs.Lookups.{watch_at}
 use Rattle.core_fits.specs.Fits.{EachOf}
-use Rattle.core_laws.proofs.Due.{DueIf, first_due}
-use Rattle.core_laws.proofs.Lists.{same_number, number_itself}
-use Rattle.core_laws.proofs.Outcomes.{worn_does_nothing}
+use Rattle.core_laws.proofs.Steps.Due.{DueIf, first_due}
+use Rattle.core_laws.proofs.Steps.Lists.{same_number, number_itself}
+use Rattle.core_laws.proofs.Steps.Outcomes.{worn_does_nothing}
 use Rattle.owner_fits.specs.Acquires.{IsOutAs}
 use Rattle.owner_fits.specs.Laws.{OwnersFit}
 use Rattle.owner_fits.proofs.Runs.{due_acquires_stand}
@@ -60,10 +60,12 @@ use Rattle.cached_laws.specs.Awaited.{is_due_for}
 use Rattle.cached_laws.proofs.Steps.{stepped_is}
 use Rattle.owned_laws.specs.Owned.{claim_told, claim_heard, claim_in}
 use Rattle.owned_laws.proofs.Cores as cores
-use Rattle.owned_laws.proofs.Cores.{CoreSo, StepSo, Draws, MayEndAs, Misses, PassesIn, GoesOut, Stands}
+use Rattle.owned_laws.proofs.Cores.{CoreSo, StepSo, Draws, OnTime, EndsAs, Misses, PassesIn, GoesOut, Stands}
 use Rattle.owned_laws.proofs.Grounds.{GroundSo, ReadsSo, released_so}
-use Rattle.owned_laws.proofs.Modes.{Mode}
-use Rattle.owned_laws.proofs.Ways.{CallSo, IsOutIn, NotOf, plain, asking, sending_as, holds}
+use Rattle.owned_laws.proofs.Modes.{Mine, Mode}
+use Rattle.owned_laws.proofs.Own.{Misses as MissesBy}
+use Rattle.wait_model.specs.Writes as writes
+use Rattle.owned_laws.proofs.Ways.{CallSo, IsOutIn, NotOf, plain, asking, sending_as, holds, writes_own}
 
 no_true : {A : Type 0} → false ≡ true → A
 no_true e = absurd (cc)
@@ -71,7 +73,7 @@ no_true e = absurd (cc)
 -- ---- what comes to a proxy leaves the key as it is
 
 abbrev pub EndsSo : Mode → Core → ℕ → Type 0
-EndsSo M d call = (o : OutCall) → out_at call d.out ≡ Some o → MayEndAs M d.seat o.job
+EndsSo M d call = (o : OutCall) → out_at call d.out ≡ Some o → EndsAs M d.seat o o.job
 
 abbrev pub Leaves : Mode → Core → CoreEvent → Type 0
 Leaves M d (event.Ask ticket q word) = Misses M d q
@@ -80,6 +82,7 @@ Leaves M d (event.Lost call) = EndsSo M d call
 Leaves M d (event.Tick word) = Draws M.session word
 Leaves M d (event.Item number x) = PassesIn M d number x
 Leaves M d event.Work = GoesOut M (first_job d) d
+Leaves M d (event.Leave ticket) = MissesBy M (writes.has_ticket ticket)
 Leaves M d _ = Unit {0}
 
 pub happened_so : (M : Mode) (now : ℕ) (e : CoreEvent) (d : Core) → Stands d (first_job d) → Leaves M d e → CoreSo M d → CoreSo M (happened now e d).core
@@ -90,7 +93,7 @@ happened_so M now (event.Tick word) d s l h = cores.tick_so M now word d l h
 happened_so M now (event.Item number x) d s l h = cores.item_so M now number x d l h
 happened_so M now (event.Cut number) d s l h = cores.cut_so M number d h
 happened_so M now (event.Take ticket) d s l h = cores.take_so M ticket d h
-happened_so M now (event.Leave ticket) d s l h = cores.leave_so M now ticket d h
+happened_so M now (event.Leave ticket) d s l h = cores.leave_so M now ticket d l h
 happened_so M now event.Work d s l h = cores.work_so M now d s l h
 
 pub counted_so : (M : Mode) (s : Stepped) → CoreSo M s.core → CoreSo M (counted s).core
@@ -101,15 +104,19 @@ counted_so M s h = by s.outcome
     by (Err f) = h
 
 -- by what becomes of it behind the clock's work
-pub by_happened : (M : Mode) (c : Core) (e : CoreEvent) (now : ℕ) → CoreSo M c → (CoreSo M (clock_work now c) → CoreSo M (happened now e (clock_work now c)).core) → CoreSo M (stepped c e now).core
-by_happened M c e now h f = by (is_worn c) refl
+pub by_happened : (M : Mode) (c : Core) (e : CoreEvent) (now : ℕ) → OnTime M now c → CoreSo M c → (CoreSo M (clock_work now c) → CoreSo M (happened now e (clock_work now c)).core) → CoreSo M (stepped c e now).core
+by_happened M c e now l h f = by (is_worn c) refl
   where
     by : (w : Bool) → is_worn c ≡ w → CoreSo M (stepped c e now).core
     by true w = subst (λ (s : Stepped). CoreSo M s.core) (sym (worn_does_nothing c e now w)) h
-    by false w = subst (λ (s : Stepped). CoreSo M s.core) (sym (stepped_is c e now w)) (counted_so M (happened now e (clock_work now c)) (f (cores.clock_so M now c h)))
+    by false w = subst (λ (s : Stepped). CoreSo M s.core) (sym (stepped_is c e now w)) (counted_so M (happened now e (clock_work now c)) (f (cores.clock_by M now c l h)))
 
-pub steps_so : (M : Mode) (c : Core) (e : CoreEvent) (now : ℕ) → Stands (clock_work now c) (first_job (clock_work now c)) → (CoreSo M (clock_work now c) → Leaves M (clock_work now c) e) → CoreSo M c → CoreSo M (stepped c e now).core
-steps_so M c e now s l h = by_happened M c e now h (λ d. happened_so M now e (clock_work now c) s (l d) d)
+pub steps_by : (M : Mode) (c : Core) (e : CoreEvent) (now : ℕ) → OnTime M now c → Stands (clock_work now c) (first_job (clock_work now c)) → (CoreSo M (clock_work now c) → Leaves M (clock_work now c) e) → CoreSo M c → CoreSo M (stepped c e now).core
+steps_by M c e now t s l h = by_happened M c e now t h (λ d. happened_so M now e (clock_work now c) s (l d) d)
+
+-- where no write is the owner's own
+pub steps_so : (M : Mode) → M.mine ≡ None → (c : Core) (e : CoreEvent) (now : ℕ) → Stands (clock_work now c) (first_job (clock_work now c)) → (CoreSo M (clock_work now c) → Leaves M (clock_work now c) e) → CoreSo M c → CoreSo M (stepped c e now).core
+steps_so M n c e now s l h = steps_by M c e now (cores.none_late M n now c) s l h
 
 -- the first due job is of what stands
 pub stands : (d : Core) → Agrees d → OwnersFit d → Stands d (first_job d)
@@ -142,10 +149,10 @@ out_as : (d : Core) (call : ℕ) (o : OutCall) (i k : List ℕ) → OwnersFit d 
 out_as d call o i k f e j s = subst (λ (l : List ℕ). IsOutAs call (at d.acquires l)) (same-equal i k s) (f.acquires.awaits call i (its_job call d.out o e ∙ ap (λ (x : OutJob). Some x) j))
 
 pub plain_ends : (k : List ℕ) (T : Rattle.owned_laws.proofs.Ways.OfRescind) (d : Core) (call : ℕ) → EndsSo (plain k T) d call
-plain_ends k T d call o e s i j n = refl
+plain_ends k T d call o e = ((λ s i j n. refl), tt)
 
 pub asking_ends : (k : List ℕ) (t : ℕ) (d : Core) (call : ℕ) → EndsSo (asking k t) d call
-asking_ends k t d call o e s i j n = refl
+asking_ends k t d call o e = ((λ s i j n. refl), tt)
 
 same_acquire : (x y : Acquire) → Some x ≡ Some y → x ≡ y
 same_acquire x y e = cc
@@ -154,17 +161,32 @@ same_out : (a b : ℕ) → sending.Out a ≡ sending.Out b → a ≡ b
 same_out a b e = cc
 
 pub sending_ends : (k : List ℕ) (m n : ℕ) (d : Core) (call : ℕ) → OwnersFit d → (call == m) ≡ false → CoreSo (sending_as k m n) d → EndsSo (sending_as k m n) d call
-sending_ends k m n d call f other h o e s i j y =
-    let a = out_as d call o i k f e j y in
-    let t = (h tt tt).1 in
-    let one = same_acquire a.acquire t.acquire (sym a.stands ∙ t.stands) in
-    let is : call ≡ m = same_out call m (sym a.out ∙ ap (λ (x : Acquire). x.sending) one ∙ t.out) in
-    absurd (let z : true ≡ false = sym (number_itself m) ∙ ap (λ (x : ℕ). x == m) (sym is) ∙ other in cc)
+sending_ends k m n d call f other h o e = (
+  (λ s i j y.
+      let a = out_as d call o i k f e j y in
+      let t = (h tt tt).1 in
+      let one = same_acquire a.acquire t.acquire (sym a.stands ∙ t.stands) in
+      let is : call ≡ m = same_out call m (sym a.out ∙ ap (λ (x : Acquire). x.sending) one ∙ t.out) in
+      absurd (let z : true ≡ false = sym (number_itself m) ∙ ap (λ (x : ℕ). x == m) (sym is) ∙ other in cc)),
+  tt,
+)
 
 pub holding_ends : (k : List ℕ) (n : ℕ) (e : Entry) (held : e.phase ≡ Held) (d : Core) (call : ℕ) → OwnersFit d → CoreSo (holds k n e held) d → EndsSo (holds k n e held) d call
-holding_ends k n e held d call f h o g s i j y =
-    let a = out_as d call o i k f g j y in
-    absurd (let z : None ≡ Some a.acquire = sym (h s tt).1 ∙ a.stands in cc)
+holding_ends k n e held d call f h o g = (
+  (λ s i j y.
+      let a = out_as d call o i k f g j y in
+      absurd (let z : None ≡ Some a.acquire = sym (h s tt).1 ∙ a.stands in cc)),
+  tt,
+)
+
+pub writing_ends : (k : List ℕ) (n : ℕ) (m : Mine) (e : Entry) (writing : e.phase ≡ Writing false) (d : Core) (call : ℕ) → OwnersFit d → ((o : OutCall) → out_at call d.out ≡ Some o → MissesBy (writes_own k n m e writing) (writes.sends o.call)) → CoreSo (writes_own k n m e writing) d
+    → EndsSo (writes_own k n m e writing) d call
+writing_ends k n m e writing d call f misses h o g = (
+  (λ s i j y.
+      let a = out_as d call o i k f g j y in
+      absurd (let z : None ≡ Some a.acquire = sym (h s tt).1 ∙ a.stands in cc)),
+  misses o g,
+)
 
 -- ---- calls of writes and entries go out
 
@@ -198,7 +220,7 @@ sent_each T call own f h s e = by (first_rescind own.entries) refl e
 
 -- a held entry isn't due to be given up
 pub holding_out : (k : List ℕ) (n : ℕ) (e : Entry) (held : e.phase ≡ Held) (d : Core) → is_in_order d.own.entries ≡ true → GoesOut (holds k n e held) (first_job d) d
-holding_out k n e held d order j s is t = sent_each (NotOf k e.create) (next_call d) d.own first t.outs s is
+holding_out k n e held d order j s is t = (sent_each (NotOf k e.create) (next_call d) d.own first t.outs s is, tt)
   where
     same_entry : (x y : Entry) → Some x ≡ Some y → x ≡ y
     same_entry x y f = cc

@@ -1,5 +1,5 @@
--- What items tell of a ticket's acquire, item by item.
-use Rattle.std.proofs.Common.{◌≡◌, ◌⊎◌, inl, inr, ℕ, ◌==◌, ◌<◌, nat_lt, Bool, true, false, cond, not, ◌&&◌, ◌||◌, List, [], ◌∷◌, ◌++◌, Option, None, Some, refl, sym, ◌∙◌, ap}
+-- What items tell of a ticket's acquire and of the writes of its key, item by item.
+use Rattle.std.proofs.Common.{◌≡◌, ℕ, ◌==◌, nat_lt, Bool, true, false, cond, not, ◌&&◌, ◌||◌, List, [], ◌∷◌, ◌++◌, Option, None, Some, refl, sym, ◌∙◌, ap}
 use Rattle.std.specs.List.{list_all, list_any}
 use Rattle.etcd_types.specs.declared.request.Request.{Request}
 use Rattle.etcd_types.specs.declared.watch.Change.{Change}
@@ -9,53 +9,16 @@ use Rattle.etcd_types.specs.Keys.{same}
 use Rattle.etcd_types.proofs.Bools.{and_first, and_second}
 use Rattle.proxy_model.specs.Foreign.{revoke_word}
 use Rattle.wait_model.specs.Notices.{owned_key}
-use Rattle.core_model.specs.State.{Core}
-use Rattle.core_fits.specs.Fits.{EachOf}
-use Rattle.core_laws.proofs.Lists.{same_number, number_itself}
+use Rattle.core_laws.proofs.Steps.Lists.{same_number, number_itself}
 use Rattle.script_text.specs.declared.item.Item.{Item}
 use Rattle.script_text.specs.declared.item.Item.TheVariants as item
-use Rattle.world_model.specs.declared.sent_call.SentCall.{SentCall}
-use Rattle.world_model.specs.Lives.{begins, executed_to, next_message}
+use Rattle.world_model.specs.Lives.{begins, clock_of, executed_to, next_message}
 use Rattle.world_model.specs.LiveSessions.{Session, session_of, is_live}
-use Rattle.world_model.specs.Places.{nth}
 use Rattle.cached_laws.specs.Streams.{leasing_of}
 use Rattle.cached_laws.proofs.Folds.{told_next, told_still}
-use Rattle.owned_laws.specs.Owned.{Owning, asks, sends, owns, owner_key, takes_under, gave_up, claim_in, is_numbered, owned_if, won_under, revokes, told_revokes, is_stream, writes_over, create_of, sent_under, sent_by, answered_by, lost_by, delivered_by, owned_by, owned}
+use Rattle.owned_laws.specs.OwnWrites.{OwnWrite, keeps_over, settles_as, is_in_time}
+use Rattle.owned_laws.specs.Owned.{Owning, asks, sends, owns, write_asked, write_sent, owner_key, takes_under, gave_up, claim_in, is_numbered, owned_if, won_under, revokes, told_revokes, is_stream, writes_over, has_write, awaits_call, create_of, unless_so, written_by, asked_by, sent_under, sent_by, answered_by, delivered_by, owned_by, owned}
 use Rattle.owned_laws.specs.Watched.{Spares, AllSpare}
-use Rattle.owned_laws.proofs.Cores.{CoreSo}
-use Rattle.owned_laws.proofs.Steps.{IsHeldIn}
-use Rattle.owned_laws.proofs.Ways.{OfRescind, CallSo, asking, sending_as}
-
--- ---- what is kept behind items
-
--- this call of the proxy's life, by its own number
-pub record HasCall (calls : List SentCall) (p life number own : ℕ) : Type 0 where
-  pub call : SentCall
-  pub there : nth calls number ≡ Some call
-  pub own_is : call.own ≡ own
-  pub mine : call.proxy ≡ p
-  pub lives : call.life ≡ life
-
-pub record IsSending (calls : List SentCall) (bound p life : ℕ) (k : List ℕ) (number n : ℕ) (c : Core) : Type 0 where
-  pub own : ℕ
-  pub call : HasCall calls p life number own
-  pub below : n < bound
-  pub so : CoreSo (sending_as k own n) c
-
-abbrev pub Kept : List SentCall → ℕ → ℕ → ℕ → List ℕ → ℕ → Owning → Core → Type 0
-Kept calls bound p life k t asks c = CoreSo (asking k t) c
-Kept calls bound p life k t (sends number n) c = IsSending calls bound p life k number n c
-Kept calls bound p life k t (owns n create) c = (n < bound) × IsHeldIn k n create c
-
-abbrev pub KeysOk : List ℕ → List ℕ → ℕ → List SentCall → List Item → ℕ → ℕ → Core → Type 0
-KeysOk namespace leasing bound calls items p life c = (k : List ℕ) (t : ℕ) (o : Owning) → owned namespace leasing k p t items ≡ Some o → Kept calls bound p life k t o c
-
--- each rescind that is out was told
-abbrev pub Rescinded : List ℕ → List ℕ → List Item → ℕ → OfRescind
-Rescinded namespace leasing items p call j create = gave_up (owner_key namespace leasing j) create p items ≡ true
-
-abbrev pub OutsOk : List ℕ → List ℕ → List Item → ℕ → Core → Type 0
-OutsOk namespace leasing items p c = EachOf (CallSo (Rescinded namespace leasing items p)) c.own.waits.out
 
 -- ---- items that tell nothing of it
 
@@ -67,6 +30,7 @@ is_calm p (item.Sent q call member ticket r) = not (q == p)
 is_calm p (item.Answered call) = false
 is_calm p (item.Lost call) = false
 is_calm p (item.Delivered number) = false
+is_calm p (item.Left q ticket) = not (q == p)
 is_calm p _ = true
 
 off_it : (b : Bool) → not b ≡ true → b ≡ false
@@ -83,8 +47,8 @@ module _ (namespace leasing k : List ℕ) (p ticket : ℕ) where
   calm : (before : List Item) (i : Item) (a : Option Owning) → is_calm p i ≡ true → (begins p i ≡ false) × (By before i a ≡ a)
   calm before (item.Started q) a h = (off_it (q == p) h, refl)
   calm before (item.Restarted q) a h = (off_it (q == p) h, refl)
-  calm before (item.Asked q t r) a h = (refl, ap (λ (b : Bool). cond b (cond (writes_over leasing k r) None (cond (t == ticket) (Some asks) a)) a) (off_it (q == p) h))
-  calm before (item.Sent q call member t r) a h = (refl, ap (λ (b : Bool). cond (b && t == ticket) (sent_by (owner_key namespace leasing k) p call before r a) a) (off_it (q == p) h))
+  calm before (item.Asked q t r) a h = (refl, ap (λ (b : Bool). cond b (asked_by leasing k ticket t r (clock_of p before) a) a) (off_it (q == p) h))
+  calm before (item.Sent q call member t r) a h = (refl, ap (λ (b : Bool). cond b (sent_by (owner_key namespace leasing k) p ticket call t before r a) a) (off_it (q == p) h))
   calm before (item.Answered call) a h = absurd (cc)
   calm before (item.Lost call) a h = absurd (cc)
   calm before (item.Delivered number) a h = absurd (cc)
@@ -99,7 +63,7 @@ module _ (namespace leasing k : List ℕ) (p ticket : ℕ) where
   calm before (item.Cut stream) a h = (refl, refl)
   calm before (item.Taken q t i) a h = (refl, refl)
   calm before (item.Pending q t) a h = (refl, refl)
-  calm before (item.Left q t) a h = (refl, refl)
+  calm before (item.Left q t) a h = (refl, ap (λ (b : Bool). cond b (unless_so (has_write t) a) a) (off_it (q == p) h))
   calm before (item.Reply q t x) a h = (refl, refl)
   calm before (item.Body q t status text) a h = (refl, refl)
   calm before (item.Expired lease) a h = (refl, refl)
@@ -117,16 +81,50 @@ module _ (namespace leasing k : List ℕ) (p ticket : ℕ) where
   some_owning : (a b : Owning) → Some a ≡ Some b → a ≡ b
   some_owning a b e = cc
 
-  -- ---- a request of the proxy: it begins with it, or that doesn't write the key
-  pub told_asked : (items : List Item) (t : ℕ) (r : Request) (o : Owning) → Told (items ++ item.Asked p t r ∷ []) ≡ Some o → (writes_over leasing k r ≡ false) × (((t ≡ ticket) × (o ≡ asks)) ⊎ (Told items ≡ Some o))
-  told_asked items t r o e = by (writes_over leasing k r) refl (t == ticket) refl (sym (next items (item.Asked p t r) refl ∙ ap (λ (b : Bool). cond b (cond (writes_over leasing k r) None (cond (t == ticket) (Some asks) (Told items))) (Told items)) (number_itself p)) ∙ e)
+  -- it doesn't hold of what is left
+  unless_told : (q : Owning → Bool) (x : Option Owning) (o : Owning) → unless_so q x ≡ Some o → (x ≡ Some o) × (q o ≡ false)
+  unless_told q None o h = no_owning o h
+  unless_told q (Some y) o h = by (q y) refl h
     where
-      by : (w : Bool) → writes_over leasing k r ≡ w → (b : Bool) → (t == ticket) ≡ b → cond w None (cond b (Some asks) (Told items)) ≡ Some o → (writes_over leasing k r ≡ false) × (((t ≡ ticket) × (o ≡ asks)) ⊎ (Told items ≡ Some o))
-      by true f b g h = no_owning o h
-      by false f true g h = (f, inl (same_number t ticket g, sym (some_owning asks o h)))
-      by false f false g h = (f, inr h)
+      by : (b : Bool) → q y ≡ b → cond b None (Some y) ≡ Some o → (Some y ≡ Some o) × (q o ≡ false)
+      by true e f = no_owning o f
+      by false e f = (f, ap q (sym (some_owning y o f)) ∙ e)
 
-  -- ---- a call of the proxy: it is the acquire, or tells nothing
+  -- ---- a request of the proxy: it begins with it, or it writes the owned key alone, or it doesn't write the key
+  pub data AskedAs (items : List Item) (t : ℕ) (r : Request) (o : Owning) : Type 0 where
+    begins_it : writes_over leasing k r ≡ false → t ≡ ticket → o ≡ asks → AskedAs items t r o
+    writes_it : (n create : ℕ) → Told items ≡ Some (owns n create) → writes_over leasing k r ≡ true → keeps_over leasing k r ≡ true → (t == 0) ≡ false
+        → o ≡ write_asked n create (record { ticket = t; request = r; since = clock_of p items }) → AskedAs items t r o
+    asks_other : writes_over leasing k r ≡ false → Told items ≡ Some o → has_write t o ≡ false → AskedAs items t r o
+
+  pub told_asked : (items : List Item) (t : ℕ) (r : Request) (o : Owning) → Told (items ++ item.Asked p t r ∷ []) ≡ Some o → AskedAs items t r o
+  told_asked items t r o e =
+      by (writes_over leasing k r) refl (sym (next items (item.Asked p t r) refl ∙ ap (λ (b : Bool). cond b (asked_by leasing k ticket t r (clock_of p items) (Told items)) (Told items)) (number_itself p)) ∙ e)
+    where
+      by_keeps : (n create : ℕ) → Told items ≡ Some (owns n create) → writes_over leasing k r ≡ true → (b : Bool) → keeps_over leasing k r && not (t == 0) ≡ b
+          → cond b (Some (write_asked n create (record { ticket = t; request = r; since = clock_of p items }))) None ≡ Some o → AskedAs items t r o
+      by_keeps n create f w true g h =
+          writes_it n create f w (and_first (keeps_over leasing k r) (not (t == 0)) g) (off_it (t == 0) (and_second (keeps_over leasing k r) (not (t == 0)) g))
+          (sym (some_owning (write_asked n create (record { ticket = t; request = r; since = clock_of p items })) o h))
+      by_keeps n create f w false g h = no_owning o h
+
+      by_told : (x : Option Owning) → Told items ≡ x → writes_over leasing k r ≡ true → written_by leasing k t r (clock_of p items) x ≡ Some o → AskedAs items t r o
+      by_told None f w h = no_owning o h
+      by_told (Some asks) f w h = no_owning o h
+      by_told (Some (sends c n)) f w h = no_owning o h
+      by_told (Some (owns n create)) f w h = by_keeps n create f w (keeps_over leasing k r && not (t == 0)) refl h
+      by_told (Some (write_asked n create v)) f w h = no_owning o h
+      by_told (Some (write_sent n create v c)) f w h = no_owning o h
+
+      by_ticket : writes_over leasing k r ≡ false → (b : Bool) → (t == ticket) ≡ b → cond b (Some asks) (unless_so (has_write t) (Told items)) ≡ Some o → AskedAs items t r o
+      by_ticket w true g h = begins_it w (same_number t ticket g) (sym (some_owning asks o h))
+      by_ticket w false g h = let u = unless_told (has_write t) (Told items) o h in asks_other w u.0 u.1
+
+      by : (b : Bool) → writes_over leasing k r ≡ b → cond b (written_by leasing k t r (clock_of p items) (Told items)) (cond (t == ticket) (Some asks) (unless_so (has_write t) (Told items))) ≡ Some o → AskedAs items t r o
+      by true w h = by_told (Told items) refl w h
+      by false w h = by_ticket w (t == ticket) refl h
+
+  -- ---- a call of the proxy: it is the acquire, or the write, or tells nothing
   pub record IsSent (items : List Item) (call t : ℕ) (r : Request) (o : Owning) : Type 0 where
     pub asked : Told items ≡ Some asks
     pub ticket_is : t ≡ ticket
@@ -136,29 +134,48 @@ module _ (namespace leasing k : List ℕ) (p ticket : ℕ) where
     pub takes : takes_under (owner_key namespace leasing k) session.number r ≡ true
     pub sent : o ≡ sends call session.number
 
-  pub told_sent : (items : List Item) (call member t : ℕ) (r : Request) (o : Owning) → Told (items ++ item.Sent p call member t r ∷ []) ≡ Some o → IsSent items call t r o ⊎ (Told items ≡ Some o)
-  told_sent items call member t r o e =
-      by_ticket (t == ticket) refl (sym (next items (item.Sent p call member t r) refl ∙ ap (λ (b : Bool). cond (b && t == ticket) (sent_by (owner_key namespace leasing k) p call items r (Told items)) (Told items)) (number_itself p)) ∙ e)
-    where
-      by_takes : (s : Session) (b : Bool) → Told items ≡ Some asks → t ≡ ticket → session_of p items ≡ Some s → is_live p items && takes_under (owner_key namespace leasing k) s.number r ≡ b → cond b (Some (sends call s.number)) (Some asks) ≡ Some o → IsSent items call t r o ⊎ (Told items ≡ Some o)
-      by_takes s true a i f g h = inl (record { asked = a; ticket_is = i; session = s; told = f; live = and_first (is_live p items) (takes_under (owner_key namespace leasing k) s.number r) g; takes = and_second (is_live p items) (takes_under (owner_key namespace leasing k) s.number r) g; sent = sym (some_owning (sends call s.number) o h) })
-      by_takes s false a i f g h = inr (a ∙ h)
+  pub data SentAs (items : List Item) (call t : ℕ) (r : Request) (o : Owning) : Type 0 where
+    takes_it : IsSent items call t r o → SentAs items call t r o
+    sends_write : (n create : ℕ) (w : OwnWrite) → Told items ≡ Some (write_asked n create w) → t ≡ w.ticket → o ≡ write_sent n create w call → SentAs items call t r o
+    sends_other : Told items ≡ Some o → has_write t o ≡ false → SentAs items call t r o
 
-      by_session : (s : Option Session) → Told items ≡ Some asks → t ≡ ticket → session_of p items ≡ s → sent_under (owner_key namespace leasing k) call (is_live p items) r s ≡ Some o → IsSent items call t r o ⊎ (Told items ≡ Some o)
-      by_session None a i f h = inr (a ∙ h)
+  pub told_sent : (items : List Item) (call member t : ℕ) (r : Request) (o : Owning) → Told (items ++ item.Sent p call member t r ∷ []) ≡ Some o → SentAs items call t r o
+  told_sent items call member t r o e =
+      by_told (Told items) refl (sym (next items (item.Sent p call member t r) refl ∙ ap (λ (b : Bool). cond b (sent_by (owner_key namespace leasing k) p ticket call t items r (Told items)) (Told items)) (number_itself p)) ∙ e)
+    where
+      same_of : (y : Owning) → has_write t y ≡ false → Told items ≡ Some y → Some y ≡ Some o → SentAs items call t r o
+      same_of y n f h = sends_other (f ∙ h) (ap (has_write t) (sym (some_owning y o h)) ∙ n)
+
+      by_takes : (s : Session) (b : Bool) → Told items ≡ Some asks → t ≡ ticket → session_of p items ≡ Some s → is_live p items && takes_under (owner_key namespace leasing k) s.number r ≡ b → cond b (Some (sends call s.number)) (Some asks) ≡ Some o → SentAs items call t r o
+      by_takes s true a i f g h =
+          takes_it (record { asked = a; ticket_is = i; session = s; told = f; live = and_first (is_live p items) (takes_under (owner_key namespace leasing k) s.number r) g; takes = and_second (is_live p items) (takes_under (owner_key namespace leasing k) s.number r) g; sent = sym (some_owning (sends call s.number) o h) })
+      by_takes s false a i f g h = same_of asks refl a h
+
+      by_session : (s : Option Session) → Told items ≡ Some asks → t ≡ ticket → session_of p items ≡ s → sent_under (owner_key namespace leasing k) call (is_live p items) r s ≡ Some o → SentAs items call t r o
+      by_session None a i f h = same_of asks refl a h
       by_session (Some s) a i f h = by_takes s (is_live p items && takes_under (owner_key namespace leasing k) s.number r) a i f refl h
 
-      by_told : (x : Option Owning) → Told items ≡ x → t ≡ ticket → sent_by (owner_key namespace leasing k) p call items r x ≡ Some o → IsSent items call t r o ⊎ (Told items ≡ Some o)
-      by_told None f i h = no_owning o h
-      by_told (Some asks) f i h = by_session (session_of p items) f i refl h
-      by_told (Some (sends c n)) f i h = inr (f ∙ h)
-      by_told (Some (owns n create)) f i h = inr (f ∙ h)
+      by_ticket : (b : Bool) → (t == ticket) ≡ b → Told items ≡ Some asks → cond b (sent_under (owner_key namespace leasing k) call (is_live p items) r (session_of p items)) (Some asks) ≡ Some o → SentAs items call t r o
+      by_ticket true i f h = by_session (session_of p items) f (same_number t ticket i) refl h
+      by_ticket false i f h = same_of asks refl f h
 
-      by_ticket : (b : Bool) → (t == ticket) ≡ b → cond b (sent_by (owner_key namespace leasing k) p call items r (Told items)) (Told items) ≡ Some o → IsSent items call t r o ⊎ (Told items ≡ Some o)
-      by_ticket true f h = by_told (Told items) refl (same_number t ticket f) h
-      by_ticket false f h = inr h
+      by_write : (n create : ℕ) (w : OwnWrite) (b : Bool) → (t == w.ticket) ≡ b → Told items ≡ Some (write_asked n create w) → cond b (Some (write_sent n create w call)) (Some (write_asked n create w)) ≡ Some o → SentAs items call t r o
+      by_write n create w true i f h = sends_write n create w f (same_number t w.ticket i) (sym (some_owning (write_sent n create w call) o h))
+      by_write n create w false i f h = same_of (write_asked n create w) i f h
 
-  -- ---- an answer: it is the acquire's, and wins; or it is of another call
+      by_again : (n create : ℕ) (w : OwnWrite) (c : ℕ) (b : Bool) → (t == w.ticket) ≡ b → Told items ≡ Some (write_sent n create w c) → cond b None (Some (write_sent n create w c)) ≡ Some o → SentAs items call t r o
+      by_again n create w c true i f h = no_owning o h
+      by_again n create w c false i f h = same_of (write_sent n create w c) i f h
+
+      by_told : (x : Option Owning) → Told items ≡ x → sent_by (owner_key namespace leasing k) p ticket call t items r x ≡ Some o → SentAs items call t r o
+      by_told None f h = no_owning o h
+      by_told (Some asks) f h = by_ticket (t == ticket) refl f h
+      by_told (Some (sends c n)) f h = same_of (sends c n) refl f h
+      by_told (Some (owns n create)) f h = same_of (owns n create) refl f h
+      by_told (Some (write_asked n create w)) f h = by_write n create w (t == w.ticket) refl f h
+      by_told (Some (write_sent n create w c)) f h = by_again n create w c (t == w.ticket) refl f h
+
+  -- ---- an answer: it is the acquire's, and wins; or the write's, and settles it; or it is of another call
   pub record IsWon (items : List Item) (call : ℕ) (o : Owning) : Type 0 where
     pub n : ℕ
     pub sent : Told items ≡ Some (sends call n)
@@ -169,24 +186,34 @@ module _ (namespace leasing k : List ℕ) (p ticket : ℕ) where
     pub kept : gave_up (owner_key namespace leasing k) create p items ≡ false
     pub won : o ≡ owns n create
 
-  -- a call that was told as sent is another one
-  abbrev pub IsApart : List Item → ℕ → Type 0
-  IsApart items call = (c n : ℕ) → Told items ≡ Some (sends c n) → (c == call) ≡ false
+  pub record IsDone (items : List Item) (call : ℕ) (o : Owning) : Type 0 where
+    pub n : ℕ
+    pub create : ℕ
+    pub write : OwnWrite
+    pub sent : Told items ≡ Some (write_sent n create write call)
+    pub in_time : is_in_time (clock_of p items) write ≡ true
+    pub settled : settles_as namespace leasing write.request (executed_to call items) ≡ true
+    pub again : o ≡ owns n create
 
-  pub told_answered : (items : List Item) (call : ℕ) (o : Owning) → Told (items ++ item.Answered call ∷ []) ≡ Some o → IsWon items call o ⊎ ((Told items ≡ Some o) × IsApart items call)
+  pub data AnsweredAs (items : List Item) (call : ℕ) (o : Owning) : Type 0 where
+    wins_it : IsWon items call o → AnsweredAs items call o
+    settles_it : IsDone items call o → AnsweredAs items call o
+    answers_other : Told items ≡ Some o → awaits_call call o ≡ false → AnsweredAs items call o
+
+  pub told_answered : (items : List Item) (call : ℕ) (o : Owning) → Told (items ++ item.Answered call ∷ []) ≡ Some o → AnsweredAs items call o
   told_answered items call o e = by (Told items) refl (sym (next items (item.Answered call) refl) ∙ e)
     where
-      apart : (x : Owning) → Told items ≡ Some x → ((c n : ℕ) → x ≡ sends c n → (c == call) ≡ false) → IsApart items call
-      apart x f g c n h = g c n (some_owning x (sends c n) (sym f ∙ h))
+      same_of : (y : Owning) → awaits_call call y ≡ false → Told items ≡ Some y → Some y ≡ Some o → AnsweredAs items call o
+      same_of y n f h = answers_other (f ∙ h) (ap (awaits_call call) (sym (some_owning y o h)) ∙ n)
 
-      by_claim : (n c : ℕ) → c ≡ call → Told items ≡ Some (sends c n) → (x : Option ℕ) → claim_in namespace leasing k (executed_to call items) ≡ x → won_under (owner_key namespace leasing k) p items n x ≡ Some o → IsWon items call o ⊎ ((Told items ≡ Some o) × IsApart items call)
+      by_claim : (n c : ℕ) → c ≡ call → Told items ≡ Some (sends c n) → (x : Option ℕ) → claim_in namespace leasing k (executed_to call items) ≡ x → won_under (owner_key namespace leasing k) p items n x ≡ Some o → AnsweredAs items call o
       by_claim n c i f None g h = no_owning o h
       by_claim n c i f (Some create) g h = by_test (is_numbered n (session_of p items) && is_live p items && not (gave_up (owner_key namespace leasing k) create p items)) refl h
         where
-          by_test : (b : Bool) → is_numbered n (session_of p items) && is_live p items && not (gave_up (owner_key namespace leasing k) create p items) ≡ b → owned_if b n create ≡ Some o → IsWon items call o ⊎ ((Told items ≡ Some o) × IsApart items call)
+          by_test : (b : Bool) → is_numbered n (session_of p items) && is_live p items && not (gave_up (owner_key namespace leasing k) create p items) ≡ b → owned_if b n create ≡ Some o → AnsweredAs items call o
           by_test true t u =
               let both = and_first (is_numbered n (session_of p items) && is_live p items) (not (gave_up (owner_key namespace leasing k) create p items)) t in
-              inl (record {
+              wins_it (record {
                 n = n;
                 sent = f ∙ ap (λ (m : ℕ). Some (sends m n)) i;
                 create = create;
@@ -198,47 +225,44 @@ module _ (namespace leasing k : List ℕ) (p ticket : ℕ) where
               })
           by_test false t u = no_owning o u
 
-      same_call : (c n c' n' : ℕ) → sends c n ≡ sends c' n' → c ≡ c'
-      same_call c n c' n' f = cc
+      by_settled : (n create : ℕ) (w : OwnWrite) (c : ℕ) → c ≡ call → Told items ≡ Some (write_sent n create w c) → (b : Bool) → is_in_time (clock_of p items) w && settles_as namespace leasing w.request (executed_to call items) ≡ b → cond b (Some (owns n create)) None ≡ Some o
+          → AnsweredAs items call o
+      by_settled n create w c i f true g h =
+          settles_it (record {
+            n = n;
+            create = create;
+            write = w;
+            sent = f ∙ ap (λ (m : ℕ). Some (write_sent n create w m)) i;
+            in_time = and_first (is_in_time (clock_of p items) w) (settles_as namespace leasing w.request (executed_to call items)) g;
+            settled = and_second (is_in_time (clock_of p items) w) (settles_as namespace leasing w.request (executed_to call items)) g;
+            again = sym (some_owning (owns n create) o h);
+          })
+      by_settled n create w c i f false g h = no_owning o h
 
-      no_call : {A : Type 0} (c n : ℕ) → asks ≡ sends c n → A
-      no_call c n f = absurd (cc)
-
-      no_sends : {A : Type 0} (m create c n : ℕ) → owns m create ≡ sends c n → A
-      no_sends m create c n f = absurd (cc)
-
-      by_call : (c n : ℕ) → Told items ≡ Some (sends c n) → (b : Bool) → (c == call) ≡ b → cond b (won_under (owner_key namespace leasing k) p items n (claim_in namespace leasing k (executed_to call items))) (Some (sends c n)) ≡ Some o → IsWon items call o ⊎ ((Told items ≡ Some o) × IsApart items call)
+      by_call : (c n : ℕ) → Told items ≡ Some (sends c n) → (b : Bool) → (c == call) ≡ b → cond b (won_under (owner_key namespace leasing k) p items n (claim_in namespace leasing k (executed_to call items))) (Some (sends c n)) ≡ Some o → AnsweredAs items call o
       by_call c n f true g h = by_claim n c (same_number c call g) f (claim_in namespace leasing k (executed_to call items)) refl h
-      by_call c n f false g h = inr (f ∙ h, apart (sends c n) f (λ c' n' i. ap (λ (m : ℕ). m == call) (sym (same_call c n c' n' i)) ∙ g))
+      by_call c n f false g h = same_of (sends c n) g f h
 
-      by : (x : Option Owning) → Told items ≡ x → answered_by namespace leasing k p call items x ≡ Some o → IsWon items call o ⊎ ((Told items ≡ Some o) × IsApart items call)
+      by_write : (n create : ℕ) (w : OwnWrite) (c : ℕ) → Told items ≡ Some (write_sent n create w c) → (b : Bool) → (c == call) ≡ b
+          → cond b (cond (is_in_time (clock_of p items) w && settles_as namespace leasing w.request (executed_to call items)) (Some (owns n create)) None) (Some (write_sent n create w c)) ≡ Some o → AnsweredAs items call o
+      by_write n create w c f true g h = by_settled n create w c (same_number c call g) f (is_in_time (clock_of p items) w && settles_as namespace leasing w.request (executed_to call items)) refl h
+      by_write n create w c f false g h = same_of (write_sent n create w c) g f h
+
+      by : (x : Option Owning) → Told items ≡ x → answered_by namespace leasing k p call items x ≡ Some o → AnsweredAs items call o
       by None f h = no_owning o h
-      by (Some asks) f h = inr (f ∙ h, apart asks f (λ c n i. no_call c n i))
-      by (Some (owns m create)) f h = inr (f ∙ h, apart (owns m create) f (λ c n i. no_sends m create c n i))
+      by (Some asks) f h = same_of asks refl f h
+      by (Some (owns m create)) f h = same_of (owns m create) refl f h
+      by (Some (write_asked m create w)) f h = same_of (write_asked m create w) refl f h
       by (Some (sends c n)) f h = by_call c n f (c == call) refl h
+      by (Some (write_sent n create w c)) f h = by_write n create w c f (c == call) refl h
 
-  -- ---- a loss of another call
-  pub told_lost : (items : List Item) (call : ℕ) (o : Owning) → Told (items ++ item.Lost call ∷ []) ≡ Some o → (Told items ≡ Some o) × ((c n : ℕ) → o ≡ sends c n → (c == call) ≡ false)
-  told_lost items call o e = by (Told items) refl (sym (next items (item.Lost call) refl) ∙ e)
-    where
-      no_call : {A : Type 0} (x : Owning) (c n : ℕ) → Some asks ≡ Some x → x ≡ sends c n → A
-      no_call x c n f g = absurd (let h : asks ≡ sends c n = some_owning asks x f ∙ g in cc)
+  -- ---- a loss of another call, and another client that leaves
+  pub told_lost : (items : List Item) (call : ℕ) (o : Owning) → Told (items ++ item.Lost call ∷ []) ≡ Some o → (Told items ≡ Some o) × (awaits_call call o ≡ false)
+  told_lost items call o e = unless_told (awaits_call call) (Told items) o (sym (next items (item.Lost call) refl) ∙ e)
 
-      no_sends : {A : Type 0} (x : Owning) (m create c n : ℕ) → Some (owns m create) ≡ Some x → x ≡ sends c n → A
-      no_sends x m create c n f g = absurd (let h : owns m create ≡ sends c n = some_owning (owns m create) x f ∙ g in cc)
-
-      same_call : (c n c' n' : ℕ) → sends c n ≡ sends c' n' → c ≡ c'
-      same_call c n c' n' f = cc
-
-      by_call : (c n : ℕ) → Told items ≡ Some (sends c n) → (b : Bool) → (c == call) ≡ b → cond b None (Some (sends c n)) ≡ Some o → (Told items ≡ Some o) × ((c n : ℕ) → o ≡ sends c n → (c == call) ≡ false)
-      by_call c n f true g h = no_owning o h
-      by_call c n f false g h = (f ∙ h, λ c' n' i. ap (λ (m : ℕ). m == call) (sym (same_call c n c' n' (some_owning (sends c n) o h ∙ i))) ∙ g)
-
-      by : (x : Option Owning) → Told items ≡ x → lost_by call x ≡ Some o → (Told items ≡ Some o) × ((c n : ℕ) → o ≡ sends c n → (c == call) ≡ false)
-      by None f h = no_owning o h
-      by (Some asks) f h = (f ∙ h, λ c n i. no_call o c n h i)
-      by (Some (owns m create)) f h = (f ∙ h, λ c n i. no_sends o m create c n h i)
-      by (Some (sends c n)) f h = by_call c n f (c == call) refl h
+  pub told_left : (items : List Item) (t : ℕ) (o : Owning) → Told (items ++ item.Left p t ∷ []) ≡ Some o → (Told items ≡ Some o) × (has_write t o ≡ false)
+  told_left items t o e =
+      unless_told (has_write t) (Told items) o (sym (next items (item.Left p t) refl ∙ ap (λ (b : Bool). cond b (unless_so (has_write t) (Told items)) (Told items)) (number_itself p)) ∙ e)
 
   -- ---- a message that takes nothing back
   pub told_delivered : (items : List Item) (number : ℕ) (o : Owning) → Told (items ++ item.Delivered number ∷ []) ≡ Some o

@@ -1,5 +1,5 @@
 -- A turn of a proxy: what items tell of its owned keys goes on being so.
-use Rattle.std.proofs.Common.{◌≡◌, ℕ, ◌+◌, Bool, true, false, List, [], ◌∷◌, ◌++◌, append_assoc, Option, None, Some, Result, Ok, refl, sym, ◌∙◌, subst}
+use Rattle.std.proofs.Common.{◌≡◌, ℕ, ◌+◌, ◌==◌, Bool, true, false, List, [], ◌∷◌, ◌++◌, append_assoc, Option, None, Some, Result, Ok, refl, sym, ◌∙◌, ap, subst}
 use Rattle.std.specs.List.{list_all}
 use Rattle.etcd_types.specs.declared.answer.Answer.{Answer}
 use Rattle.etcd_types.specs.declared.request.Request.{Request}
@@ -27,20 +27,27 @@ use Rattle.world_model.specs.Sends.{closed_in}
 use Rattle.world_model.specs.State.{Place, OpenedStream, World, word}
 use Rattle.world_laws.proofs.Effects.{Turn, ticks, asks_it, posts_it, calls, opens, closes, answers, loses, delivers, cuts, takes, waits, leaves}
 use Rattle.renewed_laws.proofs.Gains.{stepped_to}
+use Rattle.core_laws.proofs.Steps.Lists.{number_turned}
+use Rattle.session_laws.proofs.Items.{clock-append}
 use Rattle.session_laws.proofs.Steps.{gave}
 use Rattle.session_laws.proofs.Turns.{bound_of}
-use Rattle.owned_laws.specs.Owned.{Owning, asks, sends, owns}
+use Rattle.owned_laws.specs.OwnWrites.{OwnWrite}
+use Rattle.owned_laws.specs.Owned.{Owning, asks, sends, owns, write_asked, write_sent, has_write}
 use Rattle.owned_laws.proofs.Carrying.{no_true, carry_itself}
-use Rattle.owned_laws.proofs.Standing.{Before, Lets, calm_keys, outs_by}
+use Rattle.owned_laws.proofs.Standing.{Before, mine, Lets, keep, calm_keys, outs_by}
 use Rattle.owned_laws.proofs.Hearing.{tick_lets, ask_keys, item_keys, plain_passes}
 use Rattle.owned_laws.proofs.Ending.{lost_keys, answered_keys}
 use Rattle.owned_laws.proofs.Sending.{sent_keys, sent_outs}
 use Rattle.owned_laws.proofs.Cores.{GoesOut}
-use Rattle.owned_laws.proofs.Modes.{Mode}
+use Rattle.owned_laws.proofs.Kept.{mine_as, KeysOk, Rescinded, OutsOk}
+use Rattle.owned_laws.proofs.Late.{AsksOther}
+use Rattle.owned_laws.proofs.Modes.{IsMine, Mode}
+use Rattle.wait_model.specs.declared.write.Write.{Write}
+use Rattle.wait_model.specs.Writes.{has_ticket}
 use Rattle.owned_laws.proofs.Sent.{writes_out}
 use Rattle.owned_laws.proofs.Steps.{Leaves, plain_ends}
-use Rattle.owned_laws.proofs.Told.{KeysOk, Rescinded, OutsOk, told_calm, is_calm}
-use Rattle.owned_laws.proofs.Ways.{plain, asking, sending_as, holds}
+use Rattle.owned_laws.proofs.Told.{told_calm, told_left, is_calm}
+use Rattle.owned_laws.proofs.Ways.{plain, asking, sending_as, holds, writes_own}
 
 module _ {namespace : List ℕ} {items : List Item} {w : World} {p : ℕ} {x : Place} (known : Before namespace items w p x) where
   abbrev next : ℕ
@@ -67,12 +74,30 @@ module _ {namespace : List ℕ} {items : List Item} {w : World} {p : ℕ} {x : P
   quiet_work f k t asks = λ s. f (asking k t)
   quiet_work f k t (sends c m) = λ n v s. f (sending_as k n m)
   quiet_work f k t (owns m create) = λ e i c u s. f (holds k m e i)
+  quiet_work f k t (write_asked m create v) = (tt, λ l e i c s. f (writes_own k m (mine_as v None) e i))
+  quiet_work f k t (write_sent m create v number) = (tt, λ n h l e i c s. f (writes_own k m (mine_as v (Some n)) e i))
 
   -- events that let every key be
-  free_lets : (e : CoreEvent) → ((M : Mode) → Leaves M d e) → (k : List ℕ) (t : ℕ) (o : Owning) → Lets known e k t o
-  free_lets e f k t asks = λ s. f (asking k t)
-  free_lets e f k t (sends c m) = λ n v s. f (sending_as k n m)
-  free_lets e f k t (owns m create) = λ y i c u s. f (holds k m y i)
+  free_lets : (e : CoreEvent) → ((i : ℕ) → AsksOther e i) → ((M : Mode) → Leaves M d e) → (k : List ℕ) (t : ℕ) (o : Owning) → Lets known e k t o
+  free_lets e a f k t asks = λ s. f (asking k t)
+  free_lets e a f k t (sends c m) = λ n v s. f (sending_as k n m)
+  free_lets e a f k t (owns m create) = λ y i c u s. f (holds k m y i)
+  free_lets e a f k t (write_asked m create v) = (a v.ticket, λ l y i c s. f (writes_own k m (mine_as v None) y i))
+  free_lets e a f k t (write_sent m create v number) = (a v.ticket, λ n h l y i c s. f (writes_own k m (mine_as v (Some n)) y i))
+
+  -- a client leaves, but not the write's
+  away : (v : OwnWrite) (c : Option ℕ) (ticket : ℕ) → (ticket == v.ticket) ≡ false → (y : Write) → IsMine (mine_as v c) y → has_ticket ticket y ≡ false
+  away v c ticket n y m = ap (λ (j : ℕ). j == ticket) m.ticket ∙ number_turned ticket v.ticket n
+
+  left_lets : (k : List ℕ) (t : ℕ) (o : Owning) (ticket : ℕ) → has_write ticket o ≡ false → Lets known (event.Leave ticket) k t o
+  left_lets k t asks ticket h = λ s. tt
+  left_lets k t (sends c m) ticket h = λ n v s. tt
+  left_lets k t (owns m create) ticket h = λ y i c u s. tt
+  left_lets k t (write_asked m create v) ticket h = (tt, λ l y i c s. away v None ticket h)
+  left_lets k t (write_sent m create v number) ticket h = (tt, λ n g l y i c s. away v (Some n) ticket h)
+
+  left_keys : (ticket : ℕ) → KeysOk nsp lea next w.calls (items ++ item.Left p ticket ∷ []) p x.life x.clock (stepped x.core (event.Leave ticket) x.clock).core
+  left_keys ticket k t o f = let u = told_left nsp lea k p t items ticket o f in keep known (event.Leave ticket) k t o w.calls (carry_itself w.calls) (left_lets k t o ticket u.1) ((mine known).keys k t o u.0)
 
   taken_calm : (c : Bool) (ticket : ℕ) (i : WatchItem) → list_all (is_calm p) (item.Taken p ticket i ∷ line_if c p ticket i) ≡ true
   taken_calm true ticket i = refl
@@ -80,7 +105,7 @@ module _ {namespace : List ℕ} {items : List Item} {w : World} {p : ℕ} {x : P
 
   pub record Behind (own : List Item) (v : World) (c : Core) : Type 0 where
     pub outs : OutsOk nsp lea (items ++ own) p c
-    pub keys : KeysOk nsp lea next v.calls (items ++ own) p x.life c
+    pub keys : KeysOk nsp lea next v.calls (items ++ own) p x.life x.clock c
 
   closed_calls : (number : ℕ) (o : Option OpenedStream) → (closed_in w number o).calls ≡ w.calls
   closed_calls number None = refl
@@ -94,11 +119,11 @@ module _ {namespace : List ℕ} {items : List Item} {w : World} {p : ℕ} {x : P
 
   pub turn_owned : (e : CoreEvent) (o : Outcome) (v : World) (z : Place) (own : List Item) (told : Replies) → IsEnd own → (stepped x.core e x.clock).outcome ≡ Ok o → Turn w p (stepped_to x e) e o v z own told → Behind own v (stepped x.core e x.clock).core
   turn_owned _ _ _ _ _ _ n is (ticks o) = record { outs = outs_by known (event.Tick (word w)) (item.Ticked p ∷ []) tt; keys = calm_keys known (event.Tick (word w)) (item.Ticked p ∷ []) w.calls refl (carry_itself w.calls) (tick_lets known) }
-  turn_owned _ _ _ _ _ _ n is (asks_it ticket q o f) = record { outs = outs_by known (event.Ask ticket q (word w)) (item.Asked p ticket q ∷ []) (λ r y. no_true y); keys = ask_keys known items ticket (word w) q o (λ k t. refl) is }
+  turn_owned _ _ _ _ _ _ n is (asks_it ticket q o f) = record { outs = outs_by known (event.Ask ticket q (word w)) (item.Asked p ticket q ∷ []) (λ r y. no_true y); keys = ask_keys known items ticket (word w) q o (λ k t. refl) refl is }
   turn_owned _ _ _ _ _ _ n is (posts_it ticket path body q o f) = record {
     outs = outs_by known (event.Ask ticket q (word w)) (item.Posted p ticket path body ∷ item.Asked p ticket q ∷ []) (λ r y. no_true y);
-    keys = subst (λ (xs : List Item). KeysOk nsp lea next w.calls xs p x.life (stepped x.core (event.Ask ticket q (word w)) x.clock).core) (append_assoc items (item.Posted p ticket path body ∷ []) (item.Asked p ticket q ∷ []))
-        (ask_keys known (items ++ item.Posted p ticket path body ∷ []) ticket (word w) q o (λ k t. told_calm nsp lea k p t items (item.Posted p ticket path body ∷ []) refl) is);
+    keys = subst (λ (xs : List Item). KeysOk nsp lea next w.calls xs p x.life x.clock (stepped x.core (event.Ask ticket q (word w)) x.clock).core) (append_assoc items (item.Posted p ticket path body ∷ []) (item.Asked p ticket q ∷ []))
+        (ask_keys known (items ++ item.Posted p ticket path body ∷ []) ticket (word w) q o (λ k t. told_calm nsp lea k p t items (item.Posted p ticket path body ∷ []) refl) (clock-append p 0 items (item.Posted p ticket path body ∷ [])) is);
   }
   turn_owned _ _ _ _ _ _ n is (calls own member ticket q) = record { outs = sent_outs known own member ticket q is; keys = sent_keys known own member ticket q is }
   turn_owned _ _ _ _ _ _ n is (opens own member ask) =
@@ -108,7 +133,7 @@ module _ {namespace : List ℕ} {items : List Item} {w : World} {p : ℕ} {x : P
       let f = no_writes (job.Close own) is (λ a c t r e. absurd (cc)) in
       record {
         outs = outs_by known event.Work (item.Closed p number ∷ []) (f (plain [] (Rescinded nsp lea (items ++ item.Closed p number ∷ []) p)));
-        keys = subst (λ (cs : List SentCall). KeysOk nsp lea next cs (items ++ item.Closed p number ∷ []) p x.life (stepped x.core event.Work x.clock).core) (sym (closed_calls number (nth w.streams number)))
+        keys = subst (λ (cs : List SentCall). KeysOk nsp lea next cs (items ++ item.Closed p number ∷ []) p x.life x.clock (stepped x.core event.Work x.clock).core) (sym (closed_calls number (nth w.streams number)))
             (calm_keys known event.Work (item.Closed p number ∷ []) w.calls refl (carry_itself w.calls) (quiet_work f));
       }
   turn_owned _ _ _ _ _ _ n is (answers number call a o e f) = absurd n
@@ -117,23 +142,23 @@ module _ {namespace : List ℕ} {items : List Item} {w : World} {p : ℕ} {x : P
     outs = outs_by known (event.Item s.own i) (item.Delivered number ∷ []) (plain_passes known number s i rest a c e f j (Rescinded nsp lea (items ++ item.Delivered number ∷ []) p));
     keys = item_keys known number s i rest a c e f j;
   }
-  turn_owned _ _ _ _ _ _ n is (cuts number s o a c e f) = record { outs = outs_by known (event.Cut s.own) (item.Cut number ∷ []) tt; keys = calm_keys known (event.Cut s.own) (item.Cut number ∷ []) w.calls refl (carry_itself w.calls) (free_lets (event.Cut s.own) (λ M. tt)) }
+  turn_owned _ _ _ _ _ _ n is (cuts number s o a c e f) = record { outs = outs_by known (event.Cut s.own) (item.Cut number ∷ []) tt; keys = calm_keys known (event.Cut s.own) (item.Cut number ∷ []) w.calls refl (carry_itself w.calls) (free_lets (event.Cut s.own) (λ i. tt) (λ M. tt)) }
   turn_owned _ _ _ _ _ _ n is (takes ticket i) = record {
     outs = outs_by known (event.Take ticket) (item.Taken p ticket i ∷ line_if (is_among x.posted ticket) p ticket i) tt;
-    keys = calm_keys known (event.Take ticket) (item.Taken p ticket i ∷ line_if (is_among x.posted ticket) p ticket i) w.calls (taken_calm (is_among x.posted ticket) ticket i) (carry_itself w.calls) (free_lets (event.Take ticket) (λ M. tt));
+    keys = calm_keys known (event.Take ticket) (item.Taken p ticket i ∷ line_if (is_among x.posted ticket) p ticket i) w.calls (taken_calm (is_among x.posted ticket) ticket i) (carry_itself w.calls) (free_lets (event.Take ticket) (λ i. tt) (λ M. tt));
   }
-  turn_owned _ _ _ _ _ _ n is (waits ticket o f) = record { outs = outs_by known (event.Take ticket) (item.Pending p ticket ∷ []) tt; keys = calm_keys known (event.Take ticket) (item.Pending p ticket ∷ []) w.calls refl (carry_itself w.calls) (free_lets (event.Take ticket) (λ M. tt)) }
-  turn_owned _ _ _ _ _ _ n is (leaves ticket o) = record { outs = outs_by known (event.Leave ticket) (item.Left p ticket ∷ []) tt; keys = calm_keys known (event.Leave ticket) (item.Left p ticket ∷ []) w.calls refl (carry_itself w.calls) (free_lets (event.Leave ticket) (λ M. tt)) }
+  turn_owned _ _ _ _ _ _ n is (waits ticket o f) = record { outs = outs_by known (event.Take ticket) (item.Pending p ticket ∷ []) tt; keys = calm_keys known (event.Take ticket) (item.Pending p ticket ∷ []) w.calls refl (carry_itself w.calls) (free_lets (event.Take ticket) (λ i. tt) (λ M. tt)) }
+  turn_owned _ _ _ _ _ _ n is (leaves ticket o) = record { outs = outs_by known (event.Leave ticket) (item.Left p ticket ∷ []) tt; keys = left_keys ticket }
 
   pub lost_owned : (number : ℕ) (call : SentCall) (v : World) → v.calls ≡ with_nth w.calls number (record call { settled = true }) → nth w.calls number ≡ Some call → call.proxy ≡ p → call.life ≡ x.life → Behind (item.Lost number ∷ []) v (stepped x.core (event.Lost call.own) x.clock).core
   lost_owned number call v c e its lived = record {
     outs = outs_by known (event.Lost call.own) (item.Lost number ∷ []) (plain_ends [] (Rescinded nsp lea (items ++ item.Lost number ∷ []) p) d call.own);
-    keys = subst (λ (cs : List SentCall). KeysOk nsp lea next cs (items ++ item.Lost number ∷ []) p x.life (stepped x.core (event.Lost call.own) x.clock).core) (sym c) (lost_keys known number call e its lived);
+    keys = subst (λ (cs : List SentCall). KeysOk nsp lea next cs (items ++ item.Lost number ∷ []) p x.life x.clock (stepped x.core (event.Lost call.own) x.clock).core) (sym c) (lost_keys known number call e its lived);
   }
 
   pub answered_owned : (number : ℕ) (call : SentCall) (a : Answer) (o : Outcome) (v : World) → v.calls ≡ with_nth w.calls number (record call { settled = true }) → nth w.calls number ≡ Some call → call.proxy ≡ p → call.life ≡ x.life → call.executed ≡ Some a
       → (stepped x.core (event.Answer call.own a) x.clock).outcome ≡ Ok o → Behind (item.Answered number ∷ []) v (stepped x.core (event.Answer call.own a) x.clock).core
   answered_owned number call a o v c e its lived ran is = record {
     outs = outs_by known (event.Answer call.own a) (item.Answered number ∷ []) (plain_ends [] (Rescinded nsp lea (items ++ item.Answered number ∷ []) p) d call.own);
-    keys = subst (λ (cs : List SentCall). KeysOk nsp lea next cs (items ++ item.Answered number ∷ []) p x.life (stepped x.core (event.Answer call.own a) x.clock).core) (sym c) (answered_keys known number call a o e its lived ran is);
+    keys = subst (λ (cs : List SentCall). KeysOk nsp lea next cs (items ++ item.Answered number ∷ []) p x.life x.clock (stepped x.core (event.Answer call.own a) x.clock).core) (sym c) (answered_keys known number call a o e its lived ran is);
   }

@@ -1,20 +1,22 @@
--- The four ways in which a key is watched: of no more than the rescinds that are out; from the request of a ticket; from the sending of its
--- acquire; and as held.
+-- The ways in which a key is watched: of no more than the rescinds that are out; from the request of a ticket; from the sending of its
+-- acquire; as held; and as written by its owner.
 use Rattle.std.proofs.Common.{◌≡◌, inl, inr, ℕ, ◌==◌, Bool, true, false, cond, ◌&&◌, List, [], ◌∷◌, Option, None, Some, refl, sym, ◌∙◌, ap, subst}
 use Rattle.etcd_types.specs.Keys.{same}
 use Rattle.proxy_model.specs.declared.lease.Entry.{Entry}
-use Rattle.proxy_model.specs.declared.lease.Phase.TheVariants.{Held}
+use Rattle.proxy_model.specs.declared.lease.Phase.TheVariants.{Held, Writing}
+use Rattle.proxy_model.specs.LeaseTable.{is_writing_phase}
 use Rattle.wait_model.specs.declared.sending.Sending.TheVariants as sending
 use Rattle.wait_model.specs.declared.wait.WaitCall.{WaitCall}
 use Rattle.wait_model.specs.declared.wait.WaitJob.{WaitJob}
 use Rattle.wait_model.specs.declared.wait.WaitJob.TheVariants as job
+use Rattle.wait_model.specs.Phases.{phase_sent}
 use Rattle.wait_model.specs.Writes.{job_of, without_call}
 use Rattle.read_model.specs.declared.acquire.Acquire.{Acquire}
 use Rattle.read_model.specs.SessionEnd.{is_due, is_due_acquire}
 use Rattle.core_fits.specs.Fits.{EachOf}
-use Rattle.core_laws.proofs.Lists.{same_number}
+use Rattle.core_laws.proofs.Steps.Lists.{same_number}
 use Rattle.cached_laws.specs.Awaited.{is_due_for}
-use Rattle.owned_laws.proofs.Modes.{Mode}
+use Rattle.owned_laws.proofs.Modes.{Mine, Mode}
 
 pub no_true : {A : Type 0} → false ≡ true → A
 no_true e = absurd (cc)
@@ -60,6 +62,7 @@ plain k T = record {
   over = false;
   mark = false;
   hold = false;
+  mine = None;
   entry = unheld;
   session = None;
   If = λ o. Unit {0};
@@ -67,7 +70,9 @@ plain k T = record {
   free = true;
   marked = λ y. no_true y;
   holding = λ y. no_true y;
-  held = refl;
+  writing = refl;
+  still = λ b. refl;
+  writes = λ y. no_true y;
   seated = λ y. no_true y;
   less = less_each (CallSo T);
   apart = λ xs call j create q f y. no_true y;
@@ -90,6 +95,7 @@ asking k t = record {
   over = true;
   mark = true;
   hold = false;
+  mine = None;
   entry = unheld;
   session = None;
   If = λ o. is_due_for t o ≡ true;
@@ -97,7 +103,9 @@ asking k t = record {
   free = true;
   marked = λ y. refl;
   holding = λ y. refl;
-  held = refl;
+  writing = refl;
+  still = λ b. refl;
+  writes = λ y. no_true y;
   seated = λ y. no_true y;
   less = λ call xs q. tt;
   apart = λ xs call j create q f y. no_true y;
@@ -128,6 +136,7 @@ sending_as k m n = record {
   over = true;
   mark = true;
   hold = false;
+  mine = None;
   entry = unheld;
   session = None;
   If = λ o. Unit {0};
@@ -135,7 +144,9 @@ sending_as k m n = record {
   free = false;
   marked = λ y. refl;
   holding = λ y. refl;
-  held = refl;
+  writing = refl;
+  still = λ b. refl;
+  writes = λ y. no_true y;
   seated = λ y. no_true y;
   less = λ call xs q. tt;
   apart = λ xs call j create q f y. no_true y;
@@ -161,6 +172,7 @@ holds k n e held = record {
   over = true;
   mark = false;
   hold = true;
+  mine = None;
   entry = e;
   session = Some n;
   If = λ o. Unit {0};
@@ -168,7 +180,9 @@ holds k n e held = record {
   free = false;
   marked = λ y. refl;
   holding = λ y. refl;
-  held = held;
+  writing = ap is_writing_phase held;
+  still = λ b. ap (phase_sent b) held ∙ sym held;
+  writes = λ y. no_true y;
   seated = λ y. (n, refl);
   less = less_each (CallSo (NotOf k e.create));
   apart = λ xs call j create q f y s. job_each (NotOf k e.create) call j create xs q f s;
@@ -176,4 +190,63 @@ holds k n e held = record {
   fell = λ o d i. (tt, (λ x. (refl, (λ y. no_true y))));
   began = λ a d i. inl (tt, (λ x y. absurd (y refl)));
   sent = λ a call d i. (tt, (λ x. some_none a x));
+}
+
+-- ---- as written by its owner
+
+-- the entry is as the write found it, but for its phase
+abbrev pub writes_own : List ℕ → ℕ → Mine → (e : Entry) → e.phase ≡ Writing false → Mode
+writes_own k n m e writing = record {
+  key = k;
+  Outs = EachOf (CallSo (NotOf k e.create));
+  over = true;
+  mark = false;
+  hold = true;
+  mine = Some m;
+  entry = e;
+  session = Some n;
+  If = λ o. Unit {0};
+  Then = λ o. o ≡ None;
+  free = false;
+  marked = λ y. refl;
+  holding = λ y. refl;
+  writing = ap is_writing_phase writing;
+  still = λ b. ap (phase_sent b) writing ∙ sym writing;
+  writes = λ y. refl;
+  seated = λ y. (n, refl);
+  less = less_each (CallSo (NotOf k e.create));
+  apart = λ xs call j create q f y s. job_each (NotOf k e.create) call j create xs q f s;
+  gone = λ f i o. no_true f;
+  fell = λ o d i. (tt, (λ x. (refl, (λ y. no_true y))));
+  began = λ a d i. inl (tt, (λ x y. absurd (y refl)));
+  sent = λ a call d i. (tt, (λ x. some_none a x));
+}
+
+-- ---- not at all: the session isn't there
+
+abbrev pub absent : List ℕ → ℕ → Mode
+absent k n = record {
+  key = k;
+  Outs = λ xs. Unit {0};
+  over = false;
+  mark = false;
+  hold = false;
+  mine = None;
+  entry = unheld;
+  session = Some n;
+  If = λ o. Unit {0};
+  Then = λ o. ⊥;
+  free = false;
+  marked = λ y. no_true y;
+  holding = λ y. no_true y;
+  writing = refl;
+  still = λ b. refl;
+  writes = λ y. no_true y;
+  seated = λ y. no_true y;
+  less = λ call xs q. tt;
+  apart = λ xs call j create q f y. no_true y;
+  gone = λ f i o. no_true f;
+  fell = λ o d i. (tt, (λ x. absurd x));
+  began = λ a d i. inl (tt, (λ x y. x));
+  sent = λ a call d i. (tt, (λ x. x));
 }

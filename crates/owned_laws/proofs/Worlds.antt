@@ -1,5 +1,6 @@
 -- Line by line: what items tell of owned keys is so at every proxy.
-use Rattle.std.proofs.Common.{◌≡◌, ◌⊎◌, inl, inr, ℕ, ◌+◌, ◌==◌, ◌≤◌, Bool, true, false, cond, not, ◌&&◌, List, [], ◌∷◌, ◌++◌, append_assoc, length, Option, None, Some, Result, Ok, Err, refl, sym, ◌∙◌, ap, subst, arith}
+use Rattle.std.proofs.Common.{◌≡◌, ℕ, ◌+◌, ◌==◌, ◌≤◌, nat_lt, Bool, true, false, cond, not, ◌&&◌, List, [], ◌∷◌, ◌++◌, append_assoc, length, Option, None, Some, Result, Ok, Err, refl, sym, ◌∙◌, ap, subst, arith}
+use Rattle.std.proofs.lemmas.Bool.Decides.{nat_tests}
 use Rattle.std.specs.Prelude.{flat_map}
 use Rattle.std.specs.List.{list_all}
 use Rattle.std.specs.BTreeSet.{BTreeSet}
@@ -18,12 +19,12 @@ use Rattle.core_model.specs.Fits.{CoreOk}
 use Rattle.core_model.specs.State.{Core}
 use Rattle.core_model.specs.Step.{stepped}
 use Rattle.core_fits.proofs.Prefix.{clock_prefix}
-use Rattle.core_laws.specs.Kept.{IsHeard}
-use Rattle.core_laws.proofs.Lists.{same_number, number_itself, number_turned}
-use Rattle.core_laws.proofs.Middle.{clock_whole}
-use Rattle.core_laws.proofs.Staying.{steps_stay}
-use Rattle.core_laws.proofs.Stepping.{steps_keep}
-use Rattle.core_laws.proofs.Whole.{of_ok}
+use Rattle.core_laws.specs.Steps.Kept.{IsHeard}
+use Rattle.core_laws.proofs.Steps.Lists.{same_number, number_itself, number_turned}
+use Rattle.core_laws.proofs.Steps.Middle.{clock_whole}
+use Rattle.core_laws.proofs.Steps.Staying.{steps_stay}
+use Rattle.core_laws.proofs.Steps.Stepping.{steps_keep}
+use Rattle.core_laws.proofs.Steps.Whole.{of_ok}
 use Rattle.owner_fits.specs.Laws.{OwnersFit}
 use Rattle.owner_fits.proofs.Runs.{steps_fit}
 use Rattle.step_moves.proofs.Walk.{CoreFit, stepped_fit}
@@ -38,7 +39,7 @@ use Rattle.world_model.specs.Calls.{was_lost, lost_at, lost_of, lost}
 use Rattle.world_model.specs.Floors.{floors_after}
 use Rattle.world_model.specs.Gains.{Replies, all_fetched, body_if, reply_items, line_if}
 use Rattle.world_model.specs.Lives.{begins}
-use Rattle.world_model.specs.Places.{nth, with_nth, place_at, with_place, with_posted, with_call, if_life, unless, call_place, is_among}
+use Rattle.world_model.specs.Places.{nth, with_nth, place_at, with_place, with_core, with_posted, with_call, if_life, unless, call_place, is_among}
 use Rattle.world_model.specs.Sends.{next_call as next_number, new_call, closed_in}
 use Rattle.world_model.specs.Starts.{new_place}
 use Rattle.world_model.specs.State.{Place, OpenedStream, World}
@@ -53,14 +54,15 @@ use Rattle.held_laws.proofs.Worlds.{equal, one_place, placed_itself, placed_othe
 use Rattle.renewed_laws.proofs.Gains.{is_other, stepped_to, Gain, gain}
 use Rattle.renewed_laws.proofs.Gains as gains
 use Rattle.prefix_laws.proofs.Fetched.{turn_heard}
-use Rattle.prefix_laws.proofs.Places.{fetched_so}
+use Rattle.shown_laws.proofs.Fetches.{fetched_keeps}
 use Rattle.session_laws.proofs.Turns.{bound_of}
 use Rattle.cached_laws.proofs.Steps.{owners_behind}
 use Rattle.cached_laws.proofs.Worlds.{AllTold, Beside, replies_plain, turn_goes}
-use Rattle.owned_laws.specs.Owned.{Owning, asks, sends, owns, owned}
+use Rattle.owned_laws.specs.Owned.{Owning, asks, sends, owns, write_asked, write_sent, owned}
 use Rattle.owned_laws.proofs.Cores.{Stands}
 use Rattle.owned_laws.proofs.Steps.{steps_so, stands}
-use Rattle.owned_laws.proofs.Told.{HasCall, Kept, KeysOk, Rescinded, OutsOk, IsWon, told_calm, told_answered, told_lost, told_delivered, told_begun, is_calm}
+use Rattle.owned_laws.proofs.Kept.{Kept, KeysOk, Rescinded, OutsOk, writing_steps}
+use Rattle.owned_laws.proofs.Told.{AnsweredAs, wins_it, settles_it, answers_other, told_calm, told_answered, told_lost, told_delivered, told_begun, is_calm}
 use Rattle.owned_laws.proofs.Carrying.{Carry, carry_itself, carry_pushed, carry_changed, kept_on, ProxyOwned, AllOwned, outs_more}
 use Rattle.owned_laws.proofs.Standing.{Before}
 use Rattle.owned_laws.proofs.Turning.{Behind, IsEnd, turn_owned, lost_owned, answered_owned}
@@ -141,13 +143,42 @@ order_step c e now ok h =
 due_at : (now : ℕ) (c : Core) → CoreOk c → OwnersFit c → Stands (clock_work now c) (first_job (clock_work now c))
 due_at now c ok o = stands (clock_work now c) (clock_whole 0 now c (of_ok c ok).mid).mid.agrees (owners_behind now c ok o)
 
-fetch_one : (all : List SentCall) (bound p life : ℕ) (k : List ℕ) (t : ℕ) (o : Owning) (c : Core) (ticket now : ℕ) → CoreOk c → OwnersFit c → Kept all bound p life k t o c → Kept all bound p life k t o (stepped c (event.Take ticket) now).core
-fetch_one all bound p life k t asks c ticket now ok f s = steps_so (asking k t) c (event.Take ticket) now (due_at now c ok f) (λ z. tt) s
-fetch_one all bound p life k t (sends number n) c ticket now ok f s = record { own = s.own; call = s.call; below = s.below; so = steps_so (sending_as k s.own n) c (event.Take ticket) now (due_at now c ok f) (λ z. tt) s.so }
+fetch_one : (all : List SentCall) (bound p life : ℕ) (k : List ℕ) (t : ℕ) (o : Owning) (c : Core) (ticket now : ℕ) → CoreOk c → OwnersFit c → Kept all bound p life now k t o c → Kept all bound p life now k t o (stepped c (event.Take ticket) now).core
+fetch_one all bound p life k t asks c ticket now ok f s = steps_so (asking k t) refl c (event.Take ticket) now (due_at now c ok f) (λ z. tt) s
+fetch_one all bound p life k t (sends number n) c ticket now ok f s = record { own = s.own; call = s.call; below = s.below; so = steps_so (sending_as k s.own n) refl c (event.Take ticket) now (due_at now c ok f) (λ z. tt) s.so }
 fetch_one all bound p life k t (owns n create) c ticket now ok f s = (
   s.0,
-  record { entry = s.1.entry; held = s.1.held; created = s.1.created; so = steps_so (holds k n s.1.entry s.1.held) c (event.Take ticket) now (due_at now c ok f) (λ z. tt) s.1.so },
+  record { entry = s.1.entry; held = s.1.held; created = s.1.created; so = steps_so (holds k n s.1.entry s.1.held) refl c (event.Take ticket) now (due_at now c ok f) (λ z. tt) s.1.so },
 )
+fetch_one all bound p life k t (write_asked n create v) c ticket now ok f s = record { below = s.below; client = s.client; so = writing_steps k n create v None c (event.Take ticket) now ok (due_at now c ok f) tt (λ e g i u. tt) s.so }
+fetch_one all bound p life k t (write_sent n create v number) c ticket now ok f s = record {
+  own = s.own;
+  call = s.call;
+  below = s.below;
+  so = writing_steps k n create v (Some s.own) c (event.Take ticket) now ok (due_at now c ok f) tt (λ e g i u. tt) s.so;
+}
+
+-- a turn leaves the clock
+turn_clock : (w : World) (p : ℕ) (z : Place) (e : CoreEvent) (o : Outcome) (v : World) (y : Place) (own : List Item) (told : Replies) → Turn w p z e o v y own told → y.clock ≡ z.clock
+turn_clock w p z _ _ _ _ _ _ (ticks o) = refl
+turn_clock w p z _ _ _ _ _ _ (asks_it ticket q o n) = refl
+turn_clock w p z _ _ _ _ _ _ (posts_it ticket path body q o n) = refl
+turn_clock w p z _ _ _ _ _ _ (calls own member ticket q) = refl
+turn_clock w p z _ _ _ _ _ _ (opens own member ask) = refl
+turn_clock w p z _ _ _ _ _ _ (closes own number e) = refl
+turn_clock w p z _ _ _ _ _ _ (answers number call a o e f) = refl
+turn_clock w p z _ _ _ _ _ _ (loses number call o e) = refl
+turn_clock w p z _ _ _ _ _ _ (delivers number s i rest o a b c d e) = refl
+turn_clock w p z _ _ _ _ _ _ (cuts number s o a b c d) = refl
+turn_clock w p z _ _ _ _ _ _ (takes ticket i) = refl
+turn_clock w p z _ _ _ _ _ _ (waits ticket o n) = refl
+turn_clock w p z _ _ _ _ _ _ (leaves ticket o) = refl
+
+same_clock : (n : ℕ) → n ≤ n
+same_clock n = omega arith
+
+not_before : (a b : ℕ) → nat_lt b a ≡ false → a ≤ b
+not_before a b e = grind (arith, nat_tests, e)
 
 module _ (namespace : List ℕ) (items : List Item) (w : World) (b : Beside namespace items w) (h : AllTold items w (bound_of w)) (g : AllOwned items w (bound_of w)) where
   abbrev next : ℕ
@@ -162,15 +193,15 @@ module _ (namespace : List ℕ) (items : List Item) (w : World) (b : Beside name
   later : bound_of w ≤ next
   later = omega arith
 
-  -- at a place whose core and life are as they were
-  aside : (more : List Item) (all : List SentCall) (q : ℕ) (x y : Place) → y.core ≡ x.core → y.life ≡ x.life → ((k : List ℕ) (t : ℕ) (o : Owning) → owned nsp lea k q t (items ++ more) ≡ Some o → owned nsp lea k q t items ≡ Some o) → Carry w.calls all
+  -- at a place whose core and life are as they were, and whose clock doesn't go back
+  aside : (more : List Item) (all : List SentCall) (q : ℕ) (x y : Place) → y.core ≡ x.core → y.life ≡ x.life → x.clock ≤ y.clock → ((k : List ℕ) (t : ℕ) (o : Owning) → owned nsp lea k q t (items ++ more) ≡ Some o → owned nsp lea k q t items ≡ Some o) → Carry w.calls all
       → ProxyOwned nsp lea (bound_of w) items w.calls q x → ProxyOwned nsp lea next (items ++ more) all q y
-  aside more all q x y same life told c s = record {
+  aside more all q x y same life rises told c s = record {
     order = subst (λ (z : Core). CoreFit z.own.waits.prefix z) (sym same) s.order;
     outs = subst (OutsOk nsp lea (items ++ more) q) (sym same) (outs_more nsp lea items more q x.core.own.waits.out s.outs);
     keys = λ k t o f.
-        subst (λ (n : ℕ). Kept all next q n k t o y.core) (sym life)
-        (subst (Kept all next q x.life k t o) (sym same) (kept_on w.calls all (bound_of w) next q x.life k t o x.core c later (s.keys k t o (told k t o f))));
+        subst (λ (n : ℕ). Kept all next q n y.clock k t o y.core) (sym life)
+        (subst (Kept all next q x.life y.clock k t o) (sym same) (kept_on w.calls all (bound_of w) next q x.life x.clock y.clock k t o x.core c later rises (s.keys k t o (told k t o f))));
   }
 
   calm_told : (more : List Item) (q : ℕ) → list_all (is_calm q) more ≡ true → (k : List ℕ) (t : ℕ) (o : Owning) → owned nsp lea k q t (items ++ more) ≡ Some o → owned nsp lea k q t items ≡ Some o
@@ -193,19 +224,25 @@ module _ (namespace : List ℕ) (items : List Item) (w : World) (b : Beside name
       pub owners : OwnersFit c
       pub order : CoreFit c.own.waits.prefix c
       pub outs : OutsOk nsp lea xs p c
-      pub keys : KeysOk nsp lea next all xs p x.life c
+      pub keys : KeysOk nsp lea next all xs p x.life x.clock c
 
-    fetch_now : (xs : List Item) (all : List SentCall) (c : Core) (ticket now : ℕ) → Now xs all c → Now xs all (stepped c (event.Take ticket) now).core
-    fetch_now xs all c ticket now s = record {
-      ok = steps_keep c (event.Take ticket) now tt s.ok;
-      owners = steps_fit c (event.Take ticket) now tt s.ok s.owners;
-      order = order_step c (event.Take ticket) now s.ok s.order;
-      outs = (steps_so (plain [] (Rescinded nsp lea xs p)) c (event.Take ticket) now (due_at now c s.ok s.owners) (λ z. tt) (λ y i. (record { outs = s.outs; over = λ v. no_true v; mark = λ v. no_true v; entry = λ v. no_true v }, tt)) tt tt).0.outs;
-      keys = λ k t o f. fetch_one all next p x.life k t o c ticket now s.ok s.owners (s.keys k t o f);
+    fetch_now : (xs : List Item) (all : List SentCall) (c : Core) (ticket : ℕ) → Now xs all c → Now xs all (stepped c (event.Take ticket) x.clock).core
+    fetch_now xs all c ticket s = record {
+      ok = steps_keep c (event.Take ticket) x.clock tt s.ok;
+      owners = steps_fit c (event.Take ticket) x.clock tt s.ok s.owners;
+      order = order_step c (event.Take ticket) x.clock s.ok s.order;
+      outs = (steps_so (plain [] (Rescinded nsp lea xs p)) refl c (event.Take ticket) x.clock (due_at x.clock c s.ok s.owners) (λ z. tt) (λ y i. (record { outs = s.outs; over = λ v. no_true v; mark = λ v. no_true v; entry = λ v. no_true v }, tt)) tt tt).0.outs;
+      keys = λ k t o f. fetch_one all next p x.life k t o c ticket x.clock s.ok s.owners (s.keys k t o f);
     }
       where
         no_true : {A : Type 0} → false ≡ true → A
         no_true e = absurd (cc)
+
+    abbrev NowAt : List Item → List SentCall → Place → Type 0
+    NowAt xs all z = (z.clock ≡ x.clock) × Now xs all z.core
+
+    fetch_at : (xs : List Item) (all : List SentCall) (ticket : ℕ) (z : Place) → NowAt xs all z → NowAt xs all (with_core z (stepped z.core (event.Take ticket) z.clock).core)
+    fetch_at xs all ticket z h = (h.0, subst (λ (n : ℕ). Now xs all (stepped z.core (event.Take ticket) n).core) (sym h.0) (fetch_now xs all z.core ticket h.1))
 
     pub turned_owned : (e : CoreEvent) (o : Outcome) (v : World) (y : Place) (own : List Item) (told : Replies) → IsHeard x.core e → Turn w p (stepped_to x e) e o v y own told → Behind known own v (stepped x.core e x.clock).core
         → let f = all_fetched y told in ProxyOwned nsp lea next (items ++ (own ++ flat_map (reply_items p f.place.posted) f.replies)) v.calls p f.place
@@ -220,14 +257,16 @@ module _ (namespace : List ℕ) (items : List Item) (w : World) (b : Beside name
           outs = s.outs;
           keys = s.keys;
         } in
-        let k = fetched_so (Now (items ++ own) v.calls) (λ c ticket now m. fetch_now (items ++ own) v.calls c ticket now m) (length y.core.asks) y told (subst (Now (items ++ own) v.calls) (sym goes.core) stood) in
+        let n = fetched_keeps (NowAt (items ++ own) v.calls) (fetch_at (items ++ own) v.calls) (length y.core.asks) y told (turn_clock w p (stepped_to x e) e o v y own told t, subst (Now (items ++ own) v.calls) (sym goes.core) stood) in
+        let k = n.1 in
         let life : f.place.life ≡ x.life = (all_so y told).life ∙ goes.life in
         subst (λ (xs : List Item). ProxyOwned nsp lea next xs v.calls p f.place) (append_assoc items own rest) (record {
           order = k.order;
           outs = outs_more nsp lea (items ++ own) rest p f.place.core.own.waits.out k.outs;
           keys = λ l i j e.
-              subst (λ (n : ℕ). Kept v.calls next p n l i j f.place.core) (sym life)
-              (k.keys l i j (sym (told_calm nsp lea l p i (items ++ own) rest (replies_calm p p f.place.posted f.replies)) ∙ e));
+              subst (λ (m : ℕ). Kept v.calls next p f.place.life m l i j f.place.core) (sym n.0)
+              (subst (λ (m : ℕ). Kept v.calls next p m x.clock l i j f.place.core) (sym life)
+              (k.keys l i j (sym (told_calm nsp lea l p i (items ++ own) rest (replies_calm p p f.place.posted f.replies)) ∙ e)));
         })
 
     -- what the turn's own items tell of another proxy
@@ -256,7 +295,7 @@ module _ (namespace : List ℕ) (items : List Item) (w : World) (b : Beside name
             let rest = flat_map (reply_items p f.place.posted) f.replies in
             let goes = turn_goes w p (stepped_to x e) e o v y own told t in
             let was : place_at w q ≡ Some z = sym (placed_other w v p q f.place goes.places n) ∙ k in
-            aside (own ++ rest) v.calls q z z refl refl
+            aside (own ++ rest) v.calls q z z refl refl (same_clock z.clock)
             (λ l i j e. others q z n was l i j (sym (told_calm nsp lea l q i (items ++ own) rest (replies_calm q p f.place.posted f.replies)) ∙ ap (owned nsp lea l q i) (append_assoc items own rest) ∙ e)) carry (g q z was)
 
     off : (q : ℕ) → (q == p) ≡ false → not (p == q) ≡ true
@@ -279,7 +318,7 @@ module _ (namespace : List ℕ) (items : List Item) (w : World) (b : Beside name
     turn_others z' _ _ _ _ _ _ n (cuts number s o a c d e) q z m at' = calm_told (item.Cut number ∷ []) q refl
     turn_others z' _ _ _ _ _ _ n (takes ticket i) q z m at' = calm_told (item.Taken p ticket i ∷ line_if (is_among z'.posted ticket) p ticket i) q (taken_calm q (is_among z'.posted ticket) ticket i)
     turn_others z' _ _ _ _ _ _ n (waits ticket o f) q z m at' = calm_told (item.Pending p ticket ∷ []) q refl
-    turn_others z' _ _ _ _ _ _ n (leaves ticket o) q z m at' = calm_told (item.Left p ticket ∷ []) q refl
+    turn_others z' _ _ _ _ _ _ n (leaves ticket o) q z m at' = calm_told (item.Left p ticket ∷ []) q (ap (λ (c : Bool). c && true) (off q m))
 
     closed_carries : (number : ℕ) (o : Option OpenedStream) → Carry w.calls (closed_in w number o).calls
     closed_carries number None = carry_itself w.calls
@@ -312,13 +351,16 @@ module _ (namespace : List ℕ) (items : List Item) (w : World) (b : Beside name
   answered_others : (number : ℕ) (call : SentCall) (x : Place) (at : place_at w call.proxy ≡ Some x) → nth w.calls number ≡ Some call → Others call.proxy x at (item.Answered number ∷ [])
   answered_others number call x at e q z n was k t o f = by (told_answered nsp lea k q t items number o f)
     where
-      by : IsWon nsp lea k q t items number o ⊎ ((owned nsp lea k q t items ≡ Some o) × Rattle.owned_laws.proofs.Told.IsApart nsp lea k q t items number) → owned nsp lea k q t items ≡ Some o
-      by (inl v) =
-          let s = (g q z was).keys k t (sends number v.n) v.sent in
-          let one = some_call s.call.call call (sym s.call.there ∙ e) in
-          let its : call.proxy ≡ q = ap (λ (y : SentCall). y.proxy) (sym one) ∙ s.call.mine in
-          absurd (let y : true ≡ false = sym (number_itself q) ∙ ap (λ (m : ℕ). q == m) (sym its) ∙ n in cc)
-      by (inr u) = u.0
+      others : {A : Type 0} (s : SentCall) → nth w.calls number ≡ Some s → s.proxy ≡ q → A
+      others s there its =
+          let one = some_call s call (sym there ∙ e) in
+          let same : call.proxy ≡ q = ap (λ (y : SentCall). y.proxy) (sym one) ∙ its in
+          absurd (let y : true ≡ false = sym (number_itself q) ∙ ap (λ (m : ℕ). q == m) (sym same) ∙ n in cc)
+
+      by : AnsweredAs nsp lea k q t items number o → owned nsp lea k q t items ≡ Some o
+      by (wins_it v) = let s = (g q z was).keys k t (sends number v.n) v.sent in others s.call.call s.call.there s.call.mine
+      by (settles_it v) = let s = (g q z was).keys k t (write_sent v.n v.create v.write number) v.sent in others s.call.call s.call.there s.call.mine
+      by (answers_other u m) = u
 
   -- ---- lines of no turn
 
@@ -327,18 +369,18 @@ module _ (namespace : List ℕ) (items : List Item) (w : World) (b : Beside name
   plain_world more v n l ps c quiet q z k =
       let was : place_at w q ≡ Some z = ap (λ (xs : Rattle.world_model.specs.State.Numbered Place). Rattle.world_model.specs.Places.kept_at xs q) (sym ps) ∙ k in
       subst (λ (y : List ℕ). ProxyOwned v.namespace y next (items ++ more) v.calls q z) (sym l)
-      (subst (λ (y : List ℕ). ProxyOwned y lea next (items ++ more) v.calls q z) (sym n) (aside more v.calls q z z refl refl (calm_told more q (quiet q)) c (g q z was)))
+      (subst (λ (y : List ℕ). ProxyOwned y lea next (items ++ more) v.calls q z) (sym n) (aside more v.calls q z z refl refl (same_clock z.clock) (calm_told more q (quiet q)) c (g q z was)))
 
   -- one place is put anew, whose core stays
-  placed_world : (more : List Item) (p : ℕ) (x y : Place) → place_at w p ≡ Some x → y.core ≡ x.core → y.life ≡ x.life → ((q : ℕ) → list_all (is_calm q) more ≡ true) → AllOwned (items ++ more) (with_place w p y) next
-  placed_world more p x y at same life quiet q z k = by q z k (q == p) refl
+  placed_world : (more : List Item) (p : ℕ) (x y : Place) → place_at w p ≡ Some x → y.core ≡ x.core → y.life ≡ x.life → x.clock ≤ y.clock → ((q : ℕ) → list_all (is_calm q) more ≡ true) → AllOwned (items ++ more) (with_place w p y) next
+  placed_world more p x y at same life rises quiet q z k = by q z k (q == p) refl
     where
       by : (q : ℕ) (z : Place) → place_at (with_place w p y) q ≡ Some z → (c : Bool) → (q == p) ≡ c → ProxyOwned nsp lea next (items ++ more) w.calls q z
       by q z k true n =
           let there : q ≡ p = equal q p n in
           let one : y ≡ z = one_place y z (sym (placed_itself w w p y) ∙ ap (place_at (with_place w p y)) (sym there) ∙ k) in
-          aside more w.calls q x z (ap (λ (v : Place). v.core) (sym one) ∙ same) (ap (λ (v : Place). v.life) (sym one) ∙ life) (calm_told more q (quiet q)) (carry_itself w.calls) (g q x (ap (place_at w) there ∙ at))
-      by q z k false n = aside more w.calls q z z refl refl (calm_told more q (quiet q)) (carry_itself w.calls) (g q z (sym (placed_other w w p q y refl n) ∙ k))
+          aside more w.calls q x z (ap (λ (v : Place). v.core) (sym one) ∙ same) (ap (λ (v : Place). v.life) (sym one) ∙ life) (subst (λ (v : Place). x.clock ≤ v.clock) one rises) (calm_told more q (quiet q)) (carry_itself w.calls) (g q x (ap (place_at w) there ∙ at))
+      by q z k false n = aside more w.calls q z z refl refl (same_clock z.clock) (calm_told more q (quiet q)) (carry_itself w.calls) (g q z (sym (placed_other w w p q y refl n) ∙ k))
 
   -- a proxy starts
   start_world : (p clock life : ℕ) (i : Item) → begins p i ≡ true → ((q : ℕ) → is_calm q i ≡ not (p == q)) → AllOwned (items ++ i ∷ []) (with_place w p (new_place w clock life)) next
@@ -356,7 +398,7 @@ module _ (namespace : List ℕ) (items : List Item) (w : World) (b : Beside name
           let one : new_place w clock life ≡ z = one_place (new_place w clock life) z (sym (placed_itself w w p (new_place w clock life)) ∙ ap (place_at (with_place w p (new_place w clock life))) (sym there) ∙ k) in
           subst (λ (j : ℕ). ProxyOwned nsp lea next (items ++ i ∷ []) w.calls j z) (sym there) (subst (ProxyOwned nsp lea next (items ++ i ∷ []) w.calls p) one fresh)
       by q z k false n =
-          aside (i ∷ []) w.calls q z z refl refl (calm_told (i ∷ []) q (ap (λ (c : Bool). c && true) (calm q ∙ ap not (number_turned q p n)))) (carry_itself w.calls) (g q z (sym (placed_other w w p q (new_place w clock life) refl n) ∙ k))
+          aside (i ∷ []) w.calls q z z refl refl (same_clock z.clock) (calm_told (i ∷ []) q (ap (λ (c : Bool). c && true) (calm q ∙ ap not (number_turned q p n)))) (carry_itself w.calls) (g q z (sym (placed_other w w p q (new_place w clock life) refl n) ∙ k))
 
   one_calm : (q p ticket : ℕ) (path body : List ℕ) (posted : BTreeSet ℕ) (r : ℕ × Answer) → list_all (is_calm q) (item.Posted p ticket path body ∷ reply_items p posted r) ≡ true
   one_calm q p ticket path body posted r = by (is_among posted r.0)
@@ -373,7 +415,7 @@ module _ (namespace : List ℕ) (items : List Item) (w : World) (b : Beside name
       started : {k l : ℕ} {j : Item} → Begins w p k l j → AllOwned (items ++ j ∷ []) (with_place w p (new_place w k l)) next
       started (first e) = start_world p 0 1 (item.Started p) (number_itself p) (λ q. refl)
       started (again x e) = start_world p x.clock (x.life + 1) (item.Restarted p) (number_itself p) (λ q. refl)
-  effect_owned _ _ (sets p millis x at forward) other n = placed_world (item.Clock p millis ∷ []) p x (record x { clock = millis }) at refl refl (λ q. refl)
+  effect_owned _ _ (sets p millis x at forward) other n = placed_world (item.Clock p millis ∷ []) p x (record x { clock = millis }) at refl refl (not_before x.clock millis forward) (λ q. refl)
   effect_owned _ _ (effects.refuses_post p ticket path body a x at) other n = absurd (cc)
   effect_owned _ _ (executes number call e fresh) other n = plain_world (item.Executed number (exec w.store call.member call.request).1 ∷ []) (record w { calls = with_nth w.calls number (record call { executed = Some (exec w.store call.member call.request).1 }); store = (exec w.store call.member call.request).0; floors = floors_after call (exec w.store call.member call.request).1 w.floors }) refl refl refl (carry_changed w.calls number call (record call { executed = Some (exec w.store call.member call.request).1 }) e refl refl refl) (λ q. refl)
   effect_owned _ _ (expires lease t e due) other n = plain_world (item.Expired lease ∷ []) (record w { store = t }) refl refl refl (carry_itself w.calls) (λ q. refl)
@@ -415,7 +457,7 @@ module _ (namespace : List ℕ) (items : List Item) (w : World) (b : Beside name
       all_turned call.proxy x at e o v (stepped_to x e) (item.Answered number ∷ []) [] (turn_heard namespace items w call.proxy x e o v (stepped_to x e) (item.Answered number ∷ []) [] b.ok at t) t
       (answered_owned (known call.proxy x at) number call a o v refl there refl lived is out) (answered_others number call x at there) (carry_changed w.calls number call (record call { settled = true }) there refl refl refl)
   gain_owned _ _ (gains.refuses_post p ticket path body r x at) n =
-      placed_world _ p x (with_posted ticket x) at refl refl (λ q. one_calm q p ticket path body (with_posted ticket x).posted (ticket, answer.Refused r))
+      placed_world _ p x (with_posted ticket x) at refl refl (same_clock x.clock) (λ q. one_calm q p ticket path body (with_posted ticket x).posted (ticket, answer.Refused r))
   gain_owned _ _ (gains.other after gained e o) n = effect_owned after gained e o n
 
   pub lived_owned : (after : World) (gained : List Item) → LivedGain w after gained → AllOwned (items ++ gained) after next

@@ -1,4 +1,6 @@
 pub mod Watched
+pub mod OwnWrites
 pub mod Owned
 pub mod Caches
 pub mod Worked
+pub mod WorkedWrites

@@ -1,5 +1,5 @@
 -- What a transcript tells of a key that a proxy owns: it was asked for, the acquire that named the request was answered as won under the
--- live session, and nothing since took the key away (the leasing cache of etcd's clientv3).
+-- live session, and nothing since took the key away; writes of the proxy's own that are done leave it (the leasing cache of etcd's clientv3).
 use Rattle.std.specs.Prelude.{◌≡◌, ℕ, ◌==◌, ◌&&◌, nat_lt, Bool, true, false, not, if◌then◌else◌, List, ◌++◌, Option, None, Some, Ok, Err}
 use Rattle.std.specs.List.{list_any}
 use Rattle.etcd_types.specs.declared.answer.Answer.{Answer}
@@ -26,13 +26,14 @@ use Rattle.core_model.specs.Heard.{heard}
 use Rattle.core_model.specs.Refusals.{refusal_of}
 use Rattle.script_text.specs.declared.item.Item.{Item}
 use Rattle.script_text.specs.declared.item.Item.TheVariants as item
-use Rattle.world_model.specs.Lives.{executed_to, next_message}
+use Rattle.world_model.specs.Lives.{clock_of, executed_to, next_message}
 use Rattle.world_model.specs.LiveSessions.{Session, session_of, is_live}
 use Rattle.cached_laws.specs.Folds.{told_of}
 use Rattle.cached_laws.specs.Reads.{is_served}
 use Rattle.cached_laws.specs.Streams.{ToldStream, leasing_of}
+use Rattle.owned_laws.specs.OwnWrites.{OwnWrite, keeps_over, settles_as, is_in_time}
 
--- How far a ticket's acquire of the key came.
+-- How far a ticket's acquire of the key came, and a write of the key since it was won.
 pub data Owning : Type 0 where
   -- the ticket was asked
   asks : Owning
@@ -40,6 +41,10 @@ pub data Owning : Type 0 where
   sends : ℕ → ℕ → Owning
   -- it was won: the key is owned under this session, since this create revision
   owns : ℕ → ℕ → Owning
+  -- since then a write of it was asked, and isn't sent yet
+  write_asked : ℕ → ℕ → OwnWrite → Owning
+  -- it was sent as this call
+  write_sent : ℕ → ℕ → OwnWrite → ℕ → Owning
 
 -- ---- what is sent
 
@@ -134,28 +139,60 @@ is_stream number (Some s) = s.number == number
 abbrev pub writes_over : List ℕ → List ℕ → Request → Bool
 writes_over leasing k q = is_served (refusal_of leasing q) && covered (written_ranges q) k
 
+-- a write of the key under this ticket is asked, or sent
+abbrev pub has_write : ℕ → Owning → Bool
+has_write t (write_asked n create w) = t == w.ticket
+has_write t (write_sent n create w call) = t == w.ticket
+has_write t _ = false
+
+-- what was sent as this call isn't answered
+abbrev pub awaits_call : ℕ → Owning → Bool
+awaits_call call (sends c n) = c == call
+awaits_call call (write_sent n create w c) = c == call
+awaits_call call _ = false
+
 abbrev pub create_of : Owning → Option ℕ
 create_of asks = None
 create_of (sends call n) = None
 create_of (owns n create) = Some create
+create_of (write_asked n create w) = Some create
+create_of (write_sent n create w call) = Some create
+
+-- but where that holds
+abbrev pub unless_so : (Owning → Bool) → Option Owning → Option Owning
+unless_so p None = None
+unless_so p (Some o) = if p o then None else Some o
+
+-- An owned key is written by a request of a client: under ticket 0 calls of the proxy's own go.
+abbrev pub written_by : List ℕ → List ℕ → ℕ → Request → ℕ → Option Owning → Option Owning
+written_by leasing k t r now (Some (owns n create)) = if keeps_over leasing k r && not (t == 0) then Some (write_asked n create (record { ticket = t; request = r; since = now })) else None
+written_by leasing k t r now o = None
+
+abbrev pub asked_by : List ℕ → List ℕ → ℕ → ℕ → Request → ℕ → Option Owning → Option Owning
+asked_by leasing k ticket t r now o =
+    if writes_over leasing k r then written_by leasing k t r now o else if t == ticket then Some asks else unless_so (has_write t) o
 
 -- an acquire goes out under the session that is live
 abbrev pub sent_under : List ℕ → ℕ → Bool → Request → Option Session → Option Owning
 sent_under owner call live q None = Some asks
 sent_under owner call live q (Some s) = if live && takes_under owner s.number q then Some (sends call s.number) else Some asks
 
-abbrev pub sent_by : List ℕ → ℕ → ℕ → List Item → Request → Option Owning → Option Owning
-sent_by owner p call before q (Some asks) = sent_under owner call (is_live p before) q (session_of p before)
-sent_by owner p call before q o = o
+-- or the write, which is sent once
+abbrev pub sent_by : List ℕ → ℕ → ℕ → ℕ → ℕ → List Item → Request → Option Owning → Option Owning
+sent_by owner p ticket call t before q None = None
+sent_by owner p ticket call t before q (Some asks) = if t == ticket then sent_under owner call (is_live p before) q (session_of p before) else Some asks
+sent_by owner p ticket call t before q (Some (sends c n)) = Some (sends c n)
+sent_by owner p ticket call t before q (Some (owns n create)) = Some (owns n create)
+sent_by owner p ticket call t before q (Some (write_asked n create w)) = if t == w.ticket then Some (write_sent n create w call) else Some (write_asked n create w)
+sent_by owner p ticket call t before q (Some (write_sent n create w c)) = if t == w.ticket then None else Some (write_sent n create w c)
 
 abbrev pub answered_by : List ℕ → List ℕ → List ℕ → ℕ → ℕ → List Item → Option Owning → Option Owning
 answered_by namespace leasing k p call before (Some (sends c n)) =
     if c == call then won_under (owner_key namespace leasing k) p before n (claim_in namespace leasing k (executed_to call before)) else Some (sends c n)
+answered_by namespace leasing k p call before (Some (write_sent n create w c)) =
+    if c == call then (if is_in_time (clock_of p before) w && settles_as namespace leasing w.request (executed_to call before) then Some (owns n create) else None)
+    else Some (write_sent n create w c)
 answered_by namespace leasing k p call before o = o
-
-abbrev pub lost_by : ℕ → Option Owning → Option Owning
-lost_by call (Some (sends c n)) = if c == call then None else Some (sends c n)
-lost_by call o = o
 
 abbrev pub delivered_by : List ℕ → List ℕ → List ℕ → ℕ → ℕ → List Item → Option Owning → Option Owning
 delivered_by namespace leasing k p number before None = None
@@ -164,21 +201,21 @@ delivered_by namespace leasing k p number before (Some o) =
 
 -- of a ticket, behind the items before it
 abbrev pub owned_by : List ℕ → List ℕ → List ℕ → ℕ → ℕ → List Item → Item → Option Owning → Option Owning
-owned_by namespace leasing k p ticket before (item.Asked q t r) o =
-    if q == p then (if writes_over leasing k r then None else if t == ticket then Some asks else o) else o
-owned_by namespace leasing k p ticket before (item.Sent q call member t r) o =
-    if q == p && t == ticket then sent_by (owner_key namespace leasing k) p call before r o else o
+owned_by namespace leasing k p ticket before (item.Asked q t r) o = if q == p then asked_by leasing k ticket t r (clock_of p before) o else o
+owned_by namespace leasing k p ticket before (item.Sent q call member t r) o = if q == p then sent_by (owner_key namespace leasing k) p ticket call t before r o else o
 owned_by namespace leasing k p ticket before (item.Answered call) o = answered_by namespace leasing k p call before o
-owned_by namespace leasing k p ticket before (item.Lost call) o = lost_by call o
+owned_by namespace leasing k p ticket before (item.Lost call) o = unless_so (awaits_call call) o
 owned_by namespace leasing k p ticket before (item.Delivered number) o = delivered_by namespace leasing k p number before o
+owned_by namespace leasing k p ticket before (item.Left q t) o = if q == p then unless_so (has_write t) o else o
 owned_by namespace leasing k p ticket before _ o = o
 
 abbrev pub owned : List ℕ → List ℕ → List ℕ → ℕ → ℕ → List Item → Option Owning
 owned namespace leasing k p ticket items = told_of p None (owned_by namespace leasing k p ticket) items
 
--- In this life the proxy won the key under this session, by the acquire that names some ticket; and since that ticket was asked no request
--- that it served writes the key, its leasing stream brought neither the revoking word for the key, nor a deletion of this ownership, nor a
--- cancellation that names a compaction.
+-- In this life the proxy won the key under this session, by the acquire that names some ticket. Since that ticket was asked its leasing stream
+-- brought neither the revoking word for the key, nor a deletion of this ownership, nor a cancellation that names a compaction; and each
+-- request that it served since then and that writes the key is of the key alone and puts it without a lease, was asked once the key was won and
+-- the one before was done, and was sent as one call, which was answered in time as done or as refused. None of them is still to be answered.
 pub record Owns (namespace leasing k : List ℕ) (p session : ℕ) (items : List Item) : Type 0 where
   pub ticket : ℕ
   pub create : ℕ

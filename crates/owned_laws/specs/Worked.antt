@@ -1,5 +1,5 @@
 -- A worked transcript: a proxy's session is granted, a read of `a` is asked and sent as its acquire, and that is won at revision 7. So the
--- proxy owns `a`, until a write of it is asked.
+-- proxy owns `a`, until a write of it and of other keys is asked.
 use Rattle.std.specs.Prelude.{◌≡◌, ℕ, true, false, codes, List, [], ◌∷◌, ◌++◌, None, Some}
 use Rattle.etcd_types.specs.declared.answer.Answer.TheVariants as answer
 use Rattle.etcd_types.specs.declared.answer.Body.TheVariants as body
@@ -14,15 +14,15 @@ use Rattle.script_text.specs.declared.item.Item.{Item}
 use Rattle.script_text.specs.declared.item.Item.TheVariants as item
 use Rattle.owned_laws.specs.Owned.{owns, owned}
 
-abbrev head : ℕ → Header
+abbrev pub head : ℕ → Header
 head n = record { cluster = 1; member = 1; revision = n; term = 1 }
 
-abbrev granted : List Item
+abbrev pub granted : List Item
 granted =
     item.World 1 (codes "n/") (codes "L/") ∷ item.Started 1 ∷ item.Ticked 1 ∷ item.Sent 1 1 1 0 (request.Grant 10 FIRST_SESSION)
     ∷ item.Executed 1 (answer.Done (record { header = head 1; body = body.Grant FIRST_SESSION 10 })) ∷ item.Answered 1 ∷ []
 
-abbrev won : List Item
+abbrev pub won : List Item
 won =
     granted ++ item.Asked 1 5 (request.Range (range_ask (only (codes "a")))) ∷ item.Sent 1 2 1 5 (request_under (codes "n/") (request.Txn (acquire (codes "L/") (codes "a") FIRST_SESSION)))
     ∷ item.Executed 2 (answer.Done (record { header = head 7; body = body.Txn true (body.Range 0 false [] ∷ body.Put None ∷ []) })) ∷ item.Answered 2 ∷ []
@@ -34,6 +34,7 @@ TheKeyIsOwned = owned (codes "n/") (codes "L/") (codes "a") 1 5 won ≡ Some (ow
 abbrev pub NoOtherIsOwned : Type 0
 NoOtherIsOwned = owned (codes "n/") (codes "L/") (codes "b") 1 5 won ≡ Some Rattle.owned_laws.specs.Owned.asks
 
--- nor once it is asked to write it
+-- nor once it is asked to delete it with other keys
 abbrev pub AWriteTakesIt : Type 0
-AWriteTakesIt = owned (codes "n/") (codes "L/") (codes "a") 1 5 (won ++ item.Asked 1 6 (request.Put (record { key = codes "a"; value = codes "x"; lease = 0; prev_kv = false; ignore_lease = false })) ∷ []) ≡ None
+AWriteTakesIt =
+    owned (codes "n/") (codes "L/") (codes "a") 1 5 (won ++ item.Asked 1 6 (request.Delete (record { range = record { key = codes "a"; end = codes "c" }; prev_kv = false })) ∷ []) ≡ None

@@ -4,6 +4,7 @@
 
 ghost use Rattle.owned_laws.specs.Caches.{EachScriptCaches, EachScriptAnswersSnapshots};
 ghost use Rattle.owned_laws.specs.Worked.{TheKeyIsOwned, NoOtherIsOwned, AWriteTakesIt};
+ghost use Rattle.owned_laws.specs.WorkedWrites.{AreWorked, WritesKeepIt, OthersTakeIt};
 
 /// By the items of a script's transcript: where a proxy is live and owns a key, a plain read of the key is replied by its own line, and so is
 /// a transaction that only reads and compares keys that it owns.
@@ -12,9 +13,17 @@ pub fn scripts_cache()
     ensures snapshots { EachScriptAnswersSnapshots }
 {}
 
-/// Of a worked transcript: the key whose acquire was won is owned, no other is, and a write takes it.
+/// Of a worked transcript: the key whose acquire was won is owned, no other is, and a write of several keys takes it.
 pub fn worked_keys()
     ensures owned { TheKeyIsOwned }
     ensures other { NoOtherIsOwned }
     ensures written { AWriteTakesIt }
+{}
+
+/// Of worked transcripts: a write of an owned key by itself that is done or refused keeps it owned; one that is lost, finds another owner, is
+/// answered too late, puts it with a lease, comes beside another or is left takes it.
+pub fn worked_writes()
+    ensures stages { AreWorked }
+    ensures kept { WritesKeepIt }
+    ensures taken { OthersTakeIt }
 {}

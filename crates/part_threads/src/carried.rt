@@ -42,7 +42,12 @@ pub struct CarriedOf<H: Admits<P>, P> {
 pub(crate) type Carried = CarriedOf<Hub<Core>, Pass<Core>>;
 
 impl Carried {
-    pub(crate) fn pack(place: Place) -> Carried {
+    pub(crate) fn pack(place: Place) -> Carried
+        ensures hub { result.hub ≡ place.hub }
+        ensures hosts { result.hosts ≡ place.hosts }
+        ensures message_limit { result.message_limit ≡ place.message_limit }
+        ensures pass { result.pass ≡ place.pass }
+    {
         let Place {
             hub,
             hosts,
@@ -57,7 +62,12 @@ impl Carried {
         }
     }
 
-    pub(crate) fn unpack(self) -> Place {
+    pub(crate) fn unpack(self) -> Place
+        ensures hub { result.hub ≡ self.hub }
+        ensures hosts { result.hosts ≡ self.hosts }
+        ensures message_limit { result.message_limit ≡ self.message_limit }
+        ensures pass { result.pass ≡ self.pass }
+    {
         let CarriedOf {
             hub,
             hosts,

@@ -1,6 +1,6 @@
-ghost use Rattle.std.specs.Prelude.{◌≡◌, IfErr, None, ◌∷◌, []};
+ghost use Rattle.std.specs.Prelude.{◌≡◌, IfOk, IfErr, IsErr, None, ◌∷◌, []};
 ghost use Rattle.outside.specs.Calls.{Adds, Handed, is_done};
-ghost use Rattle.outside.specs.Faults.{HasCause};
+ghost use Rattle.outside.specs.Faults.{HasCause, one_more};
 ghost use Rattle.outside.specs.declared.parts.Part.{Part};
 ghost use Rattle.proxy_parts.specs.declared.place.Place.{Place};
 
@@ -35,7 +35,9 @@ impl<C> Nothing<C> {
 }
 
 impl<C> Further for Nothing<C> {
-    fn another(&self) -> Result<Nothing<C>, NoMemory> {
+    fn another(&self) -> Result<Nothing<C>, NoMemory>
+        ensures fresh { IfOk result (λ further. further.faults ≡ 0) }
+    {
         Ok(Nothing::new())
     }
 }
@@ -55,6 +57,8 @@ impl<C: Drop> Spawner for Nothing<C> {
         ensures untold { Adds {A = Handed (Part Place C)} None None (record { part = part; started = is_done result } ∷ []) }
         ensures back { IfErr result (λ refused. refused ≡ part) }
         ensures cause { HasCause self.old.faults self.new.faults result }
+        ensures refused { IsErr result }
+        ensures counted { self.new.faults ≡ one_more self.old.faults }
     {
         self.faults = self.faults.saturating_add(1);
         Err(part)

@@ -1,4 +1,4 @@
-ghost use Rattle.std.specs.Prelude.{◌≡◌, IfErr, IfSome, None, ◌∷◌, []};
+ghost use Rattle.std.specs.Prelude.{◌≡◌, IfErr, IfOk, IfSome, None, ◌∷◌, []};
 ghost use Rattle.outside.specs.Calls.{Adds, Handed, is_done};
 ghost use Rattle.outside.specs.Faults.{HasCause};
 ghost use Rattle.outside.specs.declared.parts.Part.{Part};
@@ -90,7 +90,9 @@ where
 }
 
 impl<R: Copy + Drop, C: Drop> Further for Threaded<R, C, Carried> {
-    fn another(&self) -> Result<Server<R, C>, NoMemory> {
+    fn another(&self) -> Result<Server<R, C>, NoMemory>
+        ensures fresh { IfOk result (λ threaded. threaded.faults ≡ 0) }
+    {
         let maker = self.maker.another()?;
         let open = Arc::try_clone(&self.open)?;
         Ok(Threaded {

@@ -39,8 +39,8 @@ use Rattle.core_model.specs.Stepped.{Stepped, gives, faults, counted, counted_by
 use Rattle.core_model.specs.Takes.{item_taken, taken, on_take, watcher_left, left, on_leave}
 use Rattle.core_model.specs.Takes as takes
 use Rattle.core_model.specs.Watching.{taken_item, stream_job, with_watches}
-use Rattle.core_laws.specs.Outcomes.{may_have, Gives, gave, faulted}
-use Rattle.core_laws.proofs.Outcomes.{steps_give, worn_does_nothing}
+use Rattle.core_laws.specs.Steps.Outcomes.{may_have, Gives, gave, faulted}
+use Rattle.core_laws.proofs.Steps.Outcomes.{steps_give, worn_does_nothing}
 use Rattle.core_face.specs.Steps.{takes_no_memory}
 use Rattle.proxy_core.specs.Faults.{IsFaultOf, AnswersFit}
 

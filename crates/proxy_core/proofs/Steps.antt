@@ -17,15 +17,15 @@ use Rattle.core_model.specs.Sessions.{without_session, seat_is_over, deadline_pa
 use Rattle.core_model.specs.State.{Opening, Core}
 use Rattle.core_model.specs.Step.{happened, is_worn, last_number, stepped}
 use Rattle.core_model.specs.Stepped.{Stepped, gives, faults, counted}
-use Rattle.core_laws.specs.Kept.{HeardBytes, IsHeard}
-use Rattle.core_laws.specs.Outcomes.{Gives, gave, faulted}
-use Rattle.core_laws.specs.Staying.{Stays}
-use Rattle.core_laws.proofs.Middle.{clock_whole}
-use Rattle.core_laws.proofs.Outcomes.{steps_give}
-use Rattle.core_laws.proofs.Prefixes.{session_over_same, taken_off_same}
-use Rattle.core_laws.proofs.Staying.{steps_stay}
-use Rattle.core_laws.proofs.Stepping.{steps_keep}
-use Rattle.core_laws.proofs.Whole.{is_ok, of_ok}
+use Rattle.core_laws.specs.Steps.Kept.{HeardBytes, IsHeard}
+use Rattle.core_laws.specs.Steps.Outcomes.{Gives, gave, faulted}
+use Rattle.core_laws.specs.Steps.Staying.{Stays}
+use Rattle.core_laws.proofs.Steps.Middle.{clock_whole}
+use Rattle.core_laws.proofs.Steps.Outcomes.{steps_give}
+use Rattle.core_laws.proofs.Steps.Prefixes.{session_over_same, taken_off_same}
+use Rattle.core_laws.proofs.Steps.Staying.{steps_stay}
+use Rattle.core_laws.proofs.Steps.Stepping.{steps_keep}
+use Rattle.core_laws.proofs.Steps.Whole.{is_ok, of_ok}
 use Rattle.core_face.specs.Steps.{FaultsSo}
 use Rattle.core_machine.specs.Does.{FaultsBy}
 use Rattle.core_machine.specs.Keeping.{Kept, Ranges, on, IsFirst, RangesOk, IsKept}

@@ -10,7 +10,7 @@ use Rattle.core_model.specs.declared.event.StepFault.TheVariants as fault
 use Rattle.core_model.specs.State.{Core}
 use Rattle.core_model.specs.Step.{stepped}
 use Rattle.core_model.specs.Stepped.{gives}
-use Rattle.core_laws.specs.Outcomes.{may_have}
+use Rattle.core_laws.specs.Steps.Outcomes.{may_have}
 use Rattle.core_face.specs.Steps.{FaultsSo, Steps, takes_no_memory}
 
 -- a worn proxy is a fault of any event, and want of memory of each that takes memory

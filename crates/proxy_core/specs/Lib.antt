@@ -1,3 +1,4 @@
 pub mod Calls
 pub mod Happening
 pub mod Faults
+pub mod Figures

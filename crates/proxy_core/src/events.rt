@@ -1,6 +1,6 @@
 ghost use Rattle.std.specs.Prelude.{◌≡◌, ◌≢◌, true, Err, IsOk};
 ghost use Rattle.core_face.specs.Steps.{Steps, takes_no_memory};
-ghost use Rattle.core_laws.specs.Kept.{IsHeard};
+ghost use Rattle.core_laws.specs.Steps.Kept.{IsHeard};
 ghost use Rattle.core_model.specs.declared.event.StepFault.TheVariants.{NoMemory as Wanting};
 ghost use Rattle.core_model.specs.Step.{happened};
 ghost use Rattle.core_machine.specs.Does.{Does};

@@ -6,11 +6,13 @@
 mod asking;
 mod calls;
 mod events;
+mod figures;
 mod proxy;
 mod sending;
 mod woken;
 mod work;
 
 pub use core_model::{CoreEvent, Job, Outcome, Settings, StepFault};
+pub use figures::Figures;
 pub use proxy::Core;
 pub use woken::{WORKERS, lot_of_ticket};

@@ -8,7 +8,7 @@ ghost use Rattle.core_model.specs.State.{first_core};
 ghost use Rattle.core_model.specs.Takes.{peek, ready};
 ghost use Rattle.core_model.specs.declared.event.CoreEvent.TheVariants.{Work};
 ghost use Rattle.core_model.specs.declared.event.Outcome.TheVariants.{Job as JobOf};
-ghost use Rattle.core_laws.specs.Outcomes.{may_have};
+ghost use Rattle.core_laws.specs.Steps.Outcomes.{may_have};
 ghost use Rattle.proxy_core.specs.Faults.{GivesJob, AnswersFit};
 
 use crate::events::step;
@@ -25,7 +25,7 @@ use std::marker::Model;
 /// The machine of one proxy between a cluster and its clients.
 pub struct Core {
     /// Behind a box, since a hub moves its machine in and out at each step.
-    kept: Box<Kept>,
+    pub(crate) kept: Box<Kept>,
     /// Whom the last step at a hub woke.
     woken: Woken,
 }

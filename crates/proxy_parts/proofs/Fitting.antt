@@ -7,7 +7,7 @@ use Rattle.core_model.specs.declared.event.Outcome.TheVariants as outcome
 use Rattle.core_model.specs.declared.event.StepFault.{StepFault}
 use Rattle.core_model.specs.declared.event.StepFault.TheVariants as step
 use Rattle.core_model.specs.State.{Core}
-use Rattle.core_laws.specs.Outcomes.{may_have}
+use Rattle.core_laws.specs.Steps.Outcomes.{may_have}
 use Rattle.proxy_core.specs.Faults.{IsFaultOf, IsAnswerTo, CoreSteps}
 use Rattle.proxy_core.proofs.Faults.{answers_fit}
 use Rattle.server_model.specs.Steps.{FitsOutcome, FitsFault, FitsAnswer}

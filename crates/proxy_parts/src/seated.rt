@@ -12,12 +12,18 @@ use std::snapshot::Snapshot;
 use std::sync::Wait;
 use turn_hub::{Hub, HubFault, Pass};
 
+/// The first rest behind a request lasts so many milliseconds at most, and each further one twice as long as the one before: a client that
+/// leaves soon is noticed soon.
+const FIRST_REST: u64 = 50;
+
 /// A pass at a hub whose core many parts step.
 #[derive(Drop)]
 pub struct Seated<'a, R: Wait> {
     rt: &'a R,
     hub: &'a Hub<Core>,
     pass: Pass<Core>,
+    // how many milliseconds the next rest lasts at most
+    rest: u64,
     // the pass before it was seated
     begun: Snapshot<Pass<Core>>,
     ghost mine: { pass.hub ≡ hub.now },
@@ -40,6 +46,7 @@ impl<'a, R: Wait> Seated<'a, R> {
             rt,
             hub,
             pass,
+            rest: FIRST_REST,
             begun,
         }
     }
@@ -79,6 +86,9 @@ impl<'a, R: Wait> Turn for Seated<'a, R> {
     ghost allowed = { λ s. Grows s.begun.value s.pass };
 
     fn turn<C: Clock>(&mut self, event: CoreEvent, clock: &mut C) -> Result<Outcome, TurnFault> {
+        if matches!(event, CoreEvent::Ask { .. }) {
+            self.rest = FIRST_REST;
+        }
         match self.hub.step(self.rt, &mut self.pass, event, clock) {
             Ok(outcome) => Ok(outcome),
             Err(HubFault::Worn) => Err(TurnFault::Worn),
@@ -87,7 +97,8 @@ impl<'a, R: Wait> Turn for Seated<'a, R> {
     }
 
     fn rest<C: Clock>(&mut self, _clock: &mut C) -> Result<(), TurnFault> {
-        self.hub.wait(self.rt, &mut self.pass);
+        self.hub.wait_at_most(self.rt, &mut self.pass, self.rest);
+        self.rest = self.rest.saturating_mul(2);
         Ok(())
     }
 }

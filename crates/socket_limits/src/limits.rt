@@ -19,6 +19,8 @@ pub struct ConnectionLimits {
 }
 
 impl Default for ConnectionLimits {
+    ghost is_default = { λ l. l ≡ record { first_byte = 600_000; head = 30_000; body = 30_000; write = 30_000; linger = 1_000 } };
+
     /// Ten minutes for a first byte; half a minute for a head, a body and a write; a second for the bytes at the end.
     fn default() -> ConnectionLimits {
         ConnectionLimits {
@@ -58,6 +60,7 @@ impl LinkLimits {
         ensures read { result.read ≡ min 1500 (seconds * 1000 / 3) }
         ensures scan { result.scan ≡ min 4800 (seconds * 1000 / 3) }
         ensures write { result.write ≡ min 5000 (seconds * 1000 / 3) }
+        ensures rest { (result.connect ≡ 1000) × (result.ask ≡ 1500) × (result.silence ≡ 5000) × (result.cut ≡ 600000) }
     {
         // from 15 seconds on, a third is more than each of the three
         let third = seconds.min(15) * 1_000 / 3;

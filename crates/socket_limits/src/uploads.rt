@@ -1,9 +1,11 @@
 //! The memory that large requests take until they are replied to, by the bytes that came of them.
+ghost use Rattle.std.specs.Prelude.{◌≡◌, ◌≤◌, IsTrue, OnOk};
 
 use crate::log::Pace;
 use crate::times::{Until, time};
 use std::alloc::Global;
 use std::io::ErrorKind;
+use std::marker::Model;
 use std::net::{Shutdown, TcpStream};
 use std::rt::Clock as Times;
 use std::sync::atomic::Ordering::SeqCst;
@@ -28,14 +30,24 @@ pub struct Upload {
     // how many bytes came of it, and when the first ones did, by `time`
     bytes: AtomicU64,
     began: u64,
+    // how many milliseconds it stood in the line for room, and since when it stands there, 0 where it doesn't
+    waited: AtomicU64,
+    stands: AtomicU64,
     is_ended: AtomicBool,
 }
 
 impl Upload {
+    // How many milliseconds it had to come in: none of those in which it stood in the line.
+    fn age(&self, now: u64) -> u64 {
+        let stands = self.stands.load(SeqCst);
+        let last = if stands == 0 { now } else { stands.min(now) };
+        last.saturating_sub(self.began)
+            .saturating_sub(self.waited.load(SeqCst))
+    }
+
     // Whether it comes more slowly than another one.
     fn is_slower(&self, other: &Upload, now: u64) -> bool {
-        let ours = now.saturating_sub(self.began);
-        let theirs = now.saturating_sub(other.began);
+        let (ours, theirs) = (self.age(now), other.age(now));
         let (few, many) = (self.bytes.load(SeqCst), other.bytes.load(SeqCst));
         few.saturating_mul(theirs) < many.saturating_mul(ours)
     }
@@ -74,9 +86,20 @@ pub struct Uploads {
     coming: Mutex<Vec<Arc<Upload, Global>>>,
 }
 
+/// They are seen as how many bytes they may have in all.
+impl Model for Uploads {
+    ghost use Rattle.std.specs.Prelude.{ℕ};
+
+    ghost Value = { ℕ };
+
+    ghost view = { λ u. u.most };
+}
+
 impl Uploads {
     /// None, which may have so many bytes in all.
-    pub(crate) fn new(alloc: Global, most: u64) -> Uploads {
+    pub(crate) fn new(alloc: Global, most: u64) -> Uploads
+        ensures { result ≡ most }
+    {
         Uploads {
             most,
             used: AtomicU64::new(0),
@@ -101,6 +124,8 @@ impl Uploads {
             socket: Arc::try_clone(socket)?,
             bytes: AtomicU64::new(0),
             began,
+            waited: AtomicU64::new(0),
+            stands: AtomicU64::new(0),
             is_ended: AtomicBool::new(false),
         };
         let upload = Arc::new(alloc, upload)?;
@@ -122,14 +147,22 @@ impl Uploads {
         upload: &Upload,
         bytes: u64,
         until: Until,
-    ) -> io::Result<()> {
+    ) -> io::Result<()>
+        ensures { OnOk result (bytes ≤ self.now) }
+    {
         upload.bytes.fetch_add(bytes, SeqCst);
         if self.waiting.load(SeqCst) == 0 && self.counts(bytes) {
             return Ok(());
         }
+        let since = time(rt)?;
         let number = self.stand(rt)?;
+        upload.stands.store(since, SeqCst);
         let taken = self.wait(rt, upload, number, bytes, until);
         self.leave(rt, number);
+        upload.stands.store(0, SeqCst);
+        upload
+            .waited
+            .fetch_add(time(rt)?.saturating_sub(since), SeqCst);
         taken
     }
 
@@ -139,7 +172,9 @@ impl Uploads {
     }
 
     // Counts so many bytes, where there is room for them.
-    fn counts(&self, bytes: u64) -> bool {
+    fn counts(&self, bytes: u64) -> bool
+        ensures { IsTrue result → bytes ≤ self.now }
+    {
         let most = self.most;
         self.used
             .fetch_update(SeqCst, SeqCst, |used| {
@@ -175,7 +210,9 @@ impl Uploads {
         number: u64,
         bytes: u64,
         until: Until,
-    ) -> io::Result<()> {
+    ) -> io::Result<()>
+        ensures { OnOk result (bytes ≤ self.now) }
+    {
         for _ in rt.forever() {
             if self.is_first(rt, number) {
                 if self.counts(bytes) {

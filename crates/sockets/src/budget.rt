@@ -1,6 +1,7 @@
 //! How many connections of clients there may be, by the descriptors that the system lets the process have.
 
-ghost use Rattle.std.specs.Prelude.{◌≡◌, ◌≤◌, ◌-◌, ◌/◌, min, max};
+ghost use Rattle.std.specs.Prelude.{◌≡◌, ◌≤◌, ◌<◌, ◌-◌, ◌/◌, min, max, IsSome};
+ghost use Rattle.std.specs.Arc.{arc_value};
 
 use libc::types::rlimit;
 use libc::{RLIMIT_NOFILE, getrlimit};
@@ -63,7 +64,8 @@ impl Budget {
 
     /// So many, or fewer where the system doesn't let the process have as many descriptors.
     pub fn of_system(most: u64) -> Budget
-        ensures { result ≤ most }
+        ensures most { result ≤ most }
+        ensures one { min most 1 ≤ result }
     {
         match descriptors() {
             Some(all) => Budget::new(room(most, all)),
@@ -91,7 +93,9 @@ pub(crate) struct Place {
 
 impl Place {
     /// Takes one, or nothing where all are taken.
-    pub(crate) fn take(budget: &Arc<Budget, Global>) -> Option<Place> {
+    pub(crate) fn take(budget: &Arc<Budget, Global>) -> Option<Place>
+        ensures { IsSome result → 0 < arc_value budget.now }
+    {
         let budget = Arc::try_clone(budget).ok()?;
         let before = budget.taken.fetch_add(1, SeqCst);
         let most = budget.most;

@@ -1,7 +1,11 @@
+ghost use Rattle.std.specs.Prelude.{◌≡◌, ◌<◌, IsSome};
+ghost use Rattle.std.specs.Arc.{arc_value};
+
 use crate::budget::{Budget, Place};
 use etcd_types::Bytes;
 use std::alloc::Global;
 use std::io::Write;
+use std::marker::Model;
 use std::net::{Shutdown, TcpStream};
 use std::sync::{Arc, Mutex, Wait};
 
@@ -56,8 +60,22 @@ pub struct Door {
     refused: Mutex<Refused>,
 }
 
+/// It is seen as how many connections it lets in at once.
+impl Model for Door {
+    ghost use Rattle.std.specs.Prelude.{ℕ};
+
+    ghost Value = { ℕ };
+
+    ghost use Rattle.std.specs.Arc.{arc_value};
+
+    ghost view = { λ d. arc_value d.budget };
+}
+
 impl Door {
-    pub fn new(alloc: Global, budget: Arc<Budget, Global>, refusal: Bytes) -> Door {
+    /// One that lets in as many as there may be, and tells others this.
+    pub fn new(alloc: Global, budget: Arc<Budget, Global>, refusal: Bytes) -> Door
+        ensures { result ≡ arc_value budget }
+    {
         Door {
             budget,
             refusal,
@@ -69,12 +87,16 @@ impl Door {
     }
 
     /// How many may be in at once.
-    pub(crate) fn most(&self) -> u64 {
+    pub(crate) fn most(&self) -> u64
+        ensures { result ≡ self.now }
+    {
         self.budget.most()
     }
 
     /// Lets a connection in, or refuses it.
-    pub(crate) fn admit<R: Wait>(&self, rt: &R, stream: TcpStream) -> Option<Client> {
+    pub(crate) fn admit<R: Wait>(&self, rt: &R, stream: TcpStream) -> Option<Client>
+        ensures { IsSome result → 0 < self.now }
+    {
         match Place::take(&self.budget) {
             Some(place) => Some(Client {
                 stream,

@@ -1,4 +1,5 @@
-ghost use Rattle.std.specs.Prelude.{◌≡◌, ◌==◌, ◌&&◌, None};
+ghost use Rattle.std.specs.Prelude.{◌≡◌, ◌<◌, ◌==◌, ◌&&◌, None, IfOk};
+ghost use Rattle.std.specs.Duration.{as_nanos};
 ghost use Rattle.std.specs.Io.{ReadsAtMost};
 ghost use Rattle.sockets.specs.Phases.{is_between};
 
@@ -79,12 +80,13 @@ fn is_next_near(phase: Phase, began: u64, written: u64) -> bool
 impl<R: Wait + Times + Drop> SocketSource<R> {
     // How long the next read may wait. A body has its limit from its first read on.
     fn left(&mut self) -> io::Result<Duration>
-        ensures { self.new.faults ≡ self.old.faults }
+        ensures some { IfOk result (λ left. 0 < as_nanos left) }
+        ensures faults { self.new.faults ≡ self.old.faults }
     {
         let limits = self.shared.limits;
         match self.phase {
             Phase::Between => Ok(Duration::from_millis(limits.first_byte.min(SLICE).max(1))),
-            Phase::Head(until) | Phase::Body(until) => until.left(&self.rt),
+            Phase::Head(until) | Phase::Body(until) => Ok(until.left(&self.rt)?),
             Phase::Due => {
                 self.phase = Phase::Body(Until::after(&self.rt, limits.body)?);
                 Ok(Duration::from_millis(limits.body.max(1)))

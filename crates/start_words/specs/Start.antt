@@ -51,7 +51,7 @@ more_rules =
     default_rule (codes "leasing-prefix") []
     ∷ default_rule (codes "workers") (codes "8")
     ∷ default_rule (codes "session-ttl") (codes "60")
-    ∷ default_rule (codes "message-limit") (codes "16")
+    ∷ default_rule (codes "message-limit") (codes "64")
     ∷ []
 
 abbrev pub end_rules : List Rule

@@ -120,7 +120,7 @@ fn with_calls<'a>(alloc: Global) -> Result<Command<'a>, AllocError>
         "MIB",
         "How long a message of a watch may be that a member sends, 8 to 64",
     );
-    let message = with_default(message, "16");
+    let message = with_default(message, "64");
     let command = with_places(alloc)?;
     let command = with_option(command, leasing)?;
     let command = with_option(command, workers)?;

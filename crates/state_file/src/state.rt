@@ -1,4 +1,5 @@
 //! The numbers of the sessions that a process begins, in a file where one is named, so that the next process ends those that it left.
+ghost use Rattle.std.specs.Prelude.{◌≤◌, IfSome};
 
 use socket_limits::TRIES;
 use std::alloc::Global;
@@ -59,7 +60,10 @@ fn fill(file: &mut File, room: &mut [u8]) -> io::Result<usize> {
 }
 
 /// The number of a session that a line is.
-fn number_of(line: &[u8]) -> Option<u64> {
+fn number_of(line: &[u8]) -> Option<u64>
+    ensures first { IfSome result (λ number. FIRST ≤ number) }
+    ensures last { IfSome result (λ number. number ≤ LAST) }
+{
     let digits = line.strip_suffix(b"\n".as_slice())?;
     let number = str::from_utf8(digits).ok()?.parse::<u64>().ok()?;
     (FIRST..=LAST).contains(&number).then_some(number)

@@ -12,7 +12,7 @@ use crate::rule::Turns;
 use crate::step::{last_as, look_as, step_as};
 use crate::turn::split_seat;
 use crate::view::{Knows, Opening, Slot, Stowed};
-use crate::waiting::{Rest, Waiting};
+use crate::waiting::{LONGEST_REST, Rest, Waiting};
 use atomic_table::{Table, TableRule};
 use etcd_types::NoMemory;
 use outside::{Clock, Machine};
@@ -184,7 +184,15 @@ impl<M: Machine> Hub<M> {
         requires { pass.old.hub ≡ self.now }
         ensures { pass.new ≡ pass.old }
     {
-        self.waiting.rest(rt, &pass.rest);
+        self.waiting.rest(rt, &pass.rest, LONGEST_REST * 1000);
+    }
+
+    /// The same, but returns after so many milliseconds at the latest, where they are fewer than those.
+    pub fn wait_at_most<R: Wait>(&self, rt: &R, pass: &mut Pass<M>, millis: u64)
+        requires { pass.old.hub ≡ self.now }
+        ensures { pass.new ≡ pass.old }
+    {
+        self.waiting.rest(rt, &pass.rest, millis);
     }
 
     /// Takes the turn for good, and the machine out, which has made the whole history. It may wait for the turn.

@@ -10,7 +10,7 @@
 //!
 //! A thread that finds the turn taken looks for it two thousand times, and then parks. A pass that waits for something to
 //! take rests in its lot, or in its crew, until a step rouses it, and for 10 seconds at most. The clauses say nothing of
-//! waiting: not that a call gets its turn, nor that a wake arrives. The program `hub_trial` races wake-ups.
+//! waiting: not that a call gets its turn, nor that a wake arrives. The program `service_trial` races wake-ups.
 #![tactic(auto)]
 
 mod fault;

@@ -1,5 +1,5 @@
 // Where threads rest. No clause speaks of it: a thread may rest for any time, and a wake too many costs time alone. That
-// no wake-up is lost is argued below, and tried by the program `hub_trial`.
+// no wake-up is lost is argued below, and tried by the program `service_trial`.
 ghost use Rattle.std.specs.Prelude.{◌≡◌};
 
 use crate::turn::{Board, TURN};
@@ -136,9 +136,9 @@ impl Waiting {
         rest.everybody = self.everybody.load(SeqCst);
     }
 
-    // Rests until the pass is roused, or not at all where it was since it last stepped. It counts itself before it
+    // Rests for so many milliseconds at most until the pass is roused, or not at all where it was since it last stepped. It counts itself before it
     // looks once more, and who rouses everybody counts up before it looks who rests: so one sees the other.
-    pub(crate) fn rest<R: Wait>(&self, rt: &R, rest: &Rest) {
+    pub(crate) fn rest<R: Wait>(&self, rt: &R, rest: &Rest, millis: u64) {
         let Some(lot) = self.lots.get(rest.lot as usize) else {
             return;
         };
@@ -146,8 +146,8 @@ impl Waiting {
         self.resting.fetch_add(1, SeqCst);
         if self.everybody.load(SeqCst) == rest.everybody {
             let seen = (rest.changes % (1 << 32)) as u32;
-            lot.changes
-                .park_timeout(rt, seen, Duration::from_secs(LONGEST_REST));
+            let most = Duration::from_millis(millis.min(LONGEST_REST * 1000));
+            lot.changes.park_timeout(rt, seen, most);
         }
         self.resting.fetch_sub(1, SeqCst);
         if rest.lot >= CREWS {

@@ -1,6 +1,6 @@
 -- A worn proxy does nothing; what an event finds holds behind the clock work, and what is to hold of a proxy holds again at each exit.
 use Rattle.std.proofs.Common.{refl, sym}
-use Rattle.core_laws.proofs.Outcomes.{worn_does_nothing}
+use Rattle.core_laws.proofs.Steps.Outcomes.{worn_does_nothing}
 use Rattle.proxy_core.proofs.Steps.{ready_then, count_left, is_done, has_failed}
 use Rattle.proxy_core.proofs.events.step.Goals as goal
 

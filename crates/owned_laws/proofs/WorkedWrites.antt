@@ -1,0 +1,17 @@
+-- The worked transcripts of writes, computed.
+use Rattle.std.proofs.Common.{refl}
+use Rattle.etcd_types.specs.declared.answer.Body.TheBlock as b
+use denote.Hole.Carrier.{hidden}
+use Rattle.owned_laws.specs.WorkedWrites.{AreWorked, WritesKeepIt, OthersTakeIt}
+
+pub stages : AreWorked
+unfolding b.hidden-the_row-Body-0 hidden
+stages = (refl, refl, refl)
+
+pub kept : WritesKeepIt
+unfolding b.hidden-the_row-Body-0 hidden
+kept = (refl, refl, refl)
+
+pub taken : OthersTakeIt
+unfolding b.hidden-the_row-Body-0 hidden
+taken = (refl, refl, refl, refl, refl, refl, refl, refl, refl)
