@@ -3,8 +3,8 @@
 # unknown and many unlike names, nesting without end, digits, blanks and bytes of no text; and then the calls that a proxy
 # makes most. The program is proved and built first, where it isn't yet.
 set -eu
-cd "$(dirname "$0")/../crates/json_bench"
-[ -x out/json_bench ] || rt run > /dev/null
+cd "$(dirname "$0")/../crates/benches"
+[ -x out/benches ] || rt run > /dev/null
 size=4194304
 
 # So many bytes of a text that is repeated.
@@ -15,7 +15,7 @@ repeated() {
 # Tells one body's figures under a name.
 measure() {
     printf '%s: ' "$1"
-    ./out/json_bench "$2"
+    ./out/benches json "$2"
 }
 
 { printf '{"value":"'; repeated AAAA $((size - 16)); printf '"}'; } | measure 'one value' /v3/kv/put
@@ -28,4 +28,4 @@ repeated '{"success":[' $size | measure 'nested' /v3/kv/txn
 { printf '{"lease":'; repeated 1 $((size - 10)); printf '}'; } | measure 'digits' /v3/kv/put
 repeated ' ' $size | measure 'blanks' /v3/kv/put
 head -c $size /dev/zero | tr '\0' '\377' | measure 'no text' /v3/kv/put
-./out/json_bench calls
+./out/benches json calls

@@ -9,8 +9,8 @@
 # connection, without fsync.
 # The program is proved and built first, where it isn't yet.
 set -euo pipefail
-cd "$(dirname "$0")/../crates/store_bench"
-[ -x out/store_bench ] || rt run > /dev/null
+cd "$(dirname "$0")/../crates/benches"
+[ -x out/benches ] || rt run > /dev/null
 work=$(mktemp -d)
 trap 'rm -rf "$work"' EXIT
 first=
@@ -21,7 +21,7 @@ for keys in 1000 100000; do
     for revisions in 1000 100000 1000000; do
         [ "$revisions" -ge "$keys" ] || continue
         echo "$keys keys, $revisions revisions, the least of five runs and the most"
-        for run in 1 2 3 4 5; do $first ./out/store_bench "$keys" "$revisions"; done > "$work/runs"
+        for run in 1 2 3 4 5; do $first ./out/benches store "$keys" "$revisions"; done > "$work/runs"
         awk -F ': ' '{ split($2, words, " "); now = words[1] + 0
             if (!($1 in least)) { names[++count] = $1; least[$1] = most[$1] = now }
             if (now < least[$1]) least[$1] = now
@@ -39,7 +39,7 @@ memory_at() {
 }
 mkfifo "$work/input"
 for keys in 1000 100000; do
-    ./out/store_bench "$keys" 300000 stops < "$work/input" > "$work/told" &
+    ./out/benches store "$keys" 300000 stops < "$work/input" > "$work/told" &
     program=$!
     exec 3> "$work/input"
     made=$(memory_at made "$program")

@@ -14,7 +14,7 @@ No store is looked at, and no proxy. It tests these sentences of docs/PROOFS.md:
     late      one that says that the time is over comes with the first step five seconds after the asking or later; no other reply
               comes then, and no request waits for longer
     acquired  a plain read of a key that is new to its proxy, which is live and hears of ownership keys, is first sent as its acquire
-    cached    a plain read of a key that a live proxy owns is replied in its own line
+    cached    a plain read of a key that a live proxy owns is replied in its own line, also once own writes of it were done
     answered  so is a transaction that only reads and compares keys that it owns
     shared    of each lease at most one keepalive is out for a proxy's clients
 
@@ -162,7 +162,13 @@ class Evaluation:
         self.step(p)
         self.ends(p, ticket)
 
-    take_pending = take_left = take_taken
+    take_pending = take_taken
+
+    def take_left(self, words):
+        p, ticket = words.number(), words.number()
+        self.step(p)
+        self.ends(p, ticket)
+        self.proxies[p].leave(ticket)
 
     # ---- requests
 
@@ -261,20 +267,20 @@ class Evaluation:
         if not answer.code:
             self.stales[key] += revision_of(answer.text) < call.given
             self.give(call.p, revision_of(answer.text))
-        self.end(call, number, lambda k: self.won_at(k, answer))
+        self.end(call, number, lambda k: self.won_at(k, answer), self.is_settled(answer))
         self.proxies[call.p].hear(call.clock, call.request, (answer.code, answer.body))
 
     def take_lost(self, words):
         number = words.number()
         call = self.calls[number]
         self.losses[self.key(call.p, call.ticket)] += 1
-        self.end(call, number, lambda k: 0)
+        self.end(call, number, lambda k: 0, False)
 
-    def end(self, call, number, won_at):
+    def end(self, call, number, won_at, is_settled):
         proxy = self.proxies[call.p]
         was_live = proxy.is_live()
         self.step(call.p)
-        proxy.end_call(number, won_at, was_live)
+        proxy.end_call(number, won_at, was_live, is_settled)
         shared = self.key(call.p, lease_named(call.request))
         if self.keepalive_out.get(shared) == number:
             del self.keepalive_out[shared]
@@ -285,6 +291,11 @@ class Evaluation:
             return None if answer.code else body_without(self.namespace, answer.body)
         except Foreign:
             return None
+
+    def is_settled(self, answer):
+        """A guarded write was done, or surely wasn't."""
+        body = self.heard(answer)
+        return answer.code in NOTHING_DONE if answer.code else body is not None and body[:2] == ("txn", True)
 
     def won_at(self, key, answer):
         body = self.heard(answer)

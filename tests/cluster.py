@@ -1180,8 +1180,8 @@ def halves(world):
     print(f"halves: {count} clients that closed their sending half behind a request had their replies")
 
 
-# so many clients a second may leave as soon as they watch, since each is noticed within ten seconds
-PACE = 16
+# so many clients a second may leave as soon as they watch: each has a thread for some 0.2 s and its stream one for 1.2 s
+PACE = 150
 
 
 def leavers(world):
@@ -1211,7 +1211,7 @@ def leavers(world):
         one.socket.close()
     until(lambda: proxy.counts()[0] <= threads and proxy.files() <= files and world.cluster.watchers() == 0, 25,
           "nothing is left of clients that watched what nobody wrote")
-    count, most, begun = 1_000, 0, time.monotonic()
+    count, most, begun = 10_000, 0, time.monotonic()
     for number in range(count):
         time.sleep(max(0, begun + number / PACE - time.monotonic()))
         one = Watch(proxy.port, {"key": text64(f"one/{number}")})
@@ -1220,11 +1220,12 @@ def leavers(world):
         if number % 20 == 0:
             most = max(most, proxy.counts()[0])
             check(most <= 400, f"{number} clients one after the other, in {time.monotonic() - begun:.0f} s, had {most} threads")
+    took = time.monotonic() - begun
     until(lambda: proxy.counts()[0] <= threads and proxy.files() <= files and world.cluster.watchers() == 0, 25,
           "nothing is left of clients that came one after the other")
     proxy.stop()
     print(f"leavers: 1,800 watches, 1,800 idle connections and 300 watches of distinct idle ranges that went away left no thread, descriptor or watcher; "
-          f"{count} clients one after the other had {most} threads at most")
+          f"{count} clients one after the other, in {took:.0f} s, had {most} threads at most")
 
 
 def canceled(world):
@@ -1315,7 +1316,13 @@ def uploads(world):
 
     for one in large:
         threading.Thread(target=send, args=(one,), daemon=True).start()
-    time.sleep(10)
+    time.sleep(3)
+    # a fresh one, which comes at once, isn't the slowest: the others make room for it
+    begun = time.monotonic()
+    fresh = proxy.post("/v3/kv/put", {"key": text64("u/0"), "value": "v" * 80_000})
+    waited = time.monotonic() - begun
+    check(fresh is not None and fresh[0] == 200, f"a put behind uploads that fill the room, after {waited:.1f} s: {fresh}")
+    time.sleep(7)
     grown = (proxy.counts()[1] - memory) / 1024
     check(grown < 512, f"uploads took {grown:.0f} MB")
     # (the system says so to a client whose socket is read)
@@ -1327,7 +1334,7 @@ def uploads(world):
         one.close()
     until(lambda: (proxy.post("/v3/kv/put", {"key": text64("u/0"), "value": "v" * 80_000}) or (0,))[0] == 200, 10, "a put behind them is done")
     proxy.stop()
-    print(f"uploads: a put of 80,000 bytes took {took:.2f} s beside {count} uploads that stopped; of {len(large) * size >> 20} MB of uploads, which took "
+    print(f"uploads: a put of 80,000 bytes took {took:.2f} s beside {count} uploads that stopped, and {waited:.2f} s where they filled the room; of {len(large) * size >> 20} MB of uploads, which took "
           f"{grown:.0f} MB, {ended} of {len(large)} were ended")
 
 
@@ -1947,7 +1954,7 @@ def lines_of_deletions(world, took):
 def lines_of_a_resumed_watch(world, took):
     """A watch begins a thousand revisions of 12 KB ago."""
     count = 1000
-    proxy = world.proxy("resumed", "--message-limit=64")
+    proxy = world.proxy("resumed")
     first = None
     for number in range(count):
         body = {"key": text64("e/0"), "value": text64(f"{number:04}" * 3072)}
@@ -2142,6 +2149,8 @@ SHORT = [[answers, truth, links, watches, clients], [quiet, quiet_links, quiet_o
 def main(words):
     global PATIENCE
     sys.stdout.reconfigure(line_buffering=True)
+    # a shell that starts this in the background has SIGINT ignored, which what is started here would inherit
+    signal.signal(signal.SIGINT, signal.default_int_handler)
     short = "--short" in words
     PATIENCE *= 4 if short else 1
     program, *names = [word for word in words if word != "--short"]

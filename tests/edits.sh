@@ -1,6 +1,6 @@
 #!/usr/bin/env bash
 # Tries the edits of tests/edits: wrong bodies of crates that are dear to check, which the prover must refuse as it refuses those under
-# must-fail at each gate. Such a crate is checked whole once more for its edits, so this stands outside the gate: some 30 minutes on four processors,
+# must-fail at each gate. Such a crate is checked whole once more for its edits, so this stands outside the gate: some 40 minutes on four processors,
 # reckoned, where a gate on this machine has proved the crates, which is looked up first.
 #
 #     bash tests/edits.sh            # of all these crates

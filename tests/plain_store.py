@@ -191,15 +191,18 @@ class Store:
         records = self.records(newest, pending, namespace)
         match request:
             case Range():
-                return self.range(request, newest, records, namespace)
+                # what a transaction changed so far counts as the next revision
+                if 0 < request.revision <= newest:
+                    records = self.records(request.revision, (), namespace)
+                return self.range(request, newest + bool(pending), records)
             case Put(key, value, lease, flags):
                 old = records.get(key)
+                if lease and lease not in self.leases:
+                    raise Refused(5, "etcdserver: requested lease not found")
                 if "i" in flags:
                     if old is None:
                         raise Refused(3, "etcdserver: key not found")
                     lease = old.lease
-                if lease and lease not in self.leases:
-                    raise Refused(5, "etcdserver: requested lease not found")
                 pending.append(Change(key, value, lease))
                 return "put + " + record_text(old) if "p" in flags and old else "put -"
             case Delete(key, end, flags):
@@ -211,7 +214,7 @@ class Store:
                 bodies = [self.run(op, pending, namespace) for op in (success if held else failure)]
                 return f"txn {'t' if held else 'f'} " + list_text(bodies)
 
-    def range(self, ask, newest, records, namespace):
+    def range(self, ask, newest, records):
         if newest < self.compacted:
             raise Refused(*COMPACTED)
         if ask.revision > newest:
@@ -220,8 +223,6 @@ class Store:
             raise Refused(*COMPACTED)
         if ask.sort and (ask.sort[0] == 2 or any(ask.sort[1:])):
             raise Refused(12, "store: unsupported")
-        if ask.revision:
-            records = self.records(ask.revision, (), namespace)
         found = [record for record in records.values() if is_in(ask.key, ask.end, record.key)]
         shown = [] if "c" in ask.flags else found[: ask.limit or None]
         more = "m" if shown and len(shown) < len(found) else "-"

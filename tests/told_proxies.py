@@ -7,9 +7,10 @@ from dataclasses import dataclass, field
 
 from plain_leasing import REVOKE, covers, is_session, lease_named, leasing_range, refusal_of, written_ranges
 from plain_namespace import Foreign, events_without, range_under
-from plain_store import Put, Range, Txn, is_in
+from plain_store import Delete, Put, Range, Txn, is_in
 
 NOT_FOUND = 5
+REQUEST_TIME = 5000  # milliseconds
 
 
 @dataclass
@@ -29,13 +30,35 @@ class Stream:
 
 
 @dataclass
+class Write:
+    """A write of an owned key that isn't answered, with its proxy's clock as it was asked; its call's number once it was sent."""
+
+    ticket: int
+    since: int
+    call: int | None = None
+
+
+@dataclass
 class Owning:
-    """How far the acquire of a key came that names a ticket: it is out, or the key is owned since a create revision, or all is over."""
+    """How far the acquire of a key came that names a ticket: it is out, or the key is owned since a create revision, or all is over. An
+    owned key may be written by its owner, and isn't owned meanwhile."""
 
     session: int
     call: int
     create: int = 0
     over: bool = False
+    write: Write | None = None
+
+    def is_owned(self):
+        return bool(self.create) and not self.over and self.write is None
+
+    def names(self, ticket):
+        return self.write is not None and self.write.ticket == ticket
+
+
+def keeps(request):
+    """A write of one key that puts it without a lease, or deletes it."""
+    return isinstance(request, Put) and not request.lease or isinstance(request, Delete) and not request.end
 
 
 def puts_under(request, lease):
@@ -83,7 +106,7 @@ class Proxy:
     def owns(self, key):
         """Under its session."""
         number = self.life.session.number
-        return any(o.create and not o.over and o.session == number for o in self.life.owning.get(key, {}).values())
+        return any(o.is_owned() and o.session == number for o in self.life.owning.get(key, {}).values())
 
     # ---- items
 
@@ -101,7 +124,26 @@ class Proxy:
         life.keys |= {key for key, end in ranges if not end}
         if not isinstance(request, Range) and ranges and refusal_of(self.leasing, request) is None:
             life.writes.append((place, ranges))
-            self.end_owning(lambda key: covers(ranges, key))
+            self.write_owned(ticket, request, ranges)
+        else:
+            self.leave(ticket)
+
+    def write_owned(self, ticket, request, ranges):
+        """A write is asked: its keys aren't owned until it was done, nor after it where it writes others too or one wasn't done."""
+        for key, of_tickets in self.life.owning.items():
+            for owning in of_tickets.values():
+                if not covers(ranges, key):
+                    owning.over |= owning.names(ticket)
+                elif owning.is_owned() and keeps(request) and ticket:
+                    owning.write = Write(ticket, self.clock)
+                else:
+                    owning.over = True
+
+    def leave(self, ticket):
+        """What was asked under this ticket is over."""
+        for of_tickets in self.life.owning.values():
+            for owning in of_tickets.values():
+                owning.over |= owning.names(ticket)
 
     def end_owning(self, test, create=None):
         """Those of such keys are over; where a revision is given, those that were owned before it."""
@@ -114,6 +156,7 @@ class Proxy:
         """A call of the proxy that names the ticket."""
         if isinstance(request, Txn):
             self.given_up |= {(c.key, c.operand) for c in request.compares if c.target != "value"}
+        self.send_write(call, ticket)
         if not was_live or ticket not in self.life.asked:
             return
         prefix = self.namespace + self.leasing
@@ -124,6 +167,14 @@ class Proxy:
                 of_tickets[ticket] = Owning(self.life.session.number, call)
                 self.life.acquires[call].append(key)
 
+    def send_write(self, call, ticket):
+        """An own write is sent once."""
+        for of_tickets in self.life.owning.values():
+            for owning in of_tickets.values():
+                if owning.names(ticket):
+                    owning.over |= owning.write.call is not None
+                    owning.write.call = call
+
     def is_untouched(self, key, since):
         """Whether no write of the key was served since then, and the key wasn't to be given up."""
         for place, ranges in reversed(self.life.writes):
@@ -133,8 +184,10 @@ class Proxy:
                 return False
         return max(self.life.revoked.get(key, -1), self.life.compacted) < since
 
-    def end_call(self, call, won_at, was_live):
-        """A call was answered or lost; where it is the acquire of a key, that says at which revision the key was won, or 0."""
+    def end_call(self, call, won_at, was_live, is_settled):
+        """A call was answered or lost; where it is the acquire of a key, that says at which revision the key was won, or 0. Where it is
+        an own write's, that was done or surely wasn't, or else nobody knows."""
+        self.end_write(call, is_settled)
         for key in self.life.acquires.pop(call, []):
             create = won_at(key)
             given_up = (self.namespace + self.leasing + key, create) in self.given_up
@@ -142,6 +195,13 @@ class Proxy:
                 if owning.call == call and not owning.over:
                     owning.over = not (create and was_live and self.life.session.number == owning.session and not given_up)
                     owning.create = create
+
+    def end_write(self, call, is_settled):
+        for of_tickets in self.life.owning.values():
+            for owning in of_tickets.values():
+                if owning.write is not None and owning.write.call == call:
+                    owning.over |= not (is_settled and self.clock < owning.write.since + REQUEST_TIME)
+                    owning.write = None
 
     def hear(self, sent_clock, request, answer):
         """An answer by its code and body: of the grant or a keepalive of its session, or the refusal of an acquire."""
