@@ -31,7 +31,7 @@ class Stream:
 
 @dataclass
 class Write:
-    """A write of an owned key that isn't answered, with its proxy's clock as it was asked; its call's number once it was sent."""
+    """A proxy's own write of a key that isn't answered, with its clock as it was asked; its call's number once it was sent."""
 
     ticket: int
     since: int
@@ -40,20 +40,33 @@ class Write:
 
 @dataclass
 class Owning:
-    """How far the acquire of a key came that names a ticket: it is out, or the key is owned since a create revision, or all is over. An
-    owned key may be written by its owner, and isn't owned meanwhile."""
+    """How far the acquire of a key came that names a ticket: it is out, or the key is owned since a create revision, or all is over. The
+    proxy may write the key meanwhile: its writes go one after the other, once the key is won, and it isn't owned until they are done."""
 
     session: int
     call: int
     create: int = 0
     over: bool = False
-    write: Write | None = None
+    writes: list = field(default_factory=list)
 
     def is_owned(self):
-        return bool(self.create) and not self.over and self.write is None
+        return bool(self.create) and not self.over and not self.writes
 
     def names(self, ticket):
-        return self.write is not None and self.write.ticket == ticket
+        return any(write.ticket == ticket for write in self.writes)
+
+    def send(self, call, ticket):
+        """A call names this ticket: the first write of an owned key is sent, once."""
+        if self.names(ticket):
+            first = self.writes[0]
+            self.over |= not self.create or first.ticket != ticket or first.call is not None
+            first.call = call
+
+    def end(self, call, is_settled, clock):
+        """A call ended: where it was the first write's, the next one begins."""
+        if self.writes and self.writes[0].call == call:
+            first = self.writes.pop(0)
+            self.over |= not (is_settled and clock < first.since + REQUEST_TIME)
 
 
 def keeps(request):
@@ -132,12 +145,10 @@ class Proxy:
         """A write is asked: its keys aren't owned until it was done, nor after it where it writes others too or one wasn't done."""
         for key, of_tickets in self.life.owning.items():
             for owning in of_tickets.values():
-                if not covers(ranges, key):
-                    owning.over |= owning.names(ticket)
-                elif owning.is_owned() and keeps(request) and ticket:
-                    owning.write = Write(ticket, self.clock)
-                else:
-                    owning.over = True
+                owning.over |= owning.names(ticket)
+                if covers(ranges, key):
+                    owning.over |= not (keeps(request) and ticket)
+                    owning.writes.append(Write(ticket, self.clock))
 
     def leave(self, ticket):
         """What was asked under this ticket is over."""
@@ -168,12 +179,9 @@ class Proxy:
                 self.life.acquires[call].append(key)
 
     def send_write(self, call, ticket):
-        """An own write is sent once."""
         for of_tickets in self.life.owning.values():
             for owning in of_tickets.values():
-                if owning.names(ticket):
-                    owning.over |= owning.write.call is not None
-                    owning.write.call = call
+                owning.send(call, ticket)
 
     def is_untouched(self, key, since):
         """Whether no write of the key was served since then, and the key wasn't to be given up."""
@@ -199,9 +207,7 @@ class Proxy:
     def end_write(self, call, is_settled):
         for of_tickets in self.life.owning.values():
             for owning in of_tickets.values():
-                if owning.write is not None and owning.write.call == call:
-                    owning.over |= not (is_settled and self.clock < owning.write.since + REQUEST_TIME)
-                    owning.write = None
+                owning.end(call, is_settled, self.clock)
 
     def hear(self, sent_clock, request, answer):
         """An answer by its code and body: of the grant or a keepalive of its session, or the refusal of an acquire."""

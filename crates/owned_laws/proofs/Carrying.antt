@@ -18,7 +18,7 @@ use Rattle.owned_laws.specs.Owned.{Owning, asks, sends, owns, write_asked, write
 use Rattle.owned_laws.specs.Watched.{AllSpare}
 use Rattle.owned_laws.proofs.Cores.{CoreSo}
 use Rattle.owned_laws.proofs.Kept.{HasCall, Kept, KeysOk, Rescinded, OutsOk}
-use Rattle.owned_laws.proofs.Late.{in_time_before}
+use Rattle.owned_laws.proofs.Late.{all_before}
 use Rattle.owned_laws.proofs.Ways.{OfRescind, JobSo, CallSo, plain}
 
 pub no_true : {A : Type 0} → false ≡ true → A
@@ -73,14 +73,21 @@ less_later a b c h k = omega (arith, h, k)
 -- where the core stays, and its clock doesn't go back
 pub kept_on : (before after : List SentCall) (bound next p life now later : ℕ) (k : List ℕ) (t : ℕ) (o : Owning) (c : Core) → Carry before after → bound ≤ next → now ≤ later → Kept before bound p life now k t o c → Kept after next p life later k t o c
 kept_on before after bound next p life now later k t asks c g l u h = h
-kept_on before after bound next p life now later k t (sends number n) c g l u h = record { own = h.own; call = call_on before after p life number h.own g h.call; below = less_later n bound next h.below l; so = h.so }
-kept_on before after bound next p life now later k t (owns n create) c g l u h = (less_later n bound next h.0 l, h.1)
-kept_on before after bound next p life now later k t (write_asked n create v) c g l u h = record { below = less_later n bound next h.below l; client = h.client; so = λ e. h.so (in_time_before now later v u e) }
-kept_on before after bound next p life now later k t (write_sent n create v number) c g l u h = record {
+kept_on before after bound next p life now later k t (sends number n vs) c g l u h = record {
   own = h.own;
   call = call_on before after p life number h.own g h.call;
   below = less_later n bound next h.below l;
-  so = λ e. h.so (in_time_before now later v u e);
+  clients = h.clients;
+  so = λ e. h.so (all_before now later vs u e);
+}
+kept_on before after bound next p life now later k t (owns n create) c g l u h = (less_later n bound next h.0 l, h.1)
+kept_on before after bound next p life now later k t (write_asked n create v vs) c g l u h = record { below = less_later n bound next h.below l; clients = h.clients; so = λ e. h.so (all_before now later (v ∷ vs) u e) }
+kept_on before after bound next p life now later k t (write_sent n create v vs number) c g l u h = record {
+  own = h.own;
+  call = call_on before after p life number h.own g h.call;
+  below = less_later n bound next h.below l;
+  clients = h.clients;
+  so = λ e. h.so (all_before now later (v ∷ vs) u e);
 }
 
 -- ---- of one proxy

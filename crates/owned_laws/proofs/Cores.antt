@@ -163,10 +163,10 @@ module _ (M : Mode) where
   all_spared p (a ∷ xs) n = ((λ e. n (writes.has_ticket a.ticket)), all_spared p xs n)
 
   -- where no write is the owner's own
-  pub none_late : M.mine ≡ None → (now : ℕ) (c : Core) → OnTime now c
+  pub none_late : M.mine ≡ [] → (now : ℕ) (c : Core) → OnTime now c
   none_late n now c = all_spared (times_out now) (deadline_passed now (begun c)).asks (λ q. no_own M.mine q n)
 
-  pub clock_so : M.mine ≡ None → (now : ℕ) (c : Core) → CoreSo c → CoreSo (clock_work now c)
+  pub clock_so : M.mine ≡ [] → (now : ℕ) (c : Core) → CoreSo c → CoreSo (clock_work now c)
   clock_so n now c t = clock_by now c (none_late n now c) t
 
   -- ---- calls end

@@ -1,9 +1,12 @@
 -- A call of a proxy ends: what items tell of its owned keys goes on, and an acquire that was won makes its key owned.
-use Rattle.std.proofs.Common.{◌≡◌, ℕ, ◌+◌, ◌==◌, Bool, true, false, cond, List, [], ◌∷◌, ◌++◌, Option, None, Some, Ok, refl, sym, ◌∙◌, ap, subst, arith}
+use Rattle.std.proofs.Common.{◌≡◌, ℕ, ◌+◌, ◌==◌, Bool, true, false, cond, not, List, [], ◌∷◌, ◌++◌, Option, None, Some, Ok, refl, sym, ◌∙◌, ap, subst, arith}
+use Rattle.std.specs.List.{list_all}
 use Rattle.etcd_types.specs.declared.answer.Answer.{Answer}
+use Rattle.etcd_types.proofs.Bools.{and_second, and_both}
 use Rattle.etcd_types.proofs.KeyOrder.{same-equal}
 use Rattle.wait_model.specs.declared.write.Write.{Write}
-use Rattle.wait_model.specs.Writes.{is_out_as, sends as sends_own, stage_sends}
+use Rattle.wait_model.specs.Fits.{Fits}
+use Rattle.wait_model.specs.Writes.{sends as sends_own, stage_sends}
 use Rattle.core_model.specs.declared.event.CoreEvent.{CoreEvent}
 use Rattle.core_model.specs.declared.event.CoreEvent.TheVariants as event
 use Rattle.core_model.specs.declared.event.Outcome.{Outcome}
@@ -13,6 +16,8 @@ use Rattle.core_model.specs.Lookups.{live_number, out_at}
 use Rattle.core_model.specs.State.{Seat, Core}
 use Rattle.core_model.specs.Step.{happened, stepped}
 use Rattle.core_model.specs.Stepped.{Stepped}
+use Rattle.core_laws.proofs.Steps.Middle.{clock_whole}
+use Rattle.core_laws.proofs.Steps.Whole.{of_ok}
 use Rattle.core_laws.proofs.Steps.Lists.{same_number, number_itself, number_turned}
 use Rattle.script_text.specs.declared.item.Item.{Item}
 use Rattle.script_text.specs.declared.item.Item.TheVariants as item
@@ -28,14 +33,15 @@ use Rattle.cached_laws.proofs.WaitTold.{Seated, told_seated, seated_behind}
 use Rattle.owned_laws.specs.OwnWrites.{OwnWrite, is_in_time, settles_as}
 use Rattle.owned_laws.specs.Owned.{Owning, asks, sends, owns, write_asked, write_sent, owner_key, gave_up, awaits_call, claim_in, is_numbered}
 use Rattle.owned_laws.proofs.Carrying.{no_true, some_number, some_call, carry_changed, less_later, each_map, plain_so}
-use Rattle.owned_laws.proofs.Standing.{Before, later, mine, agrees, owners, prefix_is, named, Lets, keep}
+use Rattle.owned_laws.proofs.Standing.{Before, later, mine, core_ok, agrees, owners, prefix_is, named, Lets, keep}
 use Rattle.owned_laws.proofs.Cores as cores
 use Rattle.owned_laws.proofs.Cores.{CoreSo}
-use Rattle.owned_laws.proofs.Kept.{HasCall, mine_as, Kept, KeysOk, Rescinded}
-use Rattle.owned_laws.proofs.Late.{AsksOther, on_time}
-use Rattle.owned_laws.proofs.Modes.{IsMine, Mode}
+use Rattle.owned_laws.proofs.Kept.{HasCall, IsSendingIn, Kept, kept_behind, KeysOk, Rescinded}
+use Rattle.owned_laws.proofs.Late.{AsksOther, all_other, all_in_time, all_stay, on_time, waits_on_time}
+use Rattle.owned_laws.proofs.Modes.{IsMine, first_as, Mode}
 use Rattle.owned_laws.proofs.OwnSteps.{own_step_answered}
-use Rattle.owned_laws.proofs.Steps.{Leaves, EndsSo, counted_so, asking_ends, sending_ends, holding_ends, writing_ends, Wins, IsHeldIn, acquire_won}
+use Rattle.owned_laws.proofs.Ready.{IsKeptIn, counted_kept}
+use Rattle.owned_laws.proofs.Steps.{Leaves, EndsSo, asking_ends, sending_ends, holding_ends, writing_ends, Wins, acquire_won}
 use Rattle.owned_laws.proofs.Told.{IsWon, IsDone, AnsweredAs, wins_it, settles_it, answers_other, told_answered, told_lost}
 use Rattle.owned_laws.proofs.Ways.{NotOf, plain, asking, sending_as, holds, writes_own}
 
@@ -51,6 +57,9 @@ module _ {namespace : List ℕ} {items : List Item} {w : World} {p : ℕ} {x : P
 
   abbrev d : Core
   d = clock_work x.clock x.core
+
+  fits : Fits d.own
+  fits = (clock_whole 0 x.clock x.core (of_ok x.core (core_ok known)).mid).mid.reads.ground.keys
 
   -- ---- ends of calls
 
@@ -71,12 +80,12 @@ module _ {namespace : List ℕ} {items : List Item} {w : World} {p : ℕ} {x : P
           absurd (let z : true ≡ false = sym (number_itself number) ∙ ap (λ (y : ℕ). y == number) is ∙ n in cc)
       by false f = refl
 
-  -- a call that is answered isn't the write's own
-  due_apart : (v : OwnWrite) (call : ℕ) (y : Write) → IsMine (mine_as v None) y → sends_own call y ≡ false
-  due_apart v call y i = ap (stage_sends call) i.stage ∙ ap (is_out_as call) i.sends.1
+  -- a call that is answered isn't the first write's own
+  due_apart : (v : OwnWrite) (call : ℕ) (y : Write) → IsMine (first_as v None) y → sends_own call y ≡ false
+  due_apart v call y i = ap (stage_sends call) i.stage.1
 
-  out_apart : (v : OwnWrite) (own call : ℕ) (y : Write) → (own == call) ≡ false → IsMine (mine_as v (Some own)) y → sends_own call y ≡ false
-  out_apart v own call y n i = ap (stage_sends call) i.stage ∙ ap (is_out_as call) i.sends ∙ n
+  out_apart : (v : OwnWrite) (own call : ℕ) (y : Write) → (own == call) ≡ false → IsMine (first_as v (Some own)) y → sends_own call y ≡ false
+  out_apart v own call y n i = ap (stage_sends call) i.stage ∙ n
 
   out_number : (call : ℕ) (out : List OutCall) (o : OutCall) → out_at call out ≡ Some o → o.call ≡ call
   out_number call [] o e = absurd (cc)
@@ -92,15 +101,16 @@ module _ {namespace : List ℕ} {items : List Item} {w : World} {p : ℕ} {x : P
   ends_lets : (e : CoreEvent) (number : ℕ) (call : SentCall) (k : List ℕ) (t : ℕ) (o : Owning) → ((i : ℕ) → AsksOther e i) → ((M : Mode) → EndsSo M d call.own → Leaves M d e) → nth w.calls number ≡ Some call → call.proxy ≡ p → call.life ≡ x.life → awaits_call number o ≡ false
       → Lets known e k t o
   ends_lets e number call k t asks u l i its lived n = λ s. l (asking k t) (asking_ends k t d call.own)
-  ends_lets e number call k t (sends c m) u l i its lived n = λ j v s. l (sending_as k j m) (sending_ends k j m d call.own (owners known) (own_apart number c call j i its lived v n) s)
+  ends_lets e number call k t (sends c m vs) u l i its lived n =
+      (all_other e u vs, λ j v a s. l (sending_as k j m vs a) (sending_ends k j m vs a d call.own (owners known) (own_apart number c call j i its lived v n) s))
   ends_lets e number call k t (owns m create) u l i its lived n = λ y f c z s. l (holds k m y f) (holding_ends k m y f d call.own (owners known) s)
-  ends_lets e number call k t (write_asked m create v) u l i its lived n =
-      (u v.ticket, λ b y f c s. l (writes_own k m (mine_as v None) y f) (writing_ends k m (mine_as v None) y f d call.own (owners known) (λ o g z j. due_apart v o.call z j) s))
-  ends_lets e number call k t (write_sent m create v c) u l i its lived n = (
-    u v.ticket,
-    λ j h b y f g s.
-        l (writes_own k m (mine_as v (Some j)) y f)
-        (writing_ends k m (mine_as v (Some j)) y f d call.own (owners known)
+  ends_lets e number call k t (write_asked m create v vs) u l i its lived n =
+      (all_other e u (v ∷ vs), λ b a y f c s. l (writes_own k m v vs None a y f) (writing_ends k m v vs None a y f d call.own (owners known) (λ o g z j. due_apart v o.call z j) s))
+  ends_lets e number call k t (write_sent m create v vs c) u l i its lived n = (
+    all_other e u (v ∷ vs),
+    λ j h b a y f g s.
+        l (writes_own k m v vs (Some j) a y f)
+        (writing_ends k m v vs (Some j) a y f d call.own (owners known)
         (λ o g' z q. out_apart v j o.call z (ap (λ (m : ℕ). j == m) (out_number call.own d.out o g') ∙ number_turned call.own j (own_apart number c call j i its lived h n)) q) s),
   )
 
@@ -137,47 +147,55 @@ module _ {namespace : List ℕ} {items : List Item} {w : World} {p : ℕ} {x : P
   won_kept : (number : ℕ) (call : SentCall) (a : Answer) (o : Outcome) (k : List ℕ) (t : ℕ) (own : Owning) → nth w.calls number ≡ Some call → call.executed ≡ Some a → (stepped x.core (event.Answer call.own a) x.clock).outcome ≡ Ok o → IsWon nsp lea k p t items number own
       → Kept (with_nth w.calls number (record call { settled = true })) next p x.life x.clock k t own (stepped x.core (event.Answer call.own a) x.clock).core
   won_kept number call a o k t own e ran is v =
-      let s = (mine known).keys k t (sends number v.n) v.sent in
+      let s = (mine known).keys k t (sends number v.n v.writes) v.sent in
       let one = some_call s.call.call call (sym s.call.there ∙ e) in
       let m : s.own ≡ call.own = sym s.call.own_is ∙ ap (λ (y : SentCall). y.own) one in
       let ev = event.Answer call.own a in
       let gave' = gave x.core ev x.clock o is in
       let T = Rescinded nsp lea items p in
       let sits = seated v.n v.numbered v.live in
-      let wins : Wins k v.n call.own x.clock a v.create d = record {
-        stands = cores.clock_so (sending_as k call.own v.n) refl x.clock x.core (subst (λ (y : ℕ). CoreSo (sending_as k y v.n) x.core) m s.so);
+      subst (λ (y : Owning). Kept (with_nth w.calls number (record call { settled = true })) next p x.life x.clock k t y (stepped x.core ev x.clock).core) (sym v.won)
+      (kept_behind (with_nth w.calls number (record call { settled = true })) next p x.life x.clock k t v.n v.create v.writes (stepped x.core ev x.clock).core (less_later v.n (bound_of w) next s.below (later known)) s.clients
+      (λ early.
+      let u = subst (λ (y : ℕ). IsSendingIn k y v.n v.writes x.core) m (s.so early) in
+      let M = sending_as k call.own v.n v.writes u.alone in
+      let wins : Wins k v.n call.own x.clock v.writes a v.create d = record {
+        alone = u.alone;
+        stands = cores.clock_by M x.clock x.core (waits_on_time x.clock k call.own v.n v.writes u.alone early x.core u.asked) u.so;
         agrees = agrees known;
         live = seated_number v.n d.seat (seated_behind v.n x.clock x.core sits);
         claim = ap (λ (l : List ℕ). claim_in l d.own.waits.prefix k (Some a)) (named known) ∙ ap (λ (l : List ℕ). claim_in nsp l k (Some a)) (prefix_is known) ∙ ap (claim_in nsp lea k) (sym ((known.beside.sessions.calls number).ran ∙ ap ran_to e ∙ ran)) ∙ v.claim;
         outs = each_map T (NotOf k v.create) (not_of k v.create v.kept) d.own.waits.out (cores.clock_so (plain [] T) refl x.clock x.core (plain_so T x.core (mine known).outs) tt tt).0.outs;
-      } in
-      let r = acquire_won k v.n call.own x.clock v.create d a wins in
-      subst (λ (y : Owning). Kept (with_nth w.calls number (record call { settled = true })) next p x.life x.clock k t y (stepped x.core ev x.clock).core) (sym v.won) (
-        less_later v.n (bound_of w) next s.below (later known),
-        subst (λ (z : Stepped). IsHeldIn k v.n v.create z.core) (sym (stepped_is x.core ev x.clock gave'.0))
-            (record { entry = r.entry; held = r.held; created = r.created; so = counted_so (holds k v.n r.entry r.held) (happened x.clock ev d) r.so }),
-      )
+      } in (
+        subst (λ (z : Stepped). IsKeptIn k v.n v.create v.writes z.core) (sym (stepped_is x.core ev x.clock gave'.0)) (counted_kept k v.n v.create v.writes (happened x.clock ev d) (acquire_won k v.n call.own x.clock v.writes v.create d a wins)),
+        all_stay v.writes x.core ev x.clock (core_ok known) (all_other ev (λ i. tt) v.writes) u.asked,
+      )))
 
-  -- the write's own call is answered, in time
+  -- the first write's own call is answered, in time
   done_kept : (number : ℕ) (call : SentCall) (a : Answer) (o : Outcome) (k : List ℕ) (t : ℕ) (own : Owning) → nth w.calls number ≡ Some call → call.executed ≡ Some a → (stepped x.core (event.Answer call.own a) x.clock).outcome ≡ Ok o → IsDone nsp lea k p t items number own
       → Kept (with_nth w.calls number (record call { settled = true })) next p x.life x.clock k t own (stepped x.core (event.Answer call.own a) x.clock).core
   done_kept number call a o k t own e ran is u =
       let v = u.write in
-      let s = (mine known).keys k t (write_sent u.n u.create v number) u.sent in
+      let vs = u.behind in
+      let s = (mine known).keys k t (write_sent u.n u.create v vs number) u.sent in
       let one = some_call s.call.call call (sym s.call.there ∙ e) in
       let m : s.own ≡ call.own = sym s.call.own_is ∙ ap (λ (y : SentCall). y.own) one in
       let ev = event.Answer call.own a in
       let gave' = gave x.core ev x.clock o is in
-      let early = ap (λ (i : ℕ). is_in_time i v) (sym (known.beside.sessions.places p x known.there).clock) ∙ u.in_time in
-      let h = s.so early in
+      let soon = ap (λ (i : ℕ). is_in_time i v) (sym (known.beside.sessions.places p x known.there).clock) ∙ u.in_time in
       let settled = ap (λ (l : List ℕ). settles_as l d.own.waits.prefix v.request (Some a)) (named known) ∙ ap (λ (l : List ℕ). settles_as nsp l v.request (Some a)) (prefix_is known)
       ∙ ap (settles_as nsp lea v.request) (sym ((known.beside.sessions.calls number).ran ∙ ap ran_to e ∙ ran)) ∙ u.settled in
-      let r = own_step_answered k u.n (mine_as v (Some s.own)) h.entry h.writing x.clock call.own a x.core o gave'.0 (on_time k u.n (mine_as v (Some s.own)) h.entry h.writing v.since x.clock early x.core h.asked)
-      (ap (λ (i : ℕ). Some i) m) (agrees known) gave'.1 settled h.so in
-      subst (λ (y : Owning). Kept (with_nth w.calls number (record call { settled = true })) next p x.life x.clock k t y (stepped x.core ev x.clock).core) (sym u.again) (
-        less_later u.n (bound_of w) next s.below (later known),
-        record { entry = r.entry; held = r.held; created = r.created ∙ h.created; so = r.so },
-      )
+      subst (λ (y : Owning). Kept (with_nth w.calls number (record call { settled = true })) next p x.life x.clock k t y (stepped x.core ev x.clock).core) (sym u.again)
+      (kept_behind (with_nth w.calls number (record call { settled = true })) next p x.life x.clock k t u.n u.create vs (stepped x.core ev x.clock).core (less_later u.n (bound_of w) next s.below (later known))
+      (and_second (not (v.ticket == 0)) (list_all (λ v. not (v.ticket == 0)) vs) s.clients)
+      (λ rest.
+      let early = and_both (is_in_time x.clock v) (all_in_time x.clock vs) soon rest in
+      let h = s.so early in
+      let g = h.begun in
+      let r = own_step_answered k u.n v vs s.own g.alone g.entry g.writing x.clock call.own a x.core o gave'.0 (on_time x.clock k u.n v vs (Some s.own) g.alone g.entry g.writing early x.core h.asked) m (agrees known) fits gave'.1 settled g.so in (
+        subst (λ (c : ℕ). IsKeptIn k u.n c vs (stepped x.core ev x.clock).core) g.created r,
+        all_stay vs x.core ev x.clock (core_ok known) (all_other ev (λ i. tt) vs) h.asked.1,
+      )))
 
   pub answered_keys : (number : ℕ) (call : SentCall) (a : Answer) (o : Outcome) → nth w.calls number ≡ Some call → call.proxy ≡ p → call.life ≡ x.life → call.executed ≡ Some a → (stepped x.core (event.Answer call.own a) x.clock).outcome ≡ Ok o
       → KeysOk nsp lea next (with_nth w.calls number (record call { settled = true })) (items ++ item.Answered number ∷ []) p x.life x.clock (stepped x.core (event.Answer call.own a) x.clock).core

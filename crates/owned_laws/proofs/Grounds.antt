@@ -100,14 +100,10 @@ module _ (M : Mode) where
       mark : at (with_at g.own.waits.spoiled k (Some false)) k ≡ Some false
       mark = at-with_at g.own.waits.spoiled k k (Some false) ∙ ap (λ (b : Bool). cond b (Some false) (at g.own.waits.spoiled k)) (same-itself k)
 
-      unwritten : (q : Option Mine) → (is_some q ≡ true → ⊥) → OverOf k q g.own.waits.writes
-      unwritten None n = f.unwritten
-      unwritten (Some m) n = absurd (n refl)
-
       none : {A : Type 0} (x : Entry) → ◌≡◌ {A = Option Entry} (Some x) None → A
       none x e = absurd (cc)
 
-      by : (M.If None × (M.Then None → (M.hold ≡ true → ⊥) → M.Then (Some new))) ⊎ (((xs : List _) → M.Outs xs) × (M.Then (Some new) × (M.hold ≡ true → ⊥))) → OwnSo M (acquire_begun k g.own) × M.Then (at (with_at g.acquires k (Some new)) k)
+      by : (M.If None × (M.Then None → (M.hold ≡ true → ⊥) → M.Then (Some new))) ⊎ (((xs : List _) → M.Outs xs) × (M.Then (Some new) × ((M.hold ≡ true → ⊥) × (M.mine ≡ [])))) → OwnSo M (acquire_begun k g.own) × M.Then (at (with_at g.acquires k (Some new)) k)
       by (inl c) =
           let r = t (subst M.If (sym f.acquire) c.0) in
           let unheld : M.hold ≡ true → ⊥ = λ y. none M.entry (sym (r.0.entry y) ∙ f.entry) in (
@@ -115,7 +111,7 @@ module _ (M : Mode) where
             subst M.Then (sym is) (c.1 (subst M.Then f.acquire r.1) unheld),
           )
       by (inr c) = (
-        record { outs = c.0 g.own.waits.out; over = λ y. unwritten M.mine (λ z. c.1.1 (M.writes z)); mark = λ y. mark; entry = λ y. absurd (c.1.1 y) },
+        record { outs = c.0 g.own.waits.out; over = λ y. subst (λ (ms : List Mine). OverOf k ms g.own.waits.writes) (sym c.1.1.1) f.unwritten; mark = λ y. mark; entry = λ y. absurd (c.1.1.0 y) },
         subst M.Then (sym is) c.1.0,
       )
 

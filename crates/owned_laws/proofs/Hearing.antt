@@ -1,9 +1,11 @@
 -- What a proxy hears lets its owned keys be: ticks, requests that write other keys, and messages that tell of no revocation.
-use Rattle.std.proofs.Common.{◌≡◌, ℕ, ◌+◌, ◌==◌, ◌<◌, Bool, true, false, cond, not, ◌&&◌, List, [], ◌∷◌, ◌++◌, Option, None, Some, Ok, refl, sym, ◌∙◌, ap, subst, arith}
+use Rattle.std.proofs.Common.{◌≡◌, ℕ, ◌+◌, ◌==◌, ◌<◌, Bool, true, false, cond, not, ◌&&◌, ◌||◌, List, [], ◌∷◌, ◌++◌, Option, None, Some, Ok, refl, sym, ◌∙◌, ap, subst, arith}
+use Rattle.std.specs.List.{list_any}
 use Rattle.etcd_types.specs.declared.request.Request.{Request}
 use Rattle.etcd_types.specs.declared.watch.WatchItem.{WatchItem}
 use Rattle.etcd_types.specs.declared.watch.WatchItem.TheVariants as watch
 use Rattle.etcd_types.specs.Keys.{same}
+use Rattle.etcd_types.proofs.Bools.{and_first, and_second}
 use Rattle.proxy_model.specs.declared.session.TheConstants.{FIRST_SESSION}
 use Rattle.proxy_model.specs.SeveralKeys.{written_ranges}
 use Rattle.proxy_model.specs.Unwrapped.{item_without}
@@ -28,6 +30,7 @@ use Rattle.cached_laws.specs.Reads.{is_served}
 use Rattle.cached_laws.specs.Streams.{leasing_of}
 use Rattle.cached_laws.proofs.NewTold.{next_is}
 use Rattle.cached_laws.proofs.Steps.{stepped_is, clock_leasing}
+use Rattle.owned_laws.specs.OwnWrites.{OwnWrite, keeps_over}
 use Rattle.owned_laws.specs.Owned.{Owning, asks, sends, owns, write_asked, write_sent, message_revokes, told_revokes, is_stream, writes_over, has_write, create_of, owned}
 use Rattle.owned_laws.specs.Watched.{AllSpare}
 use Rattle.owned_laws.proofs.Carrying.{no_true, carry_itself, unwatched}
@@ -35,10 +38,19 @@ use Rattle.owned_laws.proofs.Standing.{Before, here, mine, agrees, due, prefix_i
 use Rattle.owned_laws.proofs.Cores.{CoreSo, PassesIn, Passes}
 use Rattle.owned_laws.proofs.Modes.{Mode}
 use Rattle.owned_laws.proofs.Steps.{happened_so, counted_so, unasked_so}
-use Rattle.owned_laws.proofs.Kept.{mine_as, Kept, KeysOk}
-use Rattle.owned_laws.proofs.OwnKept.{unknown_gives, own_begins_kept}
+use Rattle.owned_laws.proofs.Kept.{Kept, KeysOk}
+use Rattle.owned_laws.proofs.Late.{AllOther, all_other}
+use Rattle.owned_laws.proofs.OwnKept.{unknown_gives, joined_kept}
 use Rattle.owned_laws.proofs.Told.{AskedAs, begins_it, writes_it, asks_other, told_asked, told_delivered, all_spare}
 use Rattle.owned_laws.proofs.Ways.{OfRescind, plain, asking, sending_as, holds, writes_own}
+
+or_none : (a b : Bool) → a || b ≡ false → (a ≡ false) × (b ≡ false)
+or_none true b h = absurd (cc)
+or_none false b h = (refl, h)
+
+off_it : (b : Bool) → not b ≡ true → b ≡ false
+off_it true e = absurd (cc)
+off_it false e = refl
 
 module _ {namespace : List ℕ} {items : List Item} {w : World} {p : ℕ} {x : Place} (known : Before namespace items w p x) where
   abbrev next : ℕ
@@ -73,10 +85,10 @@ module _ {namespace : List ℕ} {items : List Item} {w : World} {p : ℕ} {x : P
 
   pub tick_lets : (k : List ℕ) (t : ℕ) (o : Owning) → Lets known (event.Tick (word w)) k t o
   tick_lets k t asks = λ s. tt
-  tick_lets k t (sends number n) = λ m c s. tt
+  tick_lets k t (sends number n vs) = (all_other (event.Tick (word w)) (λ i. tt) vs, λ m c a s. tt)
   tick_lets k t (owns n create) = λ e f c l s. drawn n l
-  tick_lets k t (write_asked n create v) = (tt, λ l e f c s. drawn n l)
-  tick_lets k t (write_sent n create v number) = (tt, λ m c l e f g s. drawn n l)
+  tick_lets k t (write_asked n create v vs) = (all_other (event.Tick (word w)) (λ i. tt) (v ∷ vs), λ l a e f c s. drawn n l)
+  tick_lets k t (write_sent n create v vs number) = (all_other (event.Tick (word w)) (λ i. tt) (v ∷ vs), λ m c l a e f g s. drawn n l)
 
   -- ---- requests
 
@@ -87,12 +99,16 @@ module _ {namespace : List ℕ} {items : List Item} {w : World} {p : ℕ} {x : P
       by None f g = g
       by (Some r) f g = absurd (cc)
 
+  others : (ticket draw : ℕ) (q : Request) (vs : List OwnWrite) → list_any (λ v. ticket == v.ticket) vs ≡ false → AllOther (event.Ask ticket q draw) vs
+  others ticket draw q [] n = tt
+  others ticket draw q (v ∷ vs) n = let r = or_none (ticket == v.ticket) (list_any (λ v. ticket == v.ticket) vs) n in (r.0, others ticket draw q vs r.1)
+
   ask_lets : (k : List ℕ) (t : ℕ) (o : Owning) (ticket draw : ℕ) (q : Request) → writes_over lea k q ≡ false → has_write ticket o ≡ false → Lets known (event.Ask ticket q draw) k t o
   ask_lets k t asks ticket draw q n h = λ s. misses k true q n
-  ask_lets k t (sends number m) ticket draw q n h = λ i c s. misses k true q n
+  ask_lets k t (sends number m vs) ticket draw q n h = (others ticket draw q vs h, λ i c a s. misses k true q n)
   ask_lets k t (owns m create) ticket draw q n h = λ e f c l s. misses k true q n
-  ask_lets k t (write_asked m create v) ticket draw q n h = (h, λ l e f c s. misses k true q n)
-  ask_lets k t (write_sent m create v number) ticket draw q n h = (h, λ i j l e f c s. misses k true q n)
+  ask_lets k t (write_asked m create v vs) ticket draw q n h = (others ticket draw q (v ∷ vs) h, λ l a e f c s. misses k true q n)
+  ask_lets k t (write_sent m create v vs number) ticket draw q n h = (others ticket draw q (v ∷ vs) h, λ i j l a e f c s. misses k true q n)
 
   -- the ticket is asked here
   begun_so : (k : List ℕ) (ticket draw : ℕ) (q : Request) (o : Outcome) → writes_over lea k q ≡ false → (stepped x.core (event.Ask ticket q draw) x.clock).outcome ≡ Ok o → CoreSo (asking k ticket) (stepped x.core (event.Ask ticket q draw) x.clock).core
@@ -110,9 +126,10 @@ module _ {namespace : List ℕ} {items : List Item} {w : World} {p : ℕ} {x : P
       by (begins_it n i j) =
           subst (λ (y : Owning). Kept w.calls next p x.life x.clock k t y (stepped x.core (event.Ask ticket q draw) x.clock).core) (sym j)
           (subst (λ (m : ℕ). CoreSo (asking k m) (stepped x.core (event.Ask ticket q draw) x.clock).core) i (begun_so k ticket draw q o n is))
-      by (writes_it n create u over keeps client j) =
-          subst (λ (y : Owning). Kept w.calls next p x.life x.clock k t y (stepped x.core (event.Ask ticket q draw) x.clock).core) (sym j)
-          (own_begins_kept known k t ticket draw q o n create (clock_of p before) (sym (same k t) ∙ u) over keeps client (clock ∙ (known.beside.sessions.places p x known.there).clock) is)
+      by (writes_it y u over may j) =
+          let parts = and_first (keeps_over lea k q && not (ticket == 0)) (not (has_write ticket y)) may in
+          joined_kept known k t draw (record { ticket = ticket; request = q; since = clock_of p before }) o over (and_first (keeps_over lea k q) (not (ticket == 0)) parts) (off_it (ticket == 0) (and_second (keeps_over lea k q) (not (ticket == 0)) parts))
+          (clock ∙ (known.beside.sessions.places p x known.there).clock) is y own (sym (same k t) ∙ u) (off_it (has_write ticket y) (and_second (keeps_over lea k q && not (ticket == 0)) (not (has_write ticket y)) may)) j
       by (asks_other n e h) = keep known (event.Ask ticket q draw) k t own w.calls (carry_itself w.calls) (ask_lets k t own ticket draw q n h) ((mine known).keys k t own (sym (same k t) ∙ e))
 
   -- ---- messages
@@ -158,10 +175,10 @@ module _ {namespace : List ℕ} {items : List Item} {w : World} {p : ℕ} {x : P
 
     item_lets : (k : List ℕ) (t : ℕ) (o : Owning) → is_stream number (leasing_of nsp lea p items) && told_revokes nsp lea k (create_of o) (next_message number items) ≡ false → Lets known (event.Item s.own i) k t o
     item_lets k t asks n = λ u. passes_in k None (asking k t) refl (λ y. no_true y) n
-    item_lets k t (sends c m) n = λ j v u. passes_in k None (sending_as k j m) refl (λ y. no_true y) n
+    item_lets k t (sends c m vs) n = (all_other (event.Item s.own i) (λ j. tt) vs, λ j v a u. passes_in k None (sending_as k j m vs a) refl (λ y. no_true y) n)
     item_lets k t (owns m create) n = λ e f c l u. passes_in k (Some create) (holds k m e f) refl (λ y. no_some e.create create c) n
-    item_lets k t (write_asked m create v) n = (tt, λ l e f c u. passes_in k (Some create) (writes_own k m (mine_as v None) e f) refl (λ y. no_some e.create create c) n)
-    item_lets k t (write_sent m create v sent) n = (tt, λ j g l e f c u. passes_in k (Some create) (writes_own k m (mine_as v (Some j)) e f) refl (λ y. no_some e.create create c) n)
+    item_lets k t (write_asked m create v vs) n = (all_other (event.Item s.own i) (λ j. tt) (v ∷ vs), λ l a e f c u. passes_in k (Some create) (writes_own k m v vs None a e f) refl (λ y. no_some e.create create c) n)
+    item_lets k t (write_sent m create v vs sent) n = (all_other (event.Item s.own i) (λ j. tt) (v ∷ vs), λ j g l a e f c u. passes_in k (Some create) (writes_own k m v vs (Some j) a e f) refl (λ y. no_some e.create create c) n)
 
     pub item_keys : KeysOk nsp lea next w.calls (items ++ item.Delivered number ∷ []) p x.life x.clock (stepped x.core (event.Item s.own i) x.clock).core
     item_keys k t o f = let u = told_delivered nsp lea k p t items number o f in keep known (event.Item s.own i) k t o w.calls (carry_itself w.calls) (item_lets k t o u.1) ((mine known).keys k t o u.0)

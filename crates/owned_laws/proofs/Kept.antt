@@ -1,5 +1,6 @@
 -- What is so of a proxy where items tell how far an acquire, or a write, of a key came.
-use Rattle.std.proofs.Common.{◌≡◌, ℕ, ◌==◌, ◌<◌, true, false, List, Option, None, Some}
+use Rattle.std.proofs.Common.{◌≡◌, ℕ, ◌==◌, ◌<◌, Bool, true, false, not, List, [], ◌∷◌, Option, None, Some, refl}
+use Rattle.std.specs.List.{list_all}
 use Rattle.proxy_model.specs.declared.lease.Entry.{Entry}
 use Rattle.proxy_model.specs.declared.lease.Phase.TheVariants.{Writing}
 use Rattle.core_model.specs.declared.event.CoreEvent.{CoreEvent}
@@ -12,12 +13,13 @@ use Rattle.core_fits.specs.Fits.{EachOf}
 use Rattle.script_text.specs.declared.item.Item.{Item}
 use Rattle.world_model.specs.declared.sent_call.SentCall.{SentCall}
 use Rattle.world_model.specs.Places.{nth}
-use Rattle.owned_laws.specs.OwnWrites.{OwnWrite, is_in_time}
-use Rattle.owned_laws.specs.Owned.{Owning, asks, sends, owns, write_asked, write_sent, owner_key, gave_up, owned}
+use Rattle.owned_laws.specs.OwnWrites.{OwnWrite}
+use Rattle.owned_laws.specs.Owned.{Owning, asks, sends, owns, write_asked, write_sent, owned_behind, owner_key, gave_up, owned}
 use Rattle.owned_laws.proofs.Cores.{CoreSo, Stands}
-use Rattle.owned_laws.proofs.Late.{AskedAt, AsksOther, stays_at, on_time}
-use Rattle.owned_laws.proofs.Modes.{Mine}
-use Rattle.owned_laws.proofs.Steps.{IsHeldIn, Leaves, steps_by}
+use Rattle.owned_laws.proofs.Late.{AllAskedAt, AllOther, all_in_time, all_stay, on_time, waits_on_time}
+use Rattle.owned_laws.proofs.Modes.{AllAlone, first_as, behind_as}
+use Rattle.owned_laws.proofs.Ready.{IsHeldIn, IsBegunIn, IsKeptIn}
+use Rattle.owned_laws.proofs.Steps.{Leaves, steps_by}
 use Rattle.owned_laws.proofs.Ways.{OfRescind, CallSo, asking, sending_as, writes_own}
 
 -- this call of the proxy's life, by its own number
@@ -28,44 +30,58 @@ pub record HasCall (calls : List SentCall) (p life number own : ℕ) : Type 0 wh
   pub mine : call.proxy ≡ p
   pub lives : call.life ≡ life
 
-pub record IsSending (calls : List SentCall) (bound p life : ℕ) (k : List ℕ) (number n : ℕ) (c : Core) : Type 0 where
+-- the acquire is out under its own number, and these writes wait for it
+pub record IsSendingIn (k : List ℕ) (own n : ℕ) (vs : List OwnWrite) (c : Core) : Type 0 where
+  pub alone : AllAlone k (behind_as vs)
+  pub asked : AllAskedAt vs c.asks
+  pub so : CoreSo (sending_as k own n vs alone) c
+
+-- at this reading of the clock: as long as their requests aren't late
+abbrev pub Sends : List ℕ → ℕ → ℕ → ℕ → List OwnWrite → Core → Type 0
+Sends k now own n vs c = all_in_time now vs ≡ true → IsSendingIn k own n vs c
+
+abbrev pub are_clients : List OwnWrite → Bool
+are_clients vs = list_all (λ v. not (v.ticket == 0)) vs
+
+pub record IsSending (calls : List SentCall) (bound p life : ℕ) (k : List ℕ) (now number n : ℕ) (vs : List OwnWrite) (c : Core) : Type 0 where
   pub own : ℕ
   pub call : HasCall calls p life number own
   pub below : n < bound
-  pub so : CoreSo (sending_as k own n) c
+  pub clients : are_clients vs ≡ true
+  pub so : Sends k now own n vs c
 
--- the write of the owner, whose call is due, or out under its own number
-abbrev pub mine_as : OwnWrite → Option ℕ → Mine
-mine_as w own = record { ticket = w.ticket; request = w.request; call = own }
+-- the writes of the owner, the call of the first of which is due, or out under its own number
+pub record IsWriting (k : List ℕ) (n create : ℕ) (v : OwnWrite) (vs : List OwnWrite) (own : Option ℕ) (c : Core) : Type 0 where
+  pub begun : IsBegunIn k n create v vs own c
+  pub asked : AllAskedAt (v ∷ vs) c.asks
 
-pub record IsWriting (k : List ℕ) (n create : ℕ) (w : OwnWrite) (own : Option ℕ) (c : Core) : Type 0 where
-  pub entry : Entry
-  pub writing : entry.phase ≡ Writing false
-  pub created : entry.create ≡ create
-  pub asked : AskedAt w.ticket w.since c.asks
-  pub so : CoreSo (writes_own k n (mine_as w own) entry writing) c
+abbrev pub Writes : List ℕ → ℕ → ℕ → ℕ → OwnWrite → List OwnWrite → Option ℕ → Core → Type 0
+Writes k now n create v vs own c = all_in_time now (v ∷ vs) ≡ true → IsWriting k n create v vs own c
 
--- at this reading of the clock: as long as its request isn't late
-abbrev pub Writes : List ℕ → ℕ → ℕ → ℕ → OwnWrite → Option ℕ → Core → Type 0
-Writes k now n create w own c = is_in_time now w ≡ true → IsWriting k n create w own c
-
-pub record IsAsked (bound : ℕ) (k : List ℕ) (now n create : ℕ) (w : OwnWrite) (c : Core) : Type 0 where
+pub record IsAsked (bound : ℕ) (k : List ℕ) (now n create : ℕ) (v : OwnWrite) (vs : List OwnWrite) (c : Core) : Type 0 where
   pub below : n < bound
-  pub client : (w.ticket == 0) ≡ false
-  pub so : Writes k now n create w None c
+  pub clients : are_clients (v ∷ vs) ≡ true
+  pub so : Writes k now n create v vs None c
 
-pub record IsOut (calls : List SentCall) (bound p life : ℕ) (k : List ℕ) (now n create : ℕ) (w : OwnWrite) (number : ℕ) (c : Core) : Type 0 where
+pub record IsOut (calls : List SentCall) (bound p life : ℕ) (k : List ℕ) (now n create : ℕ) (v : OwnWrite) (vs : List OwnWrite) (number : ℕ) (c : Core) : Type 0 where
   pub own : ℕ
   pub call : HasCall calls p life number own
   pub below : n < bound
-  pub so : Writes k now n create w (Some own) c
+  pub clients : are_clients (v ∷ vs) ≡ true
+  pub so : Writes k now n create v vs (Some own) c
 
 abbrev pub Kept : List SentCall → ℕ → ℕ → ℕ → ℕ → List ℕ → ℕ → Owning → Core → Type 0
 Kept calls bound p life now k t asks c = CoreSo (asking k t) c
-Kept calls bound p life now k t (sends number n) c = IsSending calls bound p life k number n c
+Kept calls bound p life now k t (sends number n vs) c = IsSending calls bound p life k now number n vs c
 Kept calls bound p life now k t (owns n create) c = (n < bound) × IsHeldIn k n create c
-Kept calls bound p life now k t (write_asked n create w) c = IsAsked bound k now n create w c
-Kept calls bound p life now k t (write_sent n create w number) c = IsOut calls bound p life k now n create w number c
+Kept calls bound p life now k t (write_asked n create v vs) c = IsAsked bound k now n create v vs c
+Kept calls bound p life now k t (write_sent n create v vs number) c = IsOut calls bound p life k now n create v vs number c
+
+-- the key is owned, or the first of these writes has begun
+pub kept_behind : (calls : List SentCall) (bound p life now : ℕ) (k : List ℕ) (t n create : ℕ) (vs : List OwnWrite) (c : Core) → n < bound → are_clients vs ≡ true → (all_in_time now vs ≡ true → IsKeptIn k n create vs c × AllAskedAt vs c.asks)
+    → Kept calls bound p life now k t (owned_behind n create vs) c
+kept_behind calls bound p life now k t n create [] c l clients f = (l, (f refl).0)
+kept_behind calls bound p life now k t n create (v ∷ vs) c l clients f = record { below = l; clients = clients; so = λ early. let r = f early in record { begun = r.0; asked = r.1 } }
 
 abbrev pub KeysOk : List ℕ → List ℕ → ℕ → List SentCall → List Item → ℕ → ℕ → ℕ → Core → Type 0
 KeysOk namespace leasing bound calls items p life now c = (k : List ℕ) (t : ℕ) (o : Owning) → owned namespace leasing k p t items ≡ Some o → Kept calls bound p life now k t o c
@@ -77,18 +93,28 @@ Rescinded namespace leasing items p call j create = gave_up (owner_key namespace
 abbrev pub OutsOk : List ℕ → List ℕ → List Item → ℕ → Core → Type 0
 OutsOk namespace leasing items p c = EachOf (CallSo (Rescinded namespace leasing items p)) c.own.waits.out
 
--- ---- the write of the owner, through a step that lets it be
+-- ---- the writes of the owner, through a step that lets them be
 
-pub writing_steps : (k : List ℕ) (n create : ℕ) (v : OwnWrite) (own : Option ℕ) (c : Core) (e : CoreEvent) (now : ℕ) → CoreOk c → Stands (clock_work now c) (first_job (clock_work now c)) → AsksOther e v.ticket
-    → ((entry : Entry) (writing : entry.phase ≡ Writing false) → entry.create ≡ create → CoreSo (writes_own k n (mine_as v own) entry writing) (clock_work now c) → Leaves (writes_own k n (mine_as v own) entry writing) (clock_work now c) e)
-    → Writes k now n create v own c → Writes k now n create v own (stepped c e now).core
-writing_steps k n create v own c e now ok due other l s early =
+pub sending_steps : (k : List ℕ) (own n : ℕ) (vs : List OwnWrite) (c : Core) (e : CoreEvent) (now : ℕ) → CoreOk c → Stands (clock_work now c) (first_job (clock_work now c)) → AllOther e vs
+    → ((alone : AllAlone k (behind_as vs)) → CoreSo (sending_as k own n vs alone) (clock_work now c) → Leaves (sending_as k own n vs alone) (clock_work now c) e) → Sends k now own n vs c → Sends k now own n vs (stepped c e now).core
+sending_steps k own n vs c e now ok due other l s early =
     let u = s early in
-    let M = writes_own k n (mine_as v own) u.entry u.writing in
+    record { alone = u.alone; asked = all_stay vs c e now ok other u.asked; so = steps_by (sending_as k own n vs u.alone) c e now (waits_on_time now k own n vs u.alone early c u.asked) due (l u.alone) u.so }
+
+pub writing_steps : (k : List ℕ) (n create : ℕ) (v : OwnWrite) (vs : List OwnWrite) (own : Option ℕ) (c : Core) (e : CoreEvent) (now : ℕ) → CoreOk c → Stands (clock_work now c) (first_job (clock_work now c)) → AllOther e (v ∷ vs)
+    → ((alone : AllAlone k (first_as v own ∷ behind_as vs)) (entry : Entry) (writing : entry.phase ≡ Writing false) → entry.create ≡ create → CoreSo (writes_own k n v vs own alone entry writing) (clock_work now c) → Leaves (writes_own k n v vs own alone entry writing) (clock_work now c) e)
+    → Writes k now n create v vs own c → Writes k now n create v vs own (stepped c e now).core
+writing_steps k n create v vs own c e now ok due other l s early =
+    let u = s early in
+    let b = u.begun in
+    let M = writes_own k n v vs own b.alone b.entry b.writing in
     record {
-      entry = u.entry;
-      writing = u.writing;
-      created = u.created;
-      asked = stays_at v.ticket v.since c e now ok other u.asked;
-      so = steps_by M c e now (on_time k n (mine_as v own) u.entry u.writing v.since now early c u.asked) due (l u.entry u.writing u.created) u.so;
+      begun = record {
+        entry = b.entry;
+        writing = b.writing;
+        created = b.created;
+        alone = b.alone;
+        so = steps_by M c e now (on_time now k n v vs own b.alone b.entry b.writing early c u.asked) due (l b.alone b.entry b.writing b.created) b.so;
+      };
+      asked = all_stay (v ∷ vs) c e now ok other u.asked;
     }

@@ -1,10 +1,13 @@
--- When a proxy's own write was asked: until then its request isn't late, and so isn't refused for it.
-use Rattle.std.proofs.Common.{◌≡◌, ℕ, ◌+◌, ◌-◌, ◌==◌, ◌≤◌, nat_le, nat_lt, Bool, true, false, not, cond, List, [], ◌∷◌, Some, is_some, Result, Ok, Err, refl, sym, ◌∙◌, ap, subst, arith}
+-- When a proxy's own writes were asked: in time their requests aren't late, and so aren't refused for it.
+use Rattle.std.proofs.Common.{◌≡◌, ℕ, ◌+◌, ◌-◌, ◌==◌, ◌≤◌, nat_le, nat_lt, Bool, true, false, not, cond, ◌&&◌, ◌||◌, List, [], ◌∷◌, ◌++◌, Option, Some, is_some, Result, Ok, Err, refl, sym, ◌∙◌, ap, subst, arith}
 use Rattle.std.proofs.lemmas.Bool.Decides.{nat_tests}
 use Rattle.etcd_types.specs.declared.request.Request.{Request}
-use Rattle.etcd_types.proofs.Bools.{and_first, and_second}
+use Rattle.std.specs.List.{list_all, list_any}
+use Rattle.etcd_types.proofs.Bools.{and_first, and_second, and_both}
 use Rattle.proxy_model.specs.declared.lease.Entry.{Entry}
 use Rattle.proxy_model.specs.declared.lease.Phase.TheVariants.{Writing}
+use Rattle.wait_model.specs.declared.write.Write.{Write}
+use Rattle.wait_model.specs.Writes.{has_ticket}
 use Rattle.read_model.specs.declared.asked.Asked.{Asked}
 use Rattle.read_model.specs.declared.asked.Stage.TheVariants as stage
 use Rattle.read_model.specs.declared.asked.Verdict.TheVariants as verdict
@@ -24,7 +27,7 @@ use Rattle.core_model.specs.Step.{is_worn, stepped}
 use Rattle.core_model.specs.Stepped.{Stepped, counted, counted_by}
 use Rattle.core_fits.specs.Fits.{EachOf}
 use Rattle.core_laws.proofs.Steps.Comes.{by_test}
-use Rattle.core_laws.proofs.Steps.Lists.{same_number}
+use Rattle.core_laws.proofs.Steps.Lists.{same_number, number_itself, number_turned}
 use Rattle.core_laws.proofs.Steps.Outcomes.{worn_does_nothing}
 use Rattle.keep_laws.proofs.Rows.{All}
 use Rattle.cause_laws.proofs.Walks.{Calls, Moves, over_walk}
@@ -32,8 +35,9 @@ use Rattle.cause_laws.proofs.Steps.{Keeps, ask_walk, step_walk}
 use Rattle.owned_laws.specs.OwnWrites.{OwnWrite, is_in_time}
 use Rattle.owned_laws.proofs.Cores as cores
 use Rattle.owned_laws.proofs.Grounds.{Spared}
-use Rattle.owned_laws.proofs.Modes.{Mine}
-use Rattle.owned_laws.proofs.Ways.{writes_own}
+use Rattle.owned_laws.proofs.Modes.{Mine, IsMine, AllAlone, first_as, waits_as, behind_as, Mode}
+use Rattle.owned_laws.proofs.Own.{MissesOf, Misses}
+use Rattle.owned_laws.proofs.Ways.{sending_as, writes_own}
 
 -- one of this ticket was asked at this reading of the clock
 abbrev pub IsAt : ℕ → ℕ → Asked → Type 0
@@ -53,6 +57,31 @@ in_time_before now later w l e = below now later (w.since + request_time) l e
   where
     below : (now later limit : ℕ) → now ≤ later → nat_lt later limit ≡ true → nat_lt now limit ≡ true
     below now later limit l e = grind (arith, nat_tests, l, e)
+
+-- of all these writes
+abbrev pub AllAskedAt : List OwnWrite → List Asked → Type 0
+AllAskedAt [] xs = Unit {0}
+AllAskedAt (v ∷ vs) xs = AskedAt v.ticket v.since xs × AllAskedAt vs xs
+
+abbrev pub AllOther : CoreEvent → List OwnWrite → Type 0
+AllOther e [] = Unit {0}
+AllOther e (v ∷ vs) = AsksOther e v.ticket × AllOther e vs
+
+pub all_other : (e : CoreEvent) → ((i : ℕ) → AsksOther e i) → (vs : List OwnWrite) → AllOther e vs
+all_other e f [] = tt
+all_other e f (v ∷ vs) = (f v.ticket, all_other e f vs)
+
+abbrev pub all_in_time : ℕ → List OwnWrite → Bool
+all_in_time now vs = list_all (is_in_time now) vs
+
+pub all_before : (now later : ℕ) (vs : List OwnWrite) → now ≤ later → all_in_time later vs ≡ true → all_in_time now vs ≡ true
+all_before now later [] l e = refl
+all_before now later (v ∷ vs) l e =
+    and_both (is_in_time now v) (all_in_time now vs) (in_time_before now later v l (and_first (is_in_time later v) (all_in_time later vs) e)) (all_before now later vs l (and_second (is_in_time later v) (all_in_time later vs) e))
+
+pub all_front : (now : ℕ) (vs : List OwnWrite) (v : OwnWrite) → all_in_time now (vs ++ v ∷ []) ≡ true → all_in_time now vs ≡ true
+all_front now [] v e = refl
+all_front now (w ∷ ws) v e = and_both (is_in_time now w) (all_in_time now ws) (and_first (is_in_time now w) (all_in_time now (ws ++ v ∷ [])) e) (all_front now ws v (and_second (is_in_time now w) (all_in_time now (ws ++ v ∷ [])) e))
 
 -- ---- steps
 
@@ -107,28 +136,85 @@ module _ (t since : ℕ) where
           by (Ok o) = h
           by (Err f) = h
 
--- ---- it isn't late
+pub all_stay : (vs : List OwnWrite) (c : Core) (e : CoreEvent) (now : ℕ) → CoreOk c → AllOther e vs → AllAskedAt vs c.asks → AllAskedAt vs (stepped c e now).core.asks
+all_stay [] c e now ok other h = tt
+all_stay (v ∷ vs) c e now ok other h = (stays_at v.ticket v.since c e now ok other.0 h.0, all_stay vs c e now ok other.1 h.1)
 
-module _ (k : List ℕ) (n : ℕ) (m : Mine) (e : Entry) (writing : e.phase ≡ Writing false) (since now : ℕ) (early : nat_lt now (since + request_time) ≡ true) where
-  not_late : nat_lt now (since + request_time) ≡ true → nat_le request_time (now - since) ≡ false
-  not_late l = grind (arith, nat_tests, l)
+-- behind others, one more
+pub all_joined : (vs : List OwnWrite) (v : OwnWrite) (xs : List Asked) → AllAskedAt vs xs → AskedAt v.ticket v.since xs → AllAskedAt (vs ++ v ∷ []) xs
+all_joined [] v xs h i = (i, tt)
+all_joined (w ∷ ws) v xs h i = (h.0, all_joined ws v xs h.1 i)
 
-  spared : (a : Asked) → IsAt m.ticket since a → Spared (writes_own k n m e writing) (times_out now) a
-  spared a h late x i = by (x.ticket == a.ticket) refl
+-- another ticket is none of theirs
+
+other_ticket : (ticket : ℕ) (v : OwnWrite) (m : Mine) → m.ticket ≡ v.ticket → (ticket == v.ticket) ≡ false → (x : Write) → IsMine m x → has_ticket ticket x ≡ false
+other_ticket ticket v m same n x i = ap (λ (j : ℕ). j == ticket) (i.ticket ∙ same) ∙ number_turned ticket v.ticket n
+
+or_none : (a b : Bool) → a || b ≡ false → (a ≡ false) × (b ≡ false)
+or_none true b h = absurd (cc)
+or_none false b h = (refl, h)
+
+pub behind_apart : (ticket : ℕ) (vs : List OwnWrite) → list_any (λ v. ticket == v.ticket) vs ≡ false → MissesOf (behind_as vs) (has_ticket ticket)
+behind_apart ticket [] n = tt
+behind_apart ticket (v ∷ vs) n = let r = or_none (ticket == v.ticket) (list_any (λ v. ticket == v.ticket) vs) n in (other_ticket ticket v (waits_as v) refl r.0, behind_apart ticket vs r.1)
+
+pub all_apart : (ticket : ℕ) (v : OwnWrite) (vs : List OwnWrite) (own : Option ℕ) → list_any (λ v. ticket == v.ticket) (v ∷ vs) ≡ false → MissesOf (first_as v own ∷ behind_as vs) (has_ticket ticket)
+all_apart ticket v vs own n = let r = or_none (ticket == v.ticket) (list_any (λ v. ticket == v.ticket) vs) n in (other_ticket ticket v (first_as v own) refl r.0, behind_apart ticket vs r.1)
+
+-- ---- they aren't late
+
+abbrev AllAt : List OwnWrite → Asked → Type 0
+AllAt [] a = Unit {0}
+AllAt (v ∷ vs) a = IsAt v.ticket v.since a × AllAt vs a
+
+all_first : (vs : List OwnWrite) (a : Asked) (xs : List Asked) → AllAskedAt vs (a ∷ xs) → AllAt vs a
+all_first [] a xs h = tt
+all_first (v ∷ vs) a xs h = (h.0.0, all_first vs a xs h.1)
+
+all_rest : (vs : List OwnWrite) (a : Asked) (xs : List Asked) → AllAskedAt vs (a ∷ xs) → AllAskedAt vs xs
+all_rest [] a xs h = tt
+all_rest (v ∷ vs) a xs h = (h.0.1, all_rest vs a xs h.1)
+
+module _ (now : ℕ) where
+  not_late : (since : ℕ) → nat_lt now (since + request_time) ≡ true → nat_le request_time (now - since) ≡ false
+  not_late since l = grind (arith, nat_tests, l)
+
+  abbrev IsLate : Asked → Type 0
+  IsLate a = times_out now a && is_writes a.stage ≡ true
+
+  missed : (v : OwnWrite) (m : Mine) → m.ticket ≡ v.ticket → is_in_time now v ≡ true → (a : Asked) → IsAt v.ticket v.since a → IsLate a → (x : Write) → IsMine m x → has_ticket a.ticket x ≡ false
+  missed v m same early a h late x i = by (x.ticket == a.ticket) refl
     where
       by : (b : Bool) → (x.ticket == a.ticket) ≡ b → b ≡ false
       by true f =
-          let same : a.ticket ≡ m.ticket = sym (same_number x.ticket a.ticket f) ∙ i.ticket in
-          let at : a.asked ≡ since = h (ap (λ (j : ℕ). j == m.ticket) same ∙ Rattle.core_laws.proofs.Steps.Lists.number_itself m.ticket) in
+          let one : a.ticket ≡ v.ticket = sym (same_number x.ticket a.ticket f) ∙ i.ticket ∙ same in
+          let at : a.asked ≡ v.since = h (ap (λ (j : ℕ). j == v.ticket) one ∙ number_itself v.ticket) in
           absurd
-          (let z : true ≡ false = sym (and_second (not (is_replied a.stage)) (nat_le request_time (now - a.asked)) (and_first (times_out now a) (is_writes a.stage) late)) ∙ ap (λ (j : ℕ). nat_le request_time (now - j)) at ∙ not_late early in cc)
+          (let z : true ≡ false = sym (and_second (not (is_replied a.stage)) (nat_le request_time (now - a.asked)) (and_first (times_out now a) (is_writes a.stage) late)) ∙ ap (λ (j : ℕ). nat_le request_time (now - j)) at ∙ not_late v.since early in cc)
       by false f = refl
 
-  each_spared : (xs : List Asked) → AskedAt m.ticket since xs → EachOf (Spared (writes_own k n m e writing) (times_out now)) xs
-  each_spared [] h = tt
-  each_spared (a ∷ xs) h = (spared a h.0, each_spared xs h.1)
+  behind_missed : (vs : List OwnWrite) → all_in_time now vs ≡ true → (a : Asked) → AllAt vs a → IsLate a → MissesOf (behind_as vs) (has_ticket a.ticket)
+  behind_missed [] e a h late = tt
+  behind_missed (v ∷ vs) e a h late =
+      (missed v (waits_as v) refl (and_first (is_in_time now v) (all_in_time now vs) e) a h.0 late, behind_missed vs (and_second (is_in_time now v) (all_in_time now vs) e) a h.1 late)
 
-  pub on_time : (c : Core) → AskedAt m.ticket since c.asks → cores.OnTime (writes_own k n m e writing) now c
-  on_time c h =
-      each_spared (deadline_passed now (begun c)).asks
-      (by_test (λ (d : Core). AskedAt m.ticket since d.asks) (seat_is_over c.seat now) (without_session now (begun c)) (begun c) (λ f. over_walk (IsAt m.ticket since) (λ x s o plain u. u) now (begun c) h) (λ f. h))
+  each_spared : (M : Mode) (vs : List OwnWrite) → ((a : Asked) → AllAt vs a → IsLate a → Misses M (has_ticket a.ticket)) → (xs : List Asked) → AllAskedAt vs xs → EachOf (Spared M (times_out now)) xs
+  each_spared M vs f [] h = tt
+  each_spared M vs f (a ∷ xs) h = ((λ late. f a (all_first vs a xs h) late), each_spared M vs f xs (all_rest vs a xs h))
+
+  passed_asks : (vs : List OwnWrite) (c : Core) → AllAskedAt vs c.asks → AllAskedAt vs (deadline_passed now (begun c)).asks
+  passed_asks [] c h = tt
+  passed_asks (v ∷ vs) c h = (
+    by_test (λ (d : Core). AskedAt v.ticket v.since d.asks) (seat_is_over c.seat now) (without_session now (begun c)) (begun c) (λ f. over_walk (IsAt v.ticket v.since) (λ x s o plain u. u) now (begun c) h.0) (λ f. h.0),
+    passed_asks vs c h.1,
+  )
+
+  pub on_time : (k : List ℕ) (n : ℕ) (v : OwnWrite) (vs : List OwnWrite) (own : Option ℕ) (alone : AllAlone k (first_as v own ∷ behind_as vs)) (e : Entry) (writing : e.phase ≡ Writing false) → all_in_time now (v ∷ vs) ≡ true → (c : Core) → AllAskedAt (v ∷ vs) c.asks
+      → cores.OnTime (writes_own k n v vs own alone e writing) now c
+  on_time k n v vs own alone e writing early c h =
+      each_spared (writes_own k n v vs own alone e writing) (v ∷ vs)
+      (λ a i late. (missed v (first_as v own) refl (and_first (is_in_time now v) (all_in_time now vs) early) a i.0 late, behind_missed vs (and_second (is_in_time now v) (all_in_time now vs) early) a i.1 late)) (deadline_passed now (begun c)).asks
+      (passed_asks (v ∷ vs) c h)
+
+  pub waits_on_time : (k : List ℕ) (m n : ℕ) (vs : List OwnWrite) (alone : AllAlone k (behind_as vs)) → all_in_time now vs ≡ true → (c : Core) → AllAskedAt vs c.asks → cores.OnTime (sending_as k m n vs alone) now c
+  waits_on_time k m n vs alone early c h = each_spared (sending_as k m n vs alone) vs (λ a i late. behind_missed vs early a i late) (deadline_passed now (begun c)).asks (passed_asks vs c h)

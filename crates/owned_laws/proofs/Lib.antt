@@ -3,9 +3,11 @@ pub mod Own
 pub mod Grounds
 pub mod Cores
 pub mod Ways
+pub mod Beginning
+pub mod Joining
+pub mod Ready
 pub mod Steps
 pub mod OwnWrites
-pub mod Beginning
 pub mod OwnSends
 pub mod OwnSteps
 pub mod OwnWork

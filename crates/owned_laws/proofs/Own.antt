@@ -1,16 +1,19 @@
 -- What stands at one key of a proxy's ownership, as writes and entries go on: while no write is over the key and no revoking word comes for
 -- it, an acquire of it stays unspoiled, and a held entry stays as it is.
-use Rattle.std.proofs.Common.{◌≡◌, ◌⊎◌, inl, inr, ℕ, ◌+◌, ◌==◌, Bool, true, false, cond, not, ◌&&◌, ◌||◌, List, [], ◌∷◌, ◌++◌, map, Option, None, Some, is_some, refl, sym, ◌∙◌, ap, subst}
-use Rattle.std.specs.List.{list_any}
+use Rattle.std.proofs.Common.{◌≡◌, ◌⊎◌, inl, inr, ℕ, ◌+◌, ◌==◌, Bool, true, false, cond, not, ◌&&◌, ◌||◌, List, [], ◌∷◌, ◌++◌, append-nil, map, Option, None, Some, is_some, refl, sym, ◌∙◌, ap, subst}
+use Rattle.std.specs.List.{list_all, list_any}
 use Rattle.std.specs.Option.{option_map}
 use Rattle.etcd_types.specs.declared.answer.Answer.{Answer}
 use Rattle.etcd_types.specs.declared.answer.Answer.TheVariants as answer
+use Rattle.etcd_types.specs.declared.key_range.KeyRange.{KeyRange}
 use Rattle.etcd_types.specs.declared.request.Request.{Request}
 use Rattle.etcd_types.specs.declared.watch.Event.{Event}
 use Rattle.etcd_types.specs.declared.watch.Change.{Change}
 use Rattle.etcd_types.specs.declared.watch.Change.TheVariants as change
 use Rattle.etcd_types.specs.Keys.{same}
+use Rattle.etcd_types.specs.Ranges.{is_one, contains, overlaps}
 use Rattle.etcd_types.proofs.KeyOrder.{same-equal}
+use Rattle.etcd_types.proofs.Overlaps.{overlap_in_a_key}
 use Rattle.proxy_model.specs.declared.lease.Entry.{Entry}
 use Rattle.proxy_model.specs.declared.ownership.Owner.{Owner}
 use Rattle.proxy_model.specs.declared.ownership.Written.{Written}
@@ -22,16 +25,15 @@ use Rattle.proxy_model.specs.LeaseTable.{given_up, is_writing, is_writing_phase}
 use Rattle.proxy_model.specs.SeveralKeys.{written_ranges}
 use Rattle.proxy_model.specs.Leaving.{guard_held}
 use Rattle.proxy_model.proofs.KeyedLaws.{at-with_at}
-use Rattle.wait_model.specs.declared.sending.Sending.{Sending}
 use Rattle.wait_model.specs.declared.sending.Sending.TheVariants as sending
 use Rattle.wait_model.specs.declared.write.Write.{Write}
 use Rattle.wait_model.specs.declared.write.WriteStage.{WriteStage}
-use Rattle.wait_model.specs.declared.write.WriteStage.TheVariants.{Sends}
+use Rattle.wait_model.specs.declared.write.WriteStage.TheVariants.{Waiting, Sends}
 use Rattle.wait_model.specs.declared.wait.WaitJob.{WaitJob}
 use Rattle.wait_model.specs.declared.wait.WaitJob.TheVariants as job
 use Rattle.wait_model.specs.declared.due.DueCall.{DueCall}
 use Rattle.wait_model.specs.Asked.{new_write, submitted, acquire_spoiled}
-use Rattle.wait_model.specs.Covers.{covers, covered, shares, is_by_keys, is_single, leased}
+use Rattle.wait_model.specs.Covers.{covers, covered, shares, meets, is_by_keys, is_single, leased}
 use Rattle.wait_model.specs.DueOrder.{first_call, first_rescind}
 use Rattle.wait_model.specs.Edits.{each, without}
 use Rattle.wait_model.specs.Endings.{given_back, revoke_back, revoke_answered, answered_job, without_out, answered, lost_job, lost, forgotten_by, forgotten}
@@ -48,12 +50,13 @@ use Rattle.wait_model.specs.Sent.{JobSent, revoke_job, write_job, is_revoke, cal
 use Rattle.wait_model.specs.SingleKeys.{Turn, let_go_leased, begun_over, any_key, keys_begun, by_keys}
 use Rattle.wait_model.specs.Stages.{staged, gone_on, is_waiting, is_owner, is_due, stage_on}
 use Rattle.wait_model.specs.State.{Ownership}
-use Rattle.wait_model.specs.Writes.{first_by, with_first, without_first, sends, stage_asks, asks, has_ticket, job_of}
+use Rattle.wait_model.specs.Writes.{first_by, with_first, without_first, stage_sends, sends, stage_asks, asks, has_ticket, job_of}
 use Rattle.wait_model.proofs.Tables.{at-each, at-without}
 use Rattle.core_laws.proofs.Writes.Kept.{first_passes}
 use Rattle.core_laws.proofs.Steps.Lists.{same_number}
+use Rattle.owned_laws.specs.OwnWrites.{OwnWrite}
 use Rattle.owned_laws.specs.Watched.{NoneOver, Spares, AllSpare}
-use Rattle.owned_laws.proofs.Modes.{Mine, IsMine, Mode}
+use Rattle.owned_laws.proofs.Modes.{IsAlone, Went, waits, is_to_go, is_out, Mine, StageIs, IsMine, is_begun, any_begun, first_waits, AllAlone, behind_as, Mode}
 
 either : {A : Type 0} (P : A → Type 0) (b : Bool) (x y : A) → P x → P y → P (cond b x y)
 either P true x y h i = h
@@ -70,6 +73,18 @@ both_none false b h i = i
 and_false : (b : Bool) → b && false ≡ false
 and_false true = refl
 and_false false = refl
+
+or_left : (a b : Bool) → a ≡ true → a || b ≡ true
+or_left true b e = refl
+or_left false b e = absurd (cc)
+
+or_right : (a b : Bool) → b ≡ true → a || b ≡ true
+or_right true b e = refl
+or_right false b e = e
+
+or_off : (b : Bool) → b || false ≡ b
+or_off true = refl
+or_off false = refl
 
 -- at another key
 pub at_other : {A : Type 0} (k j : List ℕ) (o : Option A) (xs : Keyed A) → same j k ≡ false → at (with_at xs j o) k ≡ at xs k
@@ -98,7 +113,7 @@ module _ (k : List ℕ) where
   none_each g [] h = h
   none_each g (w ∷ ws) h = let q = or_none (covers w k) (list_any (λ w. covers w k) ws) h in both_none (covers w k) (list_any (λ w. covers w k) (map (λ w. staged w (g w)) ws)) q.0 (none_each g ws q.1)
 
--- ---- writes, one of which is over the key: the owner's own
+-- ---- writes, those over the key being the owner's own
 
 no_true : {A : Type 0} → false ≡ true → A
 no_true e = absurd (cc)
@@ -106,8 +121,35 @@ no_true e = absurd (cc)
 some_write : (x y : Write) → Some x ≡ Some y → x ≡ y
 some_write x y e = cc
 
+-- at each stage of one of them
+
+stays_on : (w : Went) (s : WriteStage) → StageIs w s → stage_on s ≡ s
+stays_on waits s e = ap stage_on e ∙ sym e
+stays_on is_to_go s e = ap stage_on e.1 ∙ sym e.1
+stays_on (is_out call) s e = ap stage_on e ∙ sym e
+
+asks_none : (w : Went) (s : WriteStage) (call : ℕ) → StageIs w s → stage_asks call s ≡ false
+asks_none waits s call e = ap (stage_asks call) e
+asks_none is_to_go s call e = ap (stage_asks call) e.1
+asks_none (is_out c) s call e = ap (stage_asks call) e
+
+gone_same : (p : List ℕ → Bool) (w : Went) (s : WriteStage) → StageIs w s → stage_gone p s ≡ s
+gone_same p waits s e = ap (stage_gone p) e ∙ sym e
+gone_same p is_to_go s e = ap (stage_gone p) e.1 ∙ sym e.1
+gone_same p (is_out call) s e = ap (stage_gone p) e ∙ sym e
+
+ended_same : (single : Bool) (w : Went) (s : WriteStage) → is_begun w ≡ false → StageIs w s → stage_ended single s ≡ s
+ended_same single waits s n e = ap (stage_ended single) e ∙ sym e
+ended_same single is_to_go s n e = absurd (cc)
+ended_same single (is_out call) s n e = absurd (cc)
+
 module _ (k : List ℕ) where
-  pub none_found : (p : Write → Bool) (x : Write) (ws : List Write) → NoneOver k ws → first_by p ws ≡ Some x → covers x k ≡ false
+  abbrev pub OverOf : List Mine → List Write → Type 0
+  OverOf [] ws = NoneOver k ws
+  OverOf (m ∷ ms) [] = ⊥
+  OverOf (m ∷ ms) (x ∷ ws) = (IsMine m x × ((covers x k ≡ true) × OverOf ms ws)) ⊎ ((covers x k ≡ false) × OverOf (m ∷ ms) ws)
+
+  none_found : (p : Write → Bool) (x : Write) (ws : List Write) → NoneOver k ws → first_by p ws ≡ Some x → covers x k ≡ false
   none_found p x [] n e = absurd (cc)
   none_found p x (y ∷ ws) n e = by (p y) e (none_found p x ws q.1)
     where
@@ -118,86 +160,150 @@ module _ (k : List ℕ) where
       by true f more = ap (λ (z : Write). covers z k) (sym (some_write y x f)) ∙ q.0
       by false f more = more f
 
-module _ (k : List ℕ) (m : Mine) where
-  abbrev pub OneOver : List Write → Type 0
-  OneOver [] = ⊥
-  OneOver (x ∷ ws) = (IsMine m x × ((covers x k ≡ true) × NoneOver k ws)) ⊎ ((covers x k ≡ false) × OneOver ws)
+  over_behind : (ns : List Mine) (ws vs : List Write) → NoneOver k ws → OverOf ns vs → OverOf ns (ws ++ vs)
+  over_behind [] ws vs h i = none_append k ws vs h i
+  over_behind (n ∷ ns) [] vs h i = i
+  over_behind (n ∷ ns) (x ∷ ws) vs h i = let q = or_none (covers x k) (list_any (λ w. covers w k) ws) h in inr (q.0, over_behind (n ∷ ns) ws vs q.1 i)
 
-  abbrev pub MissesIt : (Write → Bool) → Type 0
-  MissesIt p = (x : Write) → IsMine m x → p x ≡ false
+  pub over_append : (ms ns : List Mine) (ws vs : List Write) → OverOf ms ws → OverOf ns vs → OverOf (ms ++ ns) (ws ++ vs)
+  over_append [] ns ws vs h i = over_behind ns ws vs h i
+  over_append (m ∷ ms) ns [] vs h i = absurd h
+  over_append (m ∷ ms) ns (x ∷ ws) vs (inl h) i = inl (h.0, (h.1.0, over_append ms ns ws vs h.1.1 i))
+  over_append (m ∷ ms) ns (x ∷ ws) vs (inr h) i = inr (h.0, over_append (m ∷ ms) ns ws vs h.1 i)
 
-  one_append : (ws vs : List Write) → OneOver ws → NoneOver k vs → OneOver (ws ++ vs)
-  one_append [] vs h i = absurd h
-  one_append (x ∷ ws) vs (inl h) i = inl (h.0, (h.1.0, none_append k ws vs h.1.1 i))
-  one_append (x ∷ ws) vs (inr h) i = inr (h.0, one_append ws vs h.1 i)
+  over_more : (ms : List Mine) (ws vs : List Write) → OverOf ms ws → NoneOver k vs → OverOf ms (ws ++ vs)
+  over_more ms ws vs h i = subst (λ (ns : List Mine). OverOf ns (ws ++ vs)) (append-nil ms) (over_append ms [] ws vs h i)
 
-  one_first : (p : Write → Bool) (s : WriteStage) (ws : List Write) → MissesIt p → OneOver ws → OneOver (with_first p s ws)
-  one_first p s [] n h = absurd h
-  one_first p s (x ∷ ws) n (inl h) = subst (λ (b : Bool). OneOver (cond b (staged x s ∷ ws) (x ∷ with_first p s ws))) (sym (n x h.0)) (inl (h.0, (h.1.0, none_first k p s ws h.1.1)))
-  one_first p s (x ∷ ws) n (inr h) = either OneOver (p x) (staged x s ∷ ws) (x ∷ with_first p s ws) (inr h) (inr (h.0, one_first p s ws n h.1))
+-- none of them passes the test
+abbrev pub MissesOf : List Mine → (Write → Bool) → Type 0
+MissesOf [] p = Unit {0}
+MissesOf (m ∷ ms) p = ((x : Write) → IsMine m x → p x ≡ false) × MissesOf ms p
 
-  one_rest : (p : Write → Bool) (ws : List Write) → MissesIt p → OneOver ws → OneOver (without_first p ws)
-  one_rest p [] n h = absurd h
-  one_rest p (x ∷ ws) n (inl h) = subst (λ (b : Bool). OneOver (cond b ws (x ∷ without_first p ws))) (sym (n x h.0)) (inl (h.0, (h.1.0, none_rest k p ws h.1.1)))
-  one_rest p (x ∷ ws) n (inr h) = either OneOver (p x) ws (x ∷ without_first p ws) h.1 (inr (h.0, one_rest p ws n h.1))
+-- each keeps its stage
+abbrev SparesOf : List Mine → (Write → WriteStage) → Type 0
+SparesOf [] g = Unit {0}
+SparesOf (m ∷ ms) g = ((x : Write) → IsMine m x → g x ≡ x.stage) × SparesOf ms g
 
-  -- a change that leaves the stage of a write whose call is due or out
-  abbrev pub Sparing : (Write → WriteStage) → Type 0
-  Sparing g = (x : Write) (s : Sending) → x.stage ≡ Sends true s → g x ≡ x.stage
+-- nothing is to be missed where there is none
+pub no_own : (ms : List Mine) (p : Write → Bool) → ms ≡ [] → MissesOf ms p
+no_own ms p e = subst (λ (ns : List Mine). MissesOf ns p) (sym e) tt
 
-  same_stage : (x : Write) (s : WriteStage) → s ≡ x.stage → IsMine m x → IsMine m (staged x s)
-  same_stage x s e i = record { ticket = i.ticket; request = i.request; sending = i.sending; stage = e ∙ i.stage; sends = i.sends }
+pub asks_misses : (ms : List Mine) (call : ℕ) → MissesOf ms (asks call)
+asks_misses [] call = tt
+asks_misses (m ∷ ms) call = ((λ x i. asks_none m.went x.stage call i.stage), asks_misses ms call)
 
-  one_each : (g : Write → WriteStage) (ws : List Write) → Sparing g → OneOver ws → OneOver (map (λ w. staged w (g w)) ws)
-  one_each g [] n h = absurd h
-  one_each g (x ∷ ws) n (inl h) = inl (same_stage x (g x) (n x h.0.sending h.0.stage) h.0, (h.1.0, none_each k g ws h.1.1))
-  one_each g (x ∷ ws) n (inr h) = inr (h.0, one_each g ws n h.1)
+-- one that waits isn't sent
+pub sends_misses : (call : ℕ) (vs : List OwnWrite) → MissesOf (behind_as vs) (sends call)
+sends_misses call [] = tt
+sends_misses call (v ∷ vs) = ((λ x i. ap (stage_sends call) i.stage), sends_misses call vs)
 
-  one_away : (p : Write → Bool) (x : Write) (ws : List Write) → MissesIt p → OneOver ws → first_by p ws ≡ Some x → covers x k ≡ false
-  one_away p x [] n h e = absurd h
-  one_away p x (y ∷ ws) n (inl h) e = none_found k p x ws h.1.1 (ap (λ (b : Bool). cond b (Some y) (first_by p ws)) (sym (n y h.0)) ∙ e)
-  one_away p x (y ∷ ws) n (inr h) e = by (p y) e (one_away p x ws n h.1)
+gone_spares : (p : List ℕ → Bool) (ms : List Mine) → SparesOf ms (λ x. stage_gone p x.stage)
+gone_spares p [] = tt
+gone_spares p (m ∷ ms) = ((λ x i. gone_same p m.went x.stage i.stage), gone_spares p ms)
+
+ended_spares : (ms : List Mine) → any_begun ms ≡ false → SparesOf ms (λ x. stage_ended (is_single x.request) x.stage)
+ended_spares [] n = tt
+ended_spares (m ∷ ms) n = let q = or_none (is_begun m.went) (any_begun ms) n in ((λ x i. ended_same (is_single x.request) m.went x.stage q.0 i.stage), ended_spares ms q.1)
+
+same_stage : (m : Mine) (x : Write) (s : WriteStage) → s ≡ x.stage → IsMine m x → IsMine m (staged x s)
+same_stage m x s e i = record { ticket = i.ticket; request = i.request; ranges = i.ranges; stage = subst (StageIs m.went) (sym e) i.stage }
+
+module _ (k : List ℕ) where
+  over_with : (ms : List Mine) (p : Write → Bool) (s : WriteStage) (ws : List Write) → MissesOf ms p → OverOf k ms ws → OverOf k ms (with_first p s ws)
+  over_with [] p s ws n h = none_first k p s ws h
+  over_with (m ∷ ms) p s [] n h = absurd h
+  over_with (m ∷ ms) p s (x ∷ ws) n (inl h) = subst (λ (b : Bool). OverOf k (m ∷ ms) (cond b (staged x s ∷ ws) (x ∷ with_first p s ws))) (sym (n.0 x h.0)) (inl (h.0, (h.1.0, over_with ms p s ws n.1 h.1.1)))
+  over_with (m ∷ ms) p s (x ∷ ws) n (inr h) = either (OverOf k (m ∷ ms)) (p x) (staged x s ∷ ws) (x ∷ with_first p s ws) (inr h) (inr (h.0, over_with (m ∷ ms) p s ws n h.1))
+
+  pub over_without : (ms : List Mine) (p : Write → Bool) (ws : List Write) → MissesOf ms p → OverOf k ms ws → OverOf k ms (without_first p ws)
+  over_without [] p ws n h = none_rest k p ws h
+  over_without (m ∷ ms) p [] n h = absurd h
+  over_without (m ∷ ms) p (x ∷ ws) n (inl h) = subst (λ (b : Bool). OverOf k (m ∷ ms) (cond b ws (x ∷ without_first p ws))) (sym (n.0 x h.0)) (inl (h.0, (h.1.0, over_without ms p ws n.1 h.1.1)))
+  over_without (m ∷ ms) p (x ∷ ws) n (inr h) = either (OverOf k (m ∷ ms)) (p x) ws (x ∷ without_first p ws) h.1 (inr (h.0, over_without (m ∷ ms) p ws n h.1))
+
+  over_each : (ms : List Mine) (g : Write → WriteStage) (ws : List Write) → SparesOf ms g → OverOf k ms ws → OverOf k ms (map (λ w. staged w (g w)) ws)
+  over_each [] g ws n h = none_each k g ws h
+  over_each (m ∷ ms) g [] n h = absurd h
+  over_each (m ∷ ms) g (x ∷ ws) n (inl h) = inl (same_stage m x (g x) (n.0 x h.0) h.0, (h.1.0, over_each ms g ws n.1 h.1.1))
+  over_each (m ∷ ms) g (x ∷ ws) n (inr h) = inr (h.0, over_each (m ∷ ms) g ws n h.1)
+
+  pub over_away : (ms : List Mine) (p : Write → Bool) (x : Write) (ws : List Write) → MissesOf ms p → OverOf k ms ws → first_by p ws ≡ Some x → covers x k ≡ false
+  over_away [] p x ws n h e = none_found k p x ws h e
+  over_away (m ∷ ms) p x [] n h e = absurd h
+  over_away (m ∷ ms) p x (y ∷ ws) n (inl h) e = over_away ms p x ws n.1 h.1.1 (ap (λ (b : Bool). cond b (Some y) (first_by p ws)) (sym (n.0 y h.0)) ∙ e)
+  over_away (m ∷ ms) p x (y ∷ ws) n (inr h) e = by (p y) e (over_away (m ∷ ms) p x ws n h.1)
     where
       by : (b : Bool) → cond b (Some y) (first_by p ws) ≡ Some x → (first_by p ws ≡ Some x → covers x k ≡ false) → covers x k ≡ false
       by true f more = ap (λ (z : Write). covers z k) (sym (some_write y x f)) ∙ h.0
       by false f more = more f
 
--- at most the owner's own
-abbrev pub OverOf : List ℕ → Option Mine → List Write → Type 0
-OverOf k None ws = NoneOver k ws
-OverOf k (Some m) ws = OneOver k m ws
+-- ---- the turn of an own write: it stays as it is, also where it waits behind an earlier one or for an acquire of the key
 
-abbrev pub MissesOf : Option Mine → (Write → Bool) → Type 0
-MissesOf None p = Unit {0}
-MissesOf (Some m) p = MissesIt [] m p
+same_of : {A : Type 0} (b : Bool) (x y z : A) → x ≡ z → y ≡ z → cond b x y ≡ z
+same_of true x y z e f = e
+same_of false x y z e f = f
 
-over_append : (k : List ℕ) (o : Option Mine) (ws vs : List Write) → OverOf k o ws → NoneOver k vs → OverOf k o (ws ++ vs)
-over_append k None ws vs h i = none_append k ws vs h i
-over_append k (Some m) ws vs h i = one_append k m ws vs h i
+-- writes over one key share it
+shares_key : (k : List ℕ) (v w : Write) → covers v k ≡ true → covers w k ≡ true → shares v w ≡ true
+shares_key k v w c d = in_ranges w.ranges d
+  where
+    met : (r : KeyRange) (rs : List KeyRange) → covered rs k ≡ true → contains r k ≡ true → meets rs r ≡ true
+    met r [] e f = no_true e
+    met r (s ∷ rs) e f = by (contains s k) refl e (met r rs)
+      where
+        by : (b : Bool) → contains s k ≡ b → b || covered rs k ≡ true → (covered rs k ≡ true → contains r k ≡ true → meets rs r ≡ true) → overlaps r s || meets rs r ≡ true
+        by true g h more = or_left (overlaps r s) (meets rs r) ((overlap_in_a_key r s).1 (k, f, g))
+        by false g h more = or_right (overlaps r s) (meets rs r) (more h f)
 
-over_with : (k : List ℕ) (o : Option Mine) (p : Write → Bool) (s : WriteStage) (ws : List Write) → MissesOf o p → OverOf k o ws → OverOf k o (with_first p s ws)
-over_with k None p s ws n h = none_first k p s ws h
-over_with k (Some m) p s ws n h = one_first k m p s ws n h
+    in_ranges : (rs : List KeyRange) → covered rs k ≡ true → list_any (meets v.ranges) rs ≡ true
+    in_ranges [] e = no_true e
+    in_ranges (r ∷ rs) e = by (contains r k) refl e (in_ranges rs)
+      where
+        by : (b : Bool) → contains r k ≡ b → b || covered rs k ≡ true → (covered rs k ≡ true → list_any (meets v.ranges) rs ≡ true) → meets v.ranges r || list_any (meets v.ranges) rs ≡ true
+        by true g h more = or_left (meets v.ranges r) (list_any (meets v.ranges) rs) (met r v.ranges c g)
+        by false g h more = or_right (meets v.ranges r) (list_any (meets v.ranges) rs) (more h)
 
-over_without : (k : List ℕ) (o : Option Mine) (p : Write → Bool) (ws : List Write) → MissesOf o p → OverOf k o ws → OverOf k o (without_first p ws)
-over_without k None p ws n h = none_rest k p ws h
-over_without k (Some m) p ws n h = one_rest k m p ws n h
+any_shares : (k : List ℕ) (v : Write) (earlier : List Write) → covers v k ≡ true → list_any (λ w. covers w k) earlier ≡ true → list_any (shares v) earlier ≡ true
+any_shares k v [] c e = no_true e
+any_shares k v (w ∷ ws) c e = by (covers w k) refl e (any_shares k v ws c)
+  where
+    by : (b : Bool) → covers w k ≡ b → b || list_any (λ w. covers w k) ws ≡ true → (list_any (λ w. covers w k) ws ≡ true → list_any (shares v) ws ≡ true) → shares v w || list_any (shares v) ws ≡ true
+    by true g h more = or_left (shares v w) (list_any (shares v) ws) (shares_key k v w c g)
+    by false g h more = or_right (shares v w) (list_any (shares v) ws) (more h)
 
-over_each : (k : List ℕ) (o : Option Mine) (g : Write → WriteStage) (ws : List Write) → ((x : Write) (s : Sending) → x.stage ≡ Sends true s → g x ≡ x.stage) → OverOf k o ws → OverOf k o (map (λ w. staged w (g w)) ws)
-over_each k None g ws n h = none_each k g ws h
-over_each k (Some m) g ws n h = one_each k m g ws n h
+module _ (step : ℕ) (earlier : List Write) (es : Keyed Entry) (ss : Keyed Bool) (x : Write) where
+  abbrev Same : Turn
+  Same = record { entries = es; spoiled = ss; write = x }
 
--- nothing is to be missed where there is none
-pub no_own : (o : Option Mine) (p : Write → Bool) → o ≡ None → MissesOf o p
-no_own None p e = tt
-no_own (Some m) p e = absurd (cc)
+  abbrev turned : WriteStage → Turn
+  turned s = record { entries = es; spoiled = ss; write = staged x s }
 
-pub asks_misses : (o : Option Mine) (call : ℕ) → MissesOf o (asks call)
-asks_misses None call = tt
-asks_misses (Some m) call = λ x i. ap (stage_asks call) i.stage
+  -- it has begun
+  turn_begun : (w : Went) → is_begun w ≡ true → StageIs w x.stage → turn step earlier es ss x ≡ Same
+  turn_begun waits b e = absurd (cc)
+  turn_begun is_to_go b e = ap (λ (s : WriteStage). cond (is_waiting s && not (list_any (shares x) earlier)) (goes step es ss (staged x (stage_on x.stage))) (turned (stage_on x.stage))) (ap stage_on e.1) ∙ ap turned (stays_on is_to_go x.stage e)
+  turn_begun (is_out call) b e = ap (λ (s : WriteStage). cond (is_waiting s && not (list_any (shares x) earlier)) (goes step es ss (staged x (stage_on x.stage))) (turned (stage_on x.stage))) (ap stage_on e) ∙ ap turned (stays_on (is_out call) x.stage e)
 
-gone_sparing : (p : List ℕ → Bool) (x : Write) (s : Sending) → x.stage ≡ Sends true s → stage_gone p x.stage ≡ x.stage
-gone_sparing p x s e = ap (stage_gone p) e ∙ sym e
+  -- an earlier one shares a key with it
+  turn_behind : x.stage ≡ Waiting → list_any (shares x) earlier ≡ true → turn step earlier es ss x ≡ Same
+  turn_behind e s =
+      ap (λ (b : Bool). cond (is_waiting (stage_on x.stage) && not b) (goes step es ss (staged x (stage_on x.stage))) (turned (stage_on x.stage))) s
+      ∙ ap (λ (i : WriteStage). cond (is_waiting i && false) (goes step es ss (staged x (stage_on x.stage))) (turned (stage_on x.stage))) (ap stage_on e) ∙ ap turned (stays_on waits x.stage e)
+
+  -- an acquire of its one key is due or out
+  turn_for_acquire : x.stage ≡ Waiting → is_by_keys x ≡ true → any_key x (λ j. is_some (at ss j)) ≡ true → turn step earlier es ss x ≡ Same
+  turn_for_acquire e b m =
+      let v = staged x (stage_on x.stage) in
+      same_of (is_waiting (stage_on x.stage) && not (list_any (shares x) earlier)) (goes step es ss v) (turned (stage_on x.stage)) Same
+      (ap (λ (c : Bool). cond c (by_keys step es ss v) (by_ranges step es ss v)) b ∙ ap (λ (c : Bool). cond c (turned (stage_on x.stage)) (keys_begun step (each (let_go_leased v) es) ss v)) m ∙ ap turned (stays_on waits x.stage e))
+      (ap turned (stays_on waits x.stage e))
+
+-- of this key alone
+pub alone_by_key : (k : List ℕ) (q : Request) (x : Write) → IsAlone k q → x.ranges ≡ written_ranges q → is_by_keys x ≡ true
+alone_by_key k q x a r = ap (list_all is_one) (r ∙ a.ranges) ∙ ap (λ (b : Bool). b && true) a.one
+
+pub alone_any : (k : List ℕ) (q : Request) (x : Write) (p : List ℕ → Bool) → IsAlone k q → x.ranges ≡ written_ranges q → any_key x p ≡ p k
+alone_any k q x p a r = ap (list_any (λ r. p r.key)) (r ∙ a.ranges) ∙ or_off (p a.range.key) ∙ ap p a.key
 
 module _ (M : Mode) where
   abbrev k : List ℕ
@@ -220,17 +326,13 @@ module _ (M : Mode) where
 
   -- a write that isn't the owner's own
   abbrev Away : Write → Type 0
-  Away x = is_some M.mine ≡ true → covers x k ≡ false
+  Away x = any_begun M.mine ≡ true → covers x k ≡ false
 
   away_of : (p : Write → Bool) (x : Write) (ws : List Write) → Misses p → Over ws → first_by p ws ≡ Some x → Away x
-  away_of p x ws n o f = by M.mine n (λ y. o (M.holding (M.writes y)))
-    where
-      by : (q : Option Mine) → MissesOf q p → (is_some q ≡ true → OverOf k q ws) → is_some q ≡ true → covers x k ≡ false
-      by None n' o' y = no_true y
-      by (Some m) n' o' y = one_away k m p x ws n' (o' refl) f
+  away_of p x ws n o f = λ y. over_away k M.mine p x ws n (o (M.holding (M.writes y))) f
 
   unowned : (x : Write) → Away x → owns x k && is_writing_phase e.phase ≡ false
-  unowned x a = by (is_some M.mine) M.writing a
+  unowned x a = by (any_begun M.mine) M.writing a
     where
       by : (b : Bool) → is_writing_phase e.phase ≡ b → (b ≡ true → covers x k ≡ false) → owns x k && is_writing_phase e.phase ≡ false
       by true f g = ap (λ (c : Bool). (is_owner x.stage && c) && is_writing_phase e.phase) (g refl) ∙ ap (λ (c : Bool). c && is_writing_phase e.phase) (and_false (is_owner x.stage))
@@ -328,72 +430,70 @@ module _ (M : Mode) where
     ),
   )
 
-  -- the turn of the owner's own write: its call is due or out, so it stays as it is
-  turn_mine : (m : Mine) (step : ℕ) (earlier : List Write) (es : Keyed Entry) (ss : Keyed Bool) (x : Write) → IsMine m x → turn step earlier es ss x ≡ record { entries = es; spoiled = ss; write = x }
-  turn_mine m step earlier es ss x i =
-      let v = staged x (stage_on x.stage) in
-      let on : stage_on x.stage ≡ x.stage = ap stage_on i.stage ∙ sym i.stage in
-      ap (λ (s : WriteStage). cond (is_waiting s && not (list_any (shares x) earlier)) (goes step es ss v) (record { entries = es; spoiled = ss; write = v })) (ap stage_on i.stage)
-      ∙ ap turned on
-    where
-      turned : WriteStage → Turn
-      turned s = record { entries = es; spoiled = ss; write = staged x s }
-
   pub turn_so : (step : ℕ) (earlier : List Write) (es : Keyed Entry) (ss : Keyed Bool) (x : Write) → Stays es → Mark ss → Passes x → TurnSo (turn step earlier es ss x)
   turn_so step earlier es ss x i m c =
       let v = staged x (stage_on x.stage) in
       either TurnSo (is_waiting v.stage && not (list_any (shares x) earlier)) (goes step es ss v) (record { entries = es; spoiled = ss; write = v })
       (either TurnSo (is_by_keys v) (by_keys step es ss v) (by_ranges step es ss v) (by_keys_so step es ss v i m c) (by_ranges_so step es ss v i m c)) (i, (m, c))
 
-  abbrev NoOver : List Write → Type 0
-  NoOver ws = w ≡ true → NoneOver k ws
+  -- an own write that waits does so for an acquire of the key, or behind an earlier one
+  abbrev Blocks : List Write → Type 0
+  Blocks earlier = (M.mark ≡ true) ⊎ (list_any (λ v. covers v k) earlier ≡ true)
 
-  first_over : (x : Write) (ws : List Write) → NoOver (x ∷ ws) → Passes x
-  first_over x ws o = λ y. (or_none (covers x k) (list_any (λ v. covers v k) ws) (o y)).0
+  turn_own : (m : Mine) (step : ℕ) (earlier : List Write) (es : Keyed Entry) (ss : Keyed Bool) (x : Write) → IsAlone k m.request → (not (is_begun m.went) ≡ true → Blocks earlier) → Mark ss → IsMine m x → covers x k ≡ true
+      → turn step earlier es ss x ≡ record { entries = es; spoiled = ss; write = x }
+  turn_own m step earlier es ss x a f t i c = by m.went refl f i.stage
+    where
+      by_block : x.stage ≡ Waiting → Blocks earlier → turn step earlier es ss x ≡ record { entries = es; spoiled = ss; write = x }
+      by_block e (inl y) =
+          turn_for_acquire step earlier es ss x e (alone_by_key k m.request x a i.ranges) (alone_any k m.request x (λ j. is_some (at ss j)) a i.ranges ∙ ap is_some (t y))
+      by_block e (inr y) = turn_behind step earlier es ss x e (any_shares k x earlier c y)
 
-  rest_over : (x : Write) (ws : List Write) → NoOver (x ∷ ws) → NoOver ws
-  rest_over x ws o = λ y. (or_none (covers x k) (list_any (λ v. covers v k) ws) (o y)).1
+      by : (w : Went) → m.went ≡ w → (not (is_begun w) ≡ true → Blocks earlier) → StageIs w x.stage → turn step earlier es ss x ≡ record { entries = es; spoiled = ss; write = x }
+      by waits g f e = by_block e (f refl)
+      by is_to_go g f e = turn_begun step earlier es ss x is_to_go refl e
+      by (is_out call) g f e = turn_begun step earlier es ss x (is_out call) refl e
 
-  passed_so : (step : ℕ) (earlier : List Write) (es : Keyed Entry) (ss : Keyed Bool) (ws : List Write) → Stays es → Mark ss → NoOver ws
-      → let p = passed step earlier es ss ws in Stays p.entries × (Mark p.spoiled × NoOver p.writes)
+  abbrev PassSo : List Mine → Pass → Type 0
+  PassSo ms p = Stays p.entries × (Mark p.spoiled × OverOf k ms p.writes)
+
+  pub passed_over : w ≡ true → (ms : List Mine) (step : ℕ) (earlier : List Write) (es : Keyed Entry) (ss : Keyed Bool) (ws : List Write) → AllAlone k ms → (first_waits ms ≡ true → Blocks earlier) → Stays es → Mark ss → OverOf k ms ws
+      → PassSo ms (passed step earlier es ss ws)
   unfolding passed
-  passed_so step earlier es ss [] i m o = (i, (m, o))
-  passed_so step earlier es ss (x ∷ ws) i m o =
-      let t = turn step earlier es ss x in
-      let b = turn_so step earlier es ss x i m (first_over x ws o) in
-      let r = passed_so step (t.write ∷ earlier) t.entries t.spoiled ws b.0 b.1.0 (rest_over x ws o) in
-      (r.0, (r.1.0, λ y. both_none (covers t.write k) (list_any (λ v. covers v k) (passed step (t.write ∷ earlier) t.entries t.spoiled ws).writes) (b.1.1 y) (r.1.1 y)))
-
-  abbrev OneSo : Mine → Pass → Type 0
-  OneSo m p = Stays p.entries × (Mark p.spoiled × OneOver k m p.writes)
-
-  passed_one : (m : Mine) (step : ℕ) (earlier : List Write) (es : Keyed Entry) (ss : Keyed Bool) (ws : List Write) → w ≡ true → Stays es → Mark ss → OneOver k m ws → OneSo m (passed step earlier es ss ws)
-  unfolding passed
-  passed_one m step earlier es ss [] t i b o = absurd o
-  passed_one m step earlier es ss (x ∷ ws) t i b (inl o) =
-      let r = passed_so step (x ∷ earlier) es ss ws i b (λ y. o.1.1) in
+  passed_over on [] step earlier es ss [] a f i b o = (i, (b, o))
+  passed_over on (m ∷ ms) step earlier es ss [] a f i b o = absurd o
+  passed_over on [] step earlier es ss (x ∷ ws) a f i b o =
+      let q = or_none (covers x k) (list_any (λ v. covers v k) ws) o in
+      let u = turn step earlier es ss x in
+      let c = turn_so step earlier es ss x i b (λ y. q.0) in
+      let r = passed_over on [] step (u.write ∷ earlier) u.entries u.spoiled ws tt (λ y. no_true y) c.0 c.1.0 q.1 in
+      (r.0, (r.1.0, both_none (covers u.write k) (list_any (λ v. covers v k) (passed step (u.write ∷ earlier) u.entries u.spoiled ws).writes) (c.1.1 on) r.1.1))
+  passed_over on (m ∷ ms) step earlier es ss (x ∷ ws) a f i b (inl o) =
+      let r = passed_over on ms step (x ∷ earlier) es ss ws a.1 (λ y. inr (or_left (covers x k) (list_any (λ v. covers v k) earlier) o.1.0)) i b o.1.1 in
       subst
       (λ (u : Turn).
       let p = passed step (u.write ∷ earlier) u.entries u.spoiled ws in
-      OneSo m (record { entries = p.entries; spoiled = p.spoiled; writes = u.write ∷ p.writes }))
-      (sym (turn_mine m step earlier es ss x o.0)) (r.0, (r.1.0, inl (o.0, (o.1.0, r.1.1 t))))
-  passed_one m step earlier es ss (x ∷ ws) t i b (inr o) =
+      PassSo (m ∷ ms) (record { entries = p.entries; spoiled = p.spoiled; writes = u.write ∷ p.writes }))
+      (sym (turn_own m step earlier es ss x a.0 f b o.0 o.1.0)) (r.0, (r.1.0, inl (o.0, (o.1.0, r.1.1))))
+  passed_over on (m ∷ ms) step earlier es ss (x ∷ ws) a f i b (inr o) =
       let u = turn step earlier es ss x in
       let c = turn_so step earlier es ss x i b (λ y. o.0) in
-      let r = passed_one m step (u.write ∷ earlier) u.entries u.spoiled ws t c.0 c.1.0 o.1 in
-      (r.0, (r.1.0, inr (c.1.1 t, r.1.1)))
-
-  passed_over : (q : Option Mine) (own : Ownership) → (is_some q ≡ true → w ≡ true) → Stays own.entries → Mark own.waits.spoiled → (w ≡ true → OverOf k q own.waits.writes)
-      → let p = passed own.waits.step [] own.entries own.waits.spoiled own.waits.writes in Stays p.entries × (Mark p.spoiled × (w ≡ true → OverOf k q p.writes))
-  passed_over None own h i m o = passed_so own.waits.step [] own.entries own.waits.spoiled own.waits.writes i m o
-  passed_over (Some x) own h i m o =
-      let r = passed_one x own.waits.step [] own.entries own.waits.spoiled own.waits.writes (h refl) i m (o (h refl)) in
-      (r.0, (r.1.0, λ y. r.1.1))
+      let r = passed_over on (m ∷ ms) step (u.write ∷ earlier) u.entries u.spoiled ws a (λ y. behind (f y)) c.0 c.1.0 o.1 in
+      (r.0, (r.1.0, inr (c.1.1 on, r.1.1)))
+    where
+      behind : Blocks earlier → Blocks ((turn step earlier es ss x).write ∷ earlier)
+      behind (inl y) = inl y
+      behind (inr y) = inr (or_right (covers (turn step earlier es ss x).write k) (list_any (λ v. covers v k) earlier) y)
 
   pub pass_so : (own : Ownership) → OwnSo own → OwnSo (proceeded own)
-  pass_so own t =
-      let r = passed_over M.mine own (λ y. M.holding (M.writes y)) t.entry t.mark t.over in
-      record { outs = t.outs; over = r.1.1; mark = r.1.0; entry = r.0 }
+  pass_so own t = by w refl
+    where
+      clash : {A : Type 0} → w ≡ false → w ≡ true → A
+      clash f y = no_true (sym f ∙ y)
+
+      by : (b : Bool) → w ≡ b → OwnSo (proceeded own)
+      by true y = let r = passed_over y M.mine own.waits.step [] own.entries own.waits.spoiled own.waits.writes M.alone (λ z. inl (M.behind z)) t.entry t.mark (t.over y) in record { outs = t.outs; over = λ z. r.1.1; mark = r.1.0; entry = r.0 }
+      by false y = record { outs = t.outs; over = λ z. clash y z; mark = λ z. clash y (M.marked z); entry = λ z. clash y (M.holding z) }
 
   -- ---- answers
 
@@ -514,11 +614,11 @@ module _ (M : Mode) where
 
   -- at a session's end nothing is held
   pub over_so : (own : Ownership) → (h ≡ true → ⊥) → OwnSo own → OwnSo (session_ended own)
-  over_so own n t = record { outs = t.outs; over = λ y. by M.mine (λ z. n (M.writes z)) (t.over y); mark = t.mark; entry = λ y. absurd (n y) }
+  over_so own n t = record { outs = t.outs; over = λ y. over_each k M.mine (λ x. stage_ended (is_single x.request) x.stage) own.waits.writes (ended_spares M.mine (by (any_begun M.mine) refl)) (t.over y); mark = t.mark; entry = λ y. absurd (n y) }
     where
-      by : (q : Option Mine) → (is_some q ≡ true → ⊥) → OverOf k q own.waits.writes → OverOf k q (session_ended own).waits.writes
-      by None u o = none_each k (λ x. stage_ended (is_single x.request) x.stage) own.waits.writes o
-      by (Some m) u o = absurd (u refl)
+      by : (b : Bool) → any_begun M.mine ≡ b → b ≡ false
+      by true e = absurd (n (M.writes e))
+      by false e = refl
 
   -- ---- notices
 
@@ -541,7 +641,7 @@ module _ (M : Mode) where
       let i = owned_key own.waits.prefix j in
       record {
         outs = t.outs;
-        over = λ y. over_each k M.mine (λ x. stage_gone (same i) x.stage) own.waits.writes (gone_sparing (same i)) (t.over y);
+        over = λ y. over_each k M.mine (λ x. stage_gone (same i) x.stage) own.waits.writes (gone_spares (same i) M.mine) (t.over y);
         mark = t.mark;
         entry = stays_turned i (deleted_turn revision) own.entries (λ y g. ap (λ (b : Bool). cond b (deleted_phase e e.phase) (Some e)) (s y g)) t.entry;
       }
@@ -558,7 +658,7 @@ module _ (M : Mode) where
       message_so session xs (noticed session x.change own) (subst (λ (p : List ℕ). AllSpare k w h e.create p xs) (sym (notice_prefix session x.change own)) s.1) (notice_so session x.change own s.0 t)
 
   pub resync_so : (own : Ownership) → OwnSo own → OwnSo (resynced own)
-  resync_so own t = record { outs = t.outs; over = λ y. over_each k M.mine (λ x. stage_gone (λ j. true) x.stage) own.waits.writes (gone_sparing (λ j. true)) (t.over y); mark = t.mark; entry = t.entry }
+  resync_so own t = record { outs = t.outs; over = λ y. over_each k M.mine (λ x. stage_gone (λ j. true) x.stage) own.waits.writes (gone_spares (λ j. true) M.mine) (t.over y); mark = t.mark; entry = t.entry }
 
   pub compaction_so : (own : Ownership) → (w ≡ true → ⊥) → OwnSo own → OwnSo (all_given_up own)
   compaction_so own n t = record { outs = t.outs; over = t.over; mark = λ y. absurd (n (M.marked y)); entry = λ y. absurd (n (M.holding y)) }
@@ -566,7 +666,7 @@ module _ (M : Mode) where
   -- ---- a write is handed in, and a job is sent
 
   pub submitted_so : (ticket : ℕ) (q : Request) (own : Ownership) → (w ≡ true → covered (written_ranges q) k ≡ false) → OwnSo own → OwnSo (submitted ticket q own)
-  submitted_so ticket q own c t = record { outs = t.outs; over = λ y. over_append k M.mine own.waits.writes (new_write ticket q ∷ []) (t.over y) (both_none (covered (written_ranges q) k) false (c y) refl); mark = t.mark; entry = t.entry }
+  submitted_so ticket q own c t = record { outs = t.outs; over = λ y. over_more k M.mine own.waits.writes (new_write ticket q ∷ []) (t.over y) (both_none (covered (written_ranges q) k) false (c y) refl); mark = t.mark; entry = t.entry }
 
   abbrev pub SentSo : Option JobSent → Type 0
   SentSo None = Unit {0}

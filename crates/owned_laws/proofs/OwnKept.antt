@@ -1,22 +1,24 @@
--- A write of an owned key alone is asked: its call is due as the owner's, and what items tell of it is so.
-use Rattle.std.proofs.Common.{◌≡◌, ℕ, ◌+◌, ◌==◌, Bool, true, false, not, ◌&&◌, List, Option, None, Some, is_some, Ok, refl, sym, ◌∙◌, ap, subst}
+-- A write of the key alone is asked, where the key is owned or about to be: its call is due as the owner's, or it waits, and what items tell
+-- of it is so.
+use Rattle.std.proofs.Common.{◌≡◌, ℕ, ◌+◌, ◌==◌, Bool, true, false, not, ◌&&◌, ◌||◌, List, [], ◌∷◌, ◌++◌, Option, None, Some, is_some, Ok, refl, sym, ◌∙◌, ap, subst}
+use Rattle.std.specs.List.{list_any}
 use Rattle.etcd_types.specs.declared.answer.Refusal.{Refusal}
 use Rattle.etcd_types.specs.declared.request.Request.{Request}
 use Rattle.etcd_types.specs.Keys.{is_empty}
-use Rattle.etcd_types.proofs.Bools.{and_first, and_second, or_first}
+use Rattle.etcd_types.proofs.Bools.{and_first, and_second, and_both, or_first}
 use Rattle.proxy_model.specs.SeveralKeys.{written_ranges}
 use Rattle.wait_model.specs.Covers.{covered, is_single, leased}
 use Rattle.wait_model.specs.Fits.{Fits}
-use Rattle.wait_model.specs.Phases.{begun, phase_begun}
+use Rattle.core_model.specs.declared.event.CoreEvent.{CoreEvent}
 use Rattle.core_model.specs.declared.event.CoreEvent.TheVariants as event
 use Rattle.core_model.specs.declared.event.Outcome.{Outcome}
-use Rattle.core_model.specs.Asking.{asked_at, refused_or_taken, if_unknown, on_ask}
+use Rattle.core_model.specs.Asking.{asked_at, write_is_asked, refused_or_taken, if_unknown, on_ask}
 use Rattle.core_model.specs.ClockWork.{clock_work}
 use Rattle.core_model.specs.Lookups.{ask_at, is_known, moment}
 use Rattle.core_model.specs.Refusals.{refusal_of}
 use Rattle.core_model.specs.State.{Core}
-use Rattle.core_model.specs.Step.{happened, stepped}
-use Rattle.core_model.specs.Stepped.{Stepped}
+use Rattle.core_model.specs.Step.{happened, is_worn, stepped}
+use Rattle.core_model.specs.Stepped.{Stepped, counted}
 use Rattle.watch_model.specs.Lookups.{watch_at}
 use Rattle.core_laws.proofs.Steps.Middle.{clock_whole}
 use Rattle.core_laws.proofs.Steps.Whole.{of_ok}
@@ -27,16 +29,18 @@ use Rattle.session_laws.proofs.Turns.{bound_of}
 use Rattle.cached_laws.specs.Reads.{is_served}
 use Rattle.cached_laws.proofs.Steps.{stepped_is}
 use Rattle.owned_laws.specs.OwnWrites.{OwnWrite, keeps_over}
-use Rattle.owned_laws.specs.Owned.{owns, write_asked, writes_over, owned}
+use Rattle.owned_laws.specs.Owned.{Owning, asks, sends, owns, write_asked, write_sent, writes_over, has_write, joined, owned}
 use Rattle.owned_laws.proofs.Carrying.{less_later}
 use Rattle.owned_laws.proofs.Cores as cores
 use Rattle.owned_laws.proofs.Cores.{CoreSo}
-use Rattle.owned_laws.proofs.Kept.{mine_as, Kept}
-use Rattle.owned_laws.proofs.Late.{AskedAt, begins_at}
-use Rattle.owned_laws.proofs.OwnSteps.{alone_of, own_asked}
+use Rattle.owned_laws.proofs.Joining.{alone_joined}
+use Rattle.owned_laws.proofs.Kept.{are_clients, Writes, Kept}
+use Rattle.owned_laws.proofs.Late.{AskedAt, AllOther, begins_at, all_front, all_joined, all_stay, on_time, waits_on_time}
+use Rattle.owned_laws.proofs.Modes.{IsAlone, AllAlone, first_as, behind_as}
+use Rattle.owned_laws.proofs.OwnSteps.{alone_of, write_taken, write_begins, write_waits, write_follows}
 use Rattle.owned_laws.proofs.Standing.{Before, later, mine, core_ok, prefix_is}
 use Rattle.owned_laws.proofs.Steps.{counted_so}
-use Rattle.owned_laws.proofs.Ways.{holds, writes_own}
+use Rattle.owned_laws.proofs.Ways.{holds, sending_as, writes_own}
 
 pub unknown_gives : (c : Core) (now ticket draw : ℕ) (q : Request) (o : Outcome) → (on_ask now ticket q draw c).outcome ≡ Ok o → is_known ticket c ≡ false
 unfolding on_ask
@@ -49,6 +53,10 @@ unknown_gives c now ticket draw q o e = by (is_known ticket c) e
 served_none : (o : Option Refusal) → is_served o ≡ true → o ≡ None
 served_none None e = refl
 served_none (Some r) e = absurd (cc)
+
+or_none : (a b : Bool) → a || b ≡ false → (a ≡ false) × (b ≡ false)
+or_none true b h = absurd (cc)
+or_none false b h = (refl, h)
 
 off_it : (b : Bool) → not b ≡ true → b ≡ false
 off_it true e = absurd (cc)
@@ -67,34 +75,129 @@ module _ {namespace : List ℕ} {items : List Item} {w : World} {p : ℕ} {x : P
   fits : Fits d.own
   fits = (clock_whole 0 x.clock x.core (of_ok x.core (core_ok known)).mid).mid.reads.ground.keys
 
-  pub own_begins_kept : (k : List ℕ) (t ticket draw : ℕ) (q : Request) (o : Outcome) (n create since : ℕ) → owned nsp lea k p t items ≡ Some (owns n create) → writes_over lea k q ≡ true → keeps_over lea k q ≡ true → (ticket == 0) ≡ false → since ≡ x.clock
-      → (stepped x.core (event.Ask ticket q draw) x.clock).outcome ≡ Ok o
-      → Kept w.calls (bound_of w + 1) p x.life x.clock k t (write_asked n create (record { ticket = ticket; request = q; since = since })) (stepped x.core (event.Ask ticket q draw) x.clock).core
-  own_begins_kept k t ticket draw q o n create since told over keeps client reads is =
-      let s = (mine known).keys k t (owns n create) told in
-      let h = s.1 in
-      let e = event.Ask ticket q draw in
-      let gave' = gave x.core e x.clock o is in
-      let new = unknown_gives d x.clock ticket draw q o gave'.1 in
-      let served = served_none (refusal_of lea q) (and_first (is_served (refusal_of lea q)) (covered (written_ranges q) k) over) in
-      let covers = and_second (is_served (refusal_of lea q)) (covered (written_ranges q) k) over in
-      let leasing = and_first (not (is_empty lea)) (is_single q && not (leased q k)) keeps in
-      let rest = and_second (not (is_empty lea)) (is_single q && not (leased q k)) keeps in
-      let single = and_first (is_single q) (not (leased q k)) rest in
-      let unleased = off_it (leased q k) (and_second (is_single q) (not (leased q k)) rest) in
-      let v : OwnWrite = record { ticket = ticket; request = q; since = since } in
-      let M = writes_own k n (mine_as v None) (begun h.entry) (ap phase_begun h.held) in
-      let begins = own_asked k n h.entry h.held x.clock ticket draw q (alone_of k q single covers unleased) single d new (ap (λ (l : List ℕ). refusal_of l q) (prefix_is known) ∙ served)
-      (ap (λ (l : List ℕ). not (is_empty l)) (prefix_is known) ∙ leasing) fits (cores.clock_so (holds k n h.entry h.held) refl x.clock x.core h.so) in
-      record {
-        below = less_later n (bound_of w) (bound_of w + 1) s.0 (later known);
-        client = client;
-        so = λ early. record {
-          entry = begun h.entry;
-          writing = ap phase_begun h.held;
-          created = h.created;
-          asked = subst (λ (z : Stepped). AskedAt ticket since z.core.asks) (sym (stepped_is x.core e x.clock gave'.0))
-              (begins_at ticket since x.clock draw q d (sym reads) (or_first (is_some (ask_at ticket d.asks)) (is_some (watch_at ticket d.watches.watches)) new));
-          so = subst (λ (z : Stepped). CoreSo M z.core) (sym (stepped_is x.core e x.clock gave'.0)) (counted_so M (happened x.clock e d) begins);
-        };
-      }
+  -- of one that is asked and joins
+  module _ (k : List ℕ) (t draw : ℕ) (v : OwnWrite) (o : Outcome) (over : writes_over lea k v.request ≡ true) (keeps : keeps_over lea k v.request ≡ true) (client : (v.ticket == 0) ≡ false) (reads : v.since ≡ x.clock) (is : (stepped x.core (event.Ask v.ticket v.request draw) x.clock).outcome ≡ Ok o) where
+    abbrev q : Request
+    q = v.request
+
+    abbrev e : CoreEvent
+    e = event.Ask v.ticket q draw
+
+    abbrev after : Core
+    after = (stepped x.core e x.clock).core
+
+    abbrev Told : Owning → Type 0
+    Told y = owned nsp lea k p t items ≡ Some y
+
+    abbrev Still : Owning → Type 0
+    Still y = Kept w.calls (bound_of w + 1) p x.life x.clock k t y after
+
+    gave' : (is_worn x.core ≡ false) × ((happened x.clock e d).outcome ≡ Ok o)
+    gave' = gave x.core e x.clock o is
+
+    new : is_known v.ticket d ≡ false
+    new = unknown_gives d x.clock v.ticket draw q o gave'.1
+
+    one : is_single q && not (leased q k) ≡ true
+    one = and_second (not (is_empty lea)) (is_single q && not (leased q k)) keeps
+
+    alone : IsAlone k q
+    alone = alone_of k q (and_first (is_single q) (not (leased q k)) one) (and_second (is_served (refusal_of lea q)) (covered (written_ranges q) k) over) (off_it (leased q k) (and_second (is_single q) (not (leased q k)) one))
+
+    -- what holds where it is taken in as a write holds behind the step, but for counts
+    taken_in : (P : Core → Type 0) → ((s : Stepped) → P s.core → P (counted s).core) → P (write_is_asked (asked_at x.clock v.ticket q draw) d).core → P after
+    taken_in P c h =
+        subst (λ (s : Stepped). P s.core) (sym (stepped_is x.core e x.clock gave'.0))
+        (c (happened x.clock e d)
+        (write_taken x.clock v.ticket draw q (λ s. P s.core) d (ap (λ (l : List ℕ). not (is_empty l)) (prefix_is known) ∙ and_first (not (is_empty lea)) (is_single q && not (leased q k)) keeps) h
+        (and_first (is_single q) (not (leased q k)) one) new
+        (ap (λ (l : List ℕ). refusal_of l q) (prefix_is known) ∙ served_none (refusal_of lea q) (and_first (is_served (refusal_of lea q)) (covered (written_ranges q) k) over))))
+
+    asked_new : AskedAt v.ticket v.since after.asks
+    asked_new =
+        subst (λ (z : Stepped). AskedAt v.ticket v.since z.core.asks) (sym (stepped_is x.core e x.clock gave'.0))
+        (begins_at v.ticket v.since x.clock draw q d (sym reads) (or_first (is_some (ask_at v.ticket d.asks)) (is_some (watch_at v.ticket d.watches.watches)) new))
+
+    other : (vs : List OwnWrite) → list_any (λ w. v.ticket == w.ticket) vs ≡ false → AllOther e vs
+    other [] n = tt
+    other (w ∷ ws) n = let r = or_none (v.ticket == w.ticket) (list_any (λ w. v.ticket == w.ticket) ws) n in (r.0, other ws r.1)
+
+    clients : (vs : List OwnWrite) → are_clients vs ≡ true → are_clients (vs ++ v ∷ []) ≡ true
+    clients [] h = ap (λ (b : Bool). not b && true) client
+    clients (w ∷ ws) h = and_both (not (w.ticket == 0)) (are_clients (ws ++ v ∷ [])) (and_first (not (w.ticket == 0)) (are_clients ws) h) (clients ws (and_second (not (w.ticket == 0)) (are_clients ws) h))
+
+    begins : (n create : ℕ) → Told (owns n create) → Still (write_asked n create v [])
+    begins n create told =
+        let s = (mine known).keys k t (owns n create) told in
+        let h = s.1 in
+        let r = write_begins k n h.entry h.held x.clock draw v alone d fits (cores.clock_so (holds k n h.entry h.held) refl x.clock x.core h.so) in
+        record {
+          below = less_later n (bound_of w) (bound_of w + 1) s.0 (later known);
+          clients = clients [] refl;
+          so = λ early. record {
+            begun = record {
+              entry = r.entry;
+              writing = r.writing;
+              created = r.created ∙ h.created;
+              alone = r.alone;
+              so = taken_in (CoreSo (writes_own k n v [] None r.alone r.entry r.writing)) (λ z. counted_so (writes_own k n v [] None r.alone r.entry r.writing) z) r.so;
+            };
+            asked = (asked_new, tt);
+          };
+        }
+
+    joins_sending : (number n : ℕ) (vs : List OwnWrite) → Told (sends number n vs) → list_any (λ w. v.ticket == w.ticket) vs ≡ false → Still (sends number n (vs ++ v ∷ []))
+    joins_sending number n vs told fresh =
+        let s = (mine known).keys k t (sends number n vs) told in
+        record {
+          own = s.own;
+          call = s.call;
+          below = less_later n (bound_of w) (bound_of w + 1) s.below (later known);
+          clients = clients vs s.clients;
+          so = λ early.
+              let soon = all_front x.clock vs v early in
+              let u = s.so soon in
+              let b = alone_joined k vs v u.alone alone in
+              let M = sending_as k s.own n (vs ++ v ∷ []) b in
+              record {
+                alone = b;
+                asked = all_joined vs v after.asks (all_stay vs x.core e x.clock (core_ok known) (other vs fresh) u.asked) asked_new;
+                so = taken_in (CoreSo M) (λ z. counted_so M z) (write_waits k n x.clock draw v alone vs s.own u.alone b d (cores.clock_by (sending_as k s.own n vs u.alone) x.clock x.core (waits_on_time x.clock k s.own n vs u.alone soon x.core u.asked) u.so));
+              };
+        }
+
+    -- behind a write that has begun
+    joins_writing : (n create : ℕ) (u : OwnWrite) (vs : List OwnWrite) (call : Option ℕ) → list_any (λ w. v.ticket == w.ticket) (u ∷ vs) ≡ false → Writes k x.clock n create u vs call x.core → Writes k x.clock n create u (vs ++ v ∷ []) call after
+    joins_writing n create u vs call fresh s early =
+        let soon = all_front x.clock (u ∷ vs) v early in
+        let h = s soon in
+        let g = h.begun in
+        let b : AllAlone k (first_as u call ∷ behind_as (vs ++ v ∷ [])) = (g.alone.0, alone_joined k vs v g.alone.1 alone) in
+        let M = writes_own k n u (vs ++ v ∷ []) call b g.entry g.writing in
+        record {
+          begun = record {
+            entry = g.entry;
+            writing = g.writing;
+            created = g.created;
+            alone = b;
+            so = taken_in (CoreSo M) (λ z. counted_so M z)
+                (write_follows k n x.clock draw v alone vs u call g.alone b g.entry g.writing d (cores.clock_by (writes_own k n u vs call g.alone g.entry g.writing) x.clock x.core (on_time x.clock k n u vs call g.alone g.entry g.writing soon x.core h.asked) g.so));
+          };
+          asked = all_joined (u ∷ vs) v after.asks (all_stay (u ∷ vs) x.core e x.clock (core_ok known) (other (u ∷ vs) fresh) h.asked) asked_new;
+        }
+
+    some_owning : (a b : Owning) → Some a ≡ Some b → a ≡ b
+    some_owning a b e = cc
+
+    pub joined_kept : (y z : Owning) → Told y → has_write v.ticket y ≡ false → joined v y ≡ Some z → Still z
+    joined_kept asks z told fresh j = absurd (cc)
+    joined_kept (sends number n vs) z told fresh j = subst Still (some_owning (sends number n (vs ++ v ∷ [])) z j) (joins_sending number n vs told fresh)
+    joined_kept (owns n create) z told fresh j = subst Still (some_owning (write_asked n create v []) z j) (begins n create told)
+    joined_kept (write_asked n create u vs) z told fresh j =
+        let s = (mine known).keys k t (write_asked n create u vs) told in
+        subst Still (some_owning (write_asked n create u (vs ++ v ∷ [])) z j)
+        (record { below = less_later n (bound_of w) (bound_of w + 1) s.below (later known); clients = clients (u ∷ vs) s.clients; so = joins_writing n create u vs None fresh s.so })
+    joined_kept (write_sent n create u vs number) z told fresh j =
+        let s = (mine known).keys k t (write_sent n create u vs number) told in
+        subst Still (some_owning (write_sent n create u (vs ++ v ∷ []) number) z j)
+        (record { own = s.own; call = s.call; below = less_later n (bound_of w) (bound_of w + 1) s.below (later known); clients = clients (u ∷ vs) s.clients; so = joins_writing n create u vs (Some s.own) fresh s.so })

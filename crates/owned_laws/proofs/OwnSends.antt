@@ -1,4 +1,4 @@
--- The call of the owner's own write goes out: where a call that names its ticket is sent, that is it.
+-- The call of the first of the owner's own writes goes out: where a call that names its ticket is sent, that is it.
 use Rattle.std.proofs.Common.{◌≡◌, inl, inr, ℕ, ◌==◌, Bool, true, false, cond, not, ◌||◌, List, [], ◌∷◌, ◌++◌, Option, None, Some, refl, sym, ◌∙◌, ap, subst}
 use Rattle.std.specs.Prelude.{flat_map}
 use Rattle.etcd_types.proofs.Bools.{and_first, and_second}
@@ -21,8 +21,9 @@ use Rattle.core_laws.proofs.Writes.Kept.{first_passes}
 use Rattle.core_model.specs.Fits.{has_number, once, write_tickets}
 use Rattle.core_fits.specs.Fits.{EachOf}
 use Rattle.core_laws.proofs.Steps.Lists.{same_number, number_itself}
-use Rattle.owned_laws.proofs.Modes.{Mine, IsMine}
-use Rattle.owned_laws.proofs.Own.{OneOver, OwnSo}
+use Rattle.owned_laws.specs.OwnWrites.{OwnWrite}
+use Rattle.owned_laws.proofs.Modes.{Mine, IsMine, AllAlone, first_as, behind_as}
+use Rattle.owned_laws.proofs.Own.{OverOf, OwnSo}
 use Rattle.owned_laws.proofs.Ways.{writes_own}
 
 no_true : {A : Type 0} → false ≡ true → A
@@ -46,23 +47,26 @@ clash false e f = absurd (cc)
 
 -- ---- the write of the ticket
 
-module _ (k : List ℕ) (t : ℕ) (q : Rattle.etcd_types.specs.declared.request.Request.Request) where
-  abbrev pub due : Mine
-  due = record { ticket = t; request = q; call = None }
+module _ (k : List ℕ) (v : OwnWrite) (vs : List OwnWrite) where
+  abbrev t : ℕ
+  t = v.ticket
 
-  abbrev pub out : ℕ → Mine
-  out call = record { ticket = t; request = q; call = Some call }
+  abbrev due : Mine
+  due = first_as v None
+
+  abbrev Over : List Write → Type 0
+  Over ws = OverOf k (due ∷ behind_as vs) ws
 
   its_ticket : (x : Write) → IsMine due x → (x.ticket == t) ≡ true
   its_ticket x i = ap (λ (n : ℕ). n == t) i.ticket ∙ number_itself t
 
-  pub has_it : (ws : List Write) → OneOver k due ws → has_number (write_tickets ws) t ≡ true
+  pub has_it : (ws : List Write) → Over ws → has_number (write_tickets ws) t ≡ true
   has_it [] o = absurd o
   has_it (y ∷ ws) (inl o) = ap (λ (b : Bool). b || has_number (write_tickets ws) t) (its_ticket y o.0)
   has_it (y ∷ ws) (inr o) = or_second (y.ticket == t) (has_number (write_tickets ws) t) (has_it ws o.1)
 
   -- a write before it has another ticket
-  other : (y : Write) (ws : List Write) → OneOver k due ws → once (write_tickets (y ∷ ws)) ≡ true → (y.ticket == t) ≡ false
+  other : (y : Write) (ws : List Write) → Over ws → once (write_tickets (y ∷ ws)) ≡ true → (y.ticket == t) ≡ false
   other y ws o u = by (y.ticket == t) refl
     where
       by : (b : Bool) → (y.ticket == t) ≡ b → b ≡ false
@@ -75,20 +79,20 @@ module _ (k : List ℕ) (t : ℕ) (q : Rattle.etcd_types.specs.declared.request.
   some_write x y e = cc
 
   -- the first of the ticket is it
-  is_it : (x : Write) (ws : List Write) → OneOver k due ws → once (write_tickets ws) ≡ true → first_by (has_ticket t) ws ≡ Some x → IsMine due x
+  is_it : (x : Write) (ws : List Write) → Over ws → once (write_tickets ws) ≡ true → first_by (has_ticket t) ws ≡ Some x → IsMine due x
   is_it x [] o u e = absurd o
   is_it x (y ∷ ws) (inl o) u e = subst (IsMine due) (some_write y x (ap (λ (b : Bool). cond b (Some y) (first_by (has_ticket t) ws)) (sym (its_ticket y o.0)) ∙ e)) o.0
   is_it x (y ∷ ws) (inr o) u e =
       is_it x ws o.1 (and_second (not (has_number (write_tickets ws) y.ticket)) (once (write_tickets ws)) u) (ap (λ (b : Bool). cond b (Some y) (first_by (has_ticket t) ws)) (sym (other y ws o.1 u)) ∙ e)
 
   -- it goes out
-  goes_out : (call : ℕ) (ws : List Write) → OneOver k due ws → once (write_tickets ws) ≡ true → OneOver k (out call) (with_first (has_ticket t) (Sends true (sending.Out call)) ws)
+  goes_out : (call : ℕ) (ws : List Write) → Over ws → once (write_tickets ws) ≡ true → OverOf k (first_as v (Some call) ∷ behind_as vs) (with_first (has_ticket t) (Sends true (sending.Out call)) ws)
   goes_out call [] o u = absurd o
   goes_out call (y ∷ ws) (inl o) u =
-      subst (λ (b : Bool). OneOver k (out call) (cond b (staged y (Sends true (sending.Out call)) ∷ ws) (y ∷ with_first (has_ticket t) (Sends true (sending.Out call)) ws))) (sym (its_ticket y o.0))
-      (inl (record { ticket = o.0.ticket; request = o.0.request; sending = sending.Out call; stage = refl; sends = refl }, (o.1.0, o.1.1)))
+      subst (λ (b : Bool). OverOf k (first_as v (Some call) ∷ behind_as vs) (cond b (staged y (Sends true (sending.Out call)) ∷ ws) (y ∷ with_first (has_ticket t) (Sends true (sending.Out call)) ws))) (sym (its_ticket y o.0))
+      (inl (record { ticket = o.0.ticket; request = o.0.request; ranges = o.0.ranges; stage = refl }, (o.1.0, o.1.1)))
   goes_out call (y ∷ ws) (inr o) u =
-      subst (λ (b : Bool). OneOver k (out call) (cond b (staged y (Sends true (sending.Out call)) ∷ ws) (y ∷ with_first (has_ticket t) (Sends true (sending.Out call)) ws))) (sym (other y ws o.1 u))
+      subst (λ (b : Bool). OverOf k (first_as v (Some call) ∷ behind_as vs) (cond b (staged y (Sends true (sending.Out call)) ∷ ws) (y ∷ with_first (has_ticket t) (Sends true (sending.Out call)) ws))) (sym (other y ws o.1 u))
       (inr (o.0, goes_out call ws o.1 (and_second (not (has_number (write_tickets ws) y.ticket)) (once (write_tickets ws)) u)))
 
   -- ---- no revoke call is for it
@@ -105,10 +109,10 @@ module _ (k : List ℕ) (t : ℕ) (q : Rattle.etcd_types.specs.declared.request.
   none_it [] n = tt
   none_it (y ∷ ws) n = let o = or_none (y.ticket == t) (has_number (write_tickets ws) t) n in ((λ f. o.0), none_it ws o.1)
 
-  all_find : (ws : List Write) → OneOver k due ws → once (write_tickets ws) ≡ true → EachOf FindsOther ws
+  all_find : (ws : List Write) → Over ws → once (write_tickets ws) ≡ true → EachOf FindsOther ws
   all_find [] o u = absurd o
   all_find (y ∷ ws) (inl o) u = (
-    (λ f. no_true (sym (ap is_finding o.0.stage) ∙ f)),
+    (λ f. no_true (sym (ap is_finding o.0.stage.1) ∙ f)),
     none_it ws (ap (has_number (write_tickets ws)) (sym o.0.ticket) ∙ not_true (has_number (write_tickets ws) y.ticket) (and_first (not (has_number (write_tickets ws) y.ticket)) (once (write_tickets ws)) u)),
   )
   all_find (y ∷ ws) (inr o) u = ((λ f. other y ws o.1 u), all_find ws o.1 (and_second (not (has_number (write_tickets ws) y.ticket)) (once (write_tickets ws)) u))
@@ -155,14 +159,14 @@ module _ (k : List ℕ) (t : ℕ) (q : Rattle.etcd_types.specs.declared.request.
       chosen None x = b.0
       chosen (Some e) x = either (is_sooner d e) e x
 
-  first_so : (ws : List Write) → OneOver k due ws → once (write_tickets ws) ≡ true → IfSo (first_call ws)
+  first_so : (ws : List Write) → Over ws → once (write_tickets ws) ≡ true → IfSo (first_call ws)
   first_so ws o u = soonest_so None (due_calls ws) tt (calls_so ws (all_find ws o u))
 
   -- ---- the job
 
-  module _ (n : ℕ) (e : Entry) (writing : e.phase ≡ Writing false) (call : ℕ) (own : Ownership) (u : once (write_tickets own.waits.writes) ≡ true) (s : JobSent) (names : s.due.ticket ≡ t) (client : (0 == t) ≡ false) (so : OwnSo (writes_own k n due e writing) own) where
+  module _ (n : ℕ) (alone : AllAlone k (due ∷ behind_as vs)) (e : Entry) (writing : e.phase ≡ Writing false) (call : ℕ) (own : Ownership) (u : once (write_tickets own.waits.writes) ≡ true) (s : JobSent) (names : s.due.ticket ≡ t) (client : (0 == t) ≡ false) (so : OwnSo (writes_own k n v vs None alone e writing) own) where
     abbrev Sent : Type 0
-    Sent = (writes_own k n due e writing).Outs s.own.waits.out → OwnSo (writes_own k n (out call) e writing) s.own
+    Sent = (writes_own k n v vs None alone e writing).Outs s.own.waits.out → OwnSo (writes_own k n v vs (Some call) alone e writing) s.own
 
     some_sent : (a b : JobSent) → Some a ≡ Some b → a ≡ b
     some_sent a b f = cc
@@ -171,12 +175,12 @@ module _ (k : List ℕ) (t : ℕ) (q : Rattle.etcd_types.specs.declared.request.
     written d x f g =
         let number : d.place.number ≡ t = sym (same_number x.ticket d.place.number (first_passes (has_ticket d.place.number) own.waits.writes x f)) ∙ ap (λ (j : JobSent). j.due.ticket) g ∙ names in
         let mine = is_it x own.waits.writes (so.over refl) u (ap (λ (i : ℕ). first_by (has_ticket i) own.waits.writes) (sym number) ∙ f) in
-        subst (λ (j : JobSent). (writes_own k n due e writing).Outs j.own.waits.out → OwnSo (writes_own k n (out call) e writing) j.own) g
+        subst (λ (j : JobSent). (writes_own k n v vs None alone e writing).Outs j.own.waits.out → OwnSo (writes_own k n v vs (Some call) alone e writing) j.own) g
         (λ outs. record {
           outs = outs;
           over = λ y.
-              subst (λ (i : ℕ). OneOver k (out call) (with_first (has_ticket i) (stage_sent call x.stage) own.waits.writes)) (sym number)
-              (subst (λ (z : WriteStage). OneOver k (out call) (with_first (has_ticket t) z own.waits.writes)) (sym (ap (stage_sent call) mine.stage)) (goes_out call own.waits.writes (so.over refl) u));
+              subst (λ (i : ℕ). OverOf k (first_as v (Some call) ∷ behind_as vs) (with_first (has_ticket i) (stage_sent call x.stage) own.waits.writes)) (sym number)
+              (subst (λ (z : WriteStage). OverOf k (first_as v (Some call) ∷ behind_as vs) (with_first (has_ticket t) z own.waits.writes)) (sym (ap (stage_sent call) mine.stage.1)) (goes_out call own.waits.writes (so.over refl) u));
           mark = λ y. no_true y;
           entry = so.entry;
         })

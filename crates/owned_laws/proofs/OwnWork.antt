@@ -1,6 +1,5 @@
 -- A proxy's work while the owner's own write of a key is due: its call goes out, and other calls of writes and entries leave it.
-use Rattle.std.proofs.Common.{◌≡◌, ℕ, ◌==◌, false, true, List, Option, Some, refl, sym, ◌∙◌, ap, subst}
-use Rattle.etcd_types.specs.declared.request.Request.{Request}
+use Rattle.std.proofs.Common.{◌≡◌, ℕ, ◌==◌, false, true, List, ◌∷◌, Option, None, Some, refl, sym, ◌∙◌, ap, subst}
 use Rattle.etcd_types.specs.Keys.{same}
 use Rattle.etcd_types.proofs.KeyOrder.{same-equal}
 use Rattle.proxy_model.specs.declared.lease.Entry.{Entry}
@@ -17,18 +16,19 @@ use Rattle.core_model.specs.State.{Core}
 use Rattle.core_fits.specs.Fits.{EachOf}
 use Rattle.step_moves.proofs.DueCalls.{rescind_stands}
 use Rattle.owned_laws.proofs.Cores.{CoreSo, GoesOut}
-use Rattle.owned_laws.proofs.Modes.{Mine}
+use Rattle.owned_laws.specs.OwnWrites.{OwnWrite}
+use Rattle.owned_laws.proofs.Modes.{AllAlone, first_as, behind_as}
 use Rattle.owned_laws.proofs.Own.{Misses, OwnSo}
-use Rattle.owned_laws.proofs.OwnSends.{due, out, own_goes_out}
+use Rattle.owned_laws.proofs.OwnSends.{own_goes_out}
 use Rattle.owned_laws.proofs.Steps.{sent_each}
 use Rattle.owned_laws.proofs.Ways.{CallSo, NotOf, writes_own}
 
 no_true : {A : Type 0} → false ≡ true → A
 no_true e = absurd (cc)
 
-module _ (k : List ℕ) (n : ℕ) (m : Mine) (e : Entry) (writing : e.phase ≡ Writing false) (d : Core) (order : is_in_order d.own.entries ≡ true) where
+module _ (k : List ℕ) (n : ℕ) (v : OwnWrite) (vs : List OwnWrite) (own : Option ℕ) (alone : AllAlone k (first_as v own ∷ behind_as vs)) (e : Entry) (writing : e.phase ≡ Writing false) (d : Core) (order : is_in_order d.own.entries ≡ true) where
   abbrev Mid : Type 0
-  Mid = OwnSo (writes_own k n m e writing) d.own
+  Mid = OwnSo (writes_own k n v vs own alone e writing) d.own
 
   same_entry : (x y : Entry) → Some x ≡ Some y → x ≡ y
   same_entry x y f = cc
@@ -44,15 +44,15 @@ module _ (k : List ℕ) (n : ℕ) (m : Mine) (e : Entry) (writing : e.phase ≡ 
   outs_stay t s j = sent_each (NotOf k e.create) (next_call d) d.own (no_rescind t) t.outs s j
 
   -- another call of a write or an entry goes out
-  pub writing_out : ((s : JobSent) → job_sent (next_call d) d.own ≡ Some s → Misses (writes_own k n m e writing) (has_ticket s.due.ticket)) → GoesOut (writes_own k n m e writing) (first_job d) d
+  pub writing_out : ((s : JobSent) → job_sent (next_call d) d.own ≡ Some s → Misses (writes_own k n v vs own alone e writing) (has_ticket s.due.ticket)) → GoesOut (writes_own k n v vs own alone e writing) (first_job d) d
   writing_out f i s j t = (outs_stay t s j, f s j)
 
-module _ (k : List ℕ) (t : ℕ) (q : Request) (n : ℕ) (e : Entry) (writing : e.phase ≡ Writing false) (d : Core) (order : is_in_order d.own.entries ≡ true) (tickets : once (write_tickets d.own.waits.writes) ≡ true) (client : (0 == t) ≡ false) where
+module _ (k : List ℕ) (v : OwnWrite) (vs : List OwnWrite) (n : ℕ) (alone : AllAlone k (first_as v None ∷ behind_as vs)) (e : Entry) (writing : e.phase ≡ Writing false) (d : Core) (order : is_in_order d.own.entries ≡ true) (tickets : once (write_tickets d.own.waits.writes) ≡ true) (client : (0 == v.ticket) ≡ false) where
   -- its own call goes out
-  pub own_sent : (now : ℕ) (s : JobSent) → first_job d ≡ Some ForWrites → job_sent (next_call d) d.own ≡ Some s → s.due.ticket ≡ t → CoreSo (writes_own k n (due k t q) e writing) d
-      → CoreSo (writes_own k n (out k t q (next_call d)) e writing) (on_work now d).core
+  pub own_sent : (now : ℕ) (s : JobSent) → first_job d ≡ Some ForWrites → job_sent (next_call d) d.own ≡ Some s → s.due.ticket ≡ v.ticket → CoreSo (writes_own k n v vs None alone e writing) d
+      → CoreSo (writes_own k n v vs (Some (next_call d)) alone e writing) (on_work now d).core
   unfolding on_work
   own_sent now s f j names so =
-      subst (λ (i : Option DueJob). CoreSo (writes_own k n (out k t q (next_call d)) e writing) (sent_by now i d).core) (sym f)
-      (subst (λ (o : Option JobSent). CoreSo (writes_own k n (out k t q (next_call d)) e writing) (writes_sent now o d).core) (sym j)
-      (λ y i. let r = so y tt in (own_goes_out k t q n e writing (next_call d) d.own tickets s names client r.0 j (outs_stay k n (due k t q) e writing d order r.0 s j), r.1)))
+      subst (λ (i : Option DueJob). CoreSo (writes_own k n v vs (Some (next_call d)) alone e writing) (sent_by now i d).core) (sym f)
+      (subst (λ (o : Option JobSent). CoreSo (writes_own k n v vs (Some (next_call d)) alone e writing) (writes_sent now o d).core) (sym j)
+      (λ y i. let r = so y tt in (own_goes_out k v vs n alone e writing (next_call d) d.own tickets s names client r.0 j (outs_stay k n v vs None alone e writing d order r.0 s j), r.1)))

@@ -1,5 +1,5 @@
--- The owner's own write of a key, at a proxy's ownership: it begins at once where the key is held, its call goes out, and with that call's
--- answer the key is held again.
+-- The first of the owner's own writes of a key, at a proxy's ownership: with its call's answer the key is held again, and the writes behind it
+-- wait for their turn.
 use Rattle.std.proofs.Common.{◌≡◌, inl, inr, ℕ, Bool, true, false, cond, ◌&&◌, ◌||◌, List, [], ◌∷◌, Option, None, Some, refl, sym, ◌∙◌, ap, subst}
 use Rattle.std.specs.List.{list_any}
 use Rattle.std.specs.Option.{option_map}
@@ -23,11 +23,12 @@ use Rattle.wait_model.specs.Stages.{is_owner}
 use Rattle.wait_model.specs.State.{Ownership}
 use Rattle.wait_model.specs.Writes.{first_by, without_first, sends, job_of}
 use Rattle.wait_model.proofs.Tables.{at-each}
-use Rattle.owned_laws.specs.OwnWrites.{is_wrote, settles}
-use Rattle.owned_laws.specs.Watched.{NoneOver}
-use Rattle.owned_laws.proofs.Modes.{Mine, IsMine}
-use Rattle.owned_laws.proofs.Own.{OneOver, OwnSo, none_found}
-use Rattle.owned_laws.proofs.Ways.{holds, writes_own}
+use Rattle.core_fits.specs.Fits.{EachOf}
+use Rattle.owned_laws.specs.OwnWrites.{OwnWrite, is_wrote, settles}
+use Rattle.owned_laws.proofs.Modes.{Mine, IsMine, AllAlone, first_as, behind_as}
+use Rattle.owned_laws.proofs.Own.{OverOf, MissesOf, sends_misses, over_away, OwnSo}
+use Rattle.owned_laws.proofs.Ready.{ReadyIn}
+use Rattle.owned_laws.proofs.Ways.{CallSo, NotOf, writes_own}
 
 no_true : {A : Type 0} → false ≡ true → A
 no_true e = absurd (cc)
@@ -43,51 +44,58 @@ both_none : (a b : Bool) → a ≡ false → b ≡ false → a || b ≡ false
 both_none true b h i = h
 both_none false b h i = i
 
--- ---- the one write over the key, found
+-- ---- the first write over the key, found
 
-module _ (k : List ℕ) (m : Mine) (p : Write → Bool) (x : Write) (over : covers x k ≡ true) where
-  pub one_found : (ws : List Write) → OneOver k m ws → first_by p ws ≡ Some x → IsMine m x
+over_front : (k : List ℕ) (ms : List Mine) (y : Write) (ws : List Write) → covers y k ≡ false → OverOf k ms ws → OverOf k ms (y ∷ ws)
+over_front k [] y ws c o = both_none (covers y k) (list_any (λ v. covers v k) ws) c o
+over_front k (m ∷ ms) y ws c o = inr (c, o)
+
+module _ (k : List ℕ) (m : Mine) (ms : List Mine) (p : Write → Bool) (miss : MissesOf ms p) (x : Write) (over : covers x k ≡ true) where
+  pub one_found : (ws : List Write) → OverOf k (m ∷ ms) ws → first_by p ws ≡ Some x → IsMine m x
   one_found [] o e = absurd o
   one_found (y ∷ ws) (inl o) e = by (p y) e
     where
       by : (b : Bool) → cond b (Some y) (first_by p ws) ≡ Some x → IsMine m x
       by true f = subst (IsMine m) (some_write y x f) o.0
-      by false f = apart (covers x k) over (none_found k p x ws o.1.1 f)
+      by false f = apart (covers x k) over (over_away k ms p x ws miss o.1.1 f)
   one_found (y ∷ ws) (inr o) e = by (p y) e (one_found ws o.1)
     where
       by : (b : Bool) → cond b (Some y) (first_by p ws) ≡ Some x → (first_by p ws ≡ Some x → IsMine m x) → IsMine m x
       by true f more = apart (covers y k) (ap (λ (z : Write). covers z k) (some_write y x f) ∙ over) o.0
       by false f more = more f
 
-  one_removed : (ws : List Write) → OneOver k m ws → first_by p ws ≡ Some x → NoneOver k (without_first p ws)
+  pub one_removed : (ws : List Write) → OverOf k (m ∷ ms) ws → first_by p ws ≡ Some x → OverOf k ms (without_first p ws)
   one_removed [] o e = absurd o
   one_removed (y ∷ ws) (inl o) e = by (p y) e
     where
-      by : (b : Bool) → cond b (Some y) (first_by p ws) ≡ Some x → NoneOver k (cond b ws (y ∷ without_first p ws))
+      by : (b : Bool) → cond b (Some y) (first_by p ws) ≡ Some x → OverOf k ms (cond b ws (y ∷ without_first p ws))
       by true f = o.1.1
-      by false f = apart (covers x k) over (none_found k p x ws o.1.1 f)
+      by false f = apart (covers x k) over (over_away k ms p x ws miss o.1.1 f)
   one_removed (y ∷ ws) (inr o) e = by (p y) e (one_removed ws o.1)
     where
-      by : (b : Bool) → cond b (Some y) (first_by p ws) ≡ Some x → (first_by p ws ≡ Some x → NoneOver k (without_first p ws)) → NoneOver k (cond b ws (y ∷ without_first p ws))
+      by : (b : Bool) → cond b (Some y) (first_by p ws) ≡ Some x → (first_by p ws ≡ Some x → OverOf k ms (without_first p ws)) → OverOf k ms (cond b ws (y ∷ without_first p ws))
       by true f more = apart (covers y k) (ap (λ (z : Write). covers z k) (some_write y x f) ∙ over) o.0
-      by false f more = both_none (covers y k) (list_any (λ v. covers v k) (without_first p ws)) o.0 (more f)
+      by false f more = over_front k ms y (without_first p ws) o.0 (more f)
 
 -- ---- its call is answered
 
--- held, since the create revision before
-pub record HeldAgain (k : List ℕ) (n create : ℕ) (own : Ownership) : Type 0 where
+-- held, since the create revision before, and the other writes wait
+pub record HeldAgain (k : List ℕ) (create : ℕ) (vs : List OwnWrite) (own : Ownership) : Type 0 where
   pub entry : Entry
   pub held : entry.phase ≡ Held
   pub created : entry.create ≡ create
-  pub so : OwnSo (holds k n entry held) own
+  pub ready : ReadyIn k entry vs own
 
-module _ (k : List ℕ) (n : ℕ) (m : Mine) (e : Entry) (writing : e.phase ≡ Writing false) where
+module _ (k : List ℕ) (n : ℕ) (v : OwnWrite) (vs : List OwnWrite) (out : ℕ) (alone : AllAlone k (first_as v (Some out) ∷ behind_as vs)) (e : Entry) (writing : e.phase ≡ Writing false) where
+  abbrev m : Mine
+  m = first_as v (Some out)
+
   abbrev Mid : Ownership → Type 0
-  Mid own = OwnSo (writes_own k n m e writing) own
+  Mid own = OwnSo (writes_own k n v vs (Some out) alone e writing) own
 
   abbrev pub After : Option Ending → Type 0
   After None = ⊥
-  After (Some x) = HeldAgain k n e.create x.own
+  After (Some x) = HeldAgain k e.create vs x.own
 
   -- an entry that its write changes to one that is held
   changed : (x : Write) (f : List ℕ → Entry → Entry) (es : Keyed Entry) → IsMine m x → covers x k ≡ true → at es k ≡ Some e → at (change_owned x f es) k ≡ Some (f k e)
@@ -95,38 +103,39 @@ module _ (k : List ℕ) (n : ℕ) (m : Mine) (e : Entry) (writing : e.phase ≡ 
       at-each _ es k ∙ ap (option_map (λ (y : Entry). cond (owns x k && is_writing_phase y.phase) (f k y) y)) here
       ∙ ap (λ (b : Bool). Some (cond b (f k e) e)) (ap (λ (c : Bool). (is_owner x.stage && c) && is_writing_phase e.phase) over ∙ ap (λ (s : Rattle.wait_model.specs.declared.write.WriteStage.WriteStage). (is_owner s && true) && is_writing_phase e.phase) i.stage ∙ ap is_writing_phase writing)
 
-  ended : (p : Write → Bool) (x : Write) (own : Ownership) (f : List ℕ → Entry → Entry) → first_by p own.waits.writes ≡ Some x → covers x k ≡ true → (f k e).phase ≡ Held → (f k e).create ≡ e.create → Mid own
-      → HeldAgain k n e.create (ended_by own (change_owned x f own.entries) p)
-  ended p x own f is over held same t = record {
+  ended : (p : Write → Bool) (x : Write) (own : Ownership) (f : List ℕ → Entry → Entry) → MissesOf (behind_as vs) p → first_by p own.waits.writes ≡ Some x → covers x k ≡ true → (f k e).phase ≡ Held → (f k e).create ≡ e.create → at own.waits.spoiled k ≡ None → Mid own
+      → HeldAgain k e.create vs (ended_by own (change_owned x f own.entries) p)
+  ended p x own f miss is over held same free t = record {
     entry = f k e;
     held = held;
     created = same;
-    so = record {
-      outs = subst (λ (c : ℕ). Rattle.core_fits.specs.Fits.EachOf (Rattle.owned_laws.proofs.Ways.CallSo (Rattle.owned_laws.proofs.Ways.NotOf k c)) own.waits.out) (sym same) t.outs;
-      over = λ y. one_removed k m p x over own.waits.writes (t.over refl) is;
-      mark = λ y. no_true y;
-      entry = λ y. changed x f own.entries (one_found k m p x over own.waits.writes (t.over refl) is) over (t.entry refl);
+    ready = record {
+      entry = changed x f own.entries (one_found k m (behind_as vs) p miss x over own.waits.writes (t.over refl) is) over (t.entry refl);
+      free = free;
+      over = one_removed k m (behind_as vs) p miss x over own.waits.writes (t.over refl) is;
+      outs = subst (λ (c : ℕ). EachOf (CallSo (NotOf k c)) own.waits.out) (sym same) t.outs;
     };
   }
 
-  by_written : (session : Option ℕ) (p : Write → Bool) (x : Write) (own : Ownership) (o : Option Written) → first_by p own.waits.writes ≡ Some x → covers x k ≡ true → is_wrote o ≡ true → Mid own → After (done_if session p x o own)
-  by_written session p x own None is over w t = no_true w
-  by_written session p x own (Some (Blocked os)) is over w t = no_true w
-  by_written session p x own (Some (Wrote reply)) is over w t = ended p x own _ is over (ap phase_after_write writing) refl t
+  by_written : (session : Option ℕ) (p : Write → Bool) (x : Write) (own : Ownership) (o : Option Written) → MissesOf (behind_as vs) p → first_by p own.waits.writes ≡ Some x → covers x k ≡ true → is_wrote o ≡ true → at own.waits.spoiled k ≡ None → Mid own → After (done_if session p x o own)
+  by_written session p x own None miss is over w free t = no_true w
+  by_written session p x own (Some (Blocked os)) miss is over w free t = no_true w
+  by_written session p x own (Some (Wrote reply)) miss is over w free t = ended p x own _ miss is over (ap phase_after_write writing) refl free t
 
-  by_answer : (session : Option ℕ) (p : Write → Bool) (x : Write) (own : Ownership) (a : Answer) → first_by p own.waits.writes ≡ Some x → covers x k ≡ true → settles own.waits.prefix m.request (Some a) ≡ true → Mid own → After (write_answered session p (Some x) a own)
-  by_answer session p x own (answer.Done reply) is over s t =
-      let i = one_found k m p x over own.waits.writes (t.over refl) is in
-      by_written session p x own (written own.waits.prefix x.request reply) is over (ap (λ (q : Request). is_wrote (written own.waits.prefix q reply)) i.request ∙ s) t
-  by_answer session p x own (answer.Refused r) is over s t = ended p x own _ is over (ap phase_after_write writing) refl t
+  by_answer : (session : Option ℕ) (p : Write → Bool) (x : Write) (own : Ownership) (a : Answer) → MissesOf (behind_as vs) p → first_by p own.waits.writes ≡ Some x → covers x k ≡ true → settles own.waits.prefix v.request (Some a) ≡ true → at own.waits.spoiled k ≡ None → Mid own
+      → After (write_answered session p (Some x) a own)
+  by_answer session p x own (answer.Done reply) miss is over s free t =
+      let i = one_found k m (behind_as vs) p miss x over own.waits.writes (t.over refl) is in
+      by_written session p x own (written own.waits.prefix x.request reply) miss is over (ap (λ (q : Request). is_wrote (written own.waits.prefix q reply)) i.request ∙ s) free t
+  by_answer session p x own (answer.Refused r) miss is over s free t = ended p x own _ miss is over (ap phase_after_write writing) refl free t
 
-  -- of the call of the write over the key
+  -- of the call of the first write over the key
   pub own_answered : (call : ℕ) (a : Answer) (session : Option ℕ) (now : ℕ) (x : Write) (own : Ownership) → job_of call own.waits.out ≡ Some job.Write → first_by (sends call) own.waits.writes ≡ Some x → covers x k ≡ true
-      → settles own.waits.prefix m.request (Some a) ≡ true → Mid own → After (answered call a session now own)
+      → settles own.waits.prefix v.request (Some a) ≡ true → at own.waits.spoiled k ≡ None → Mid own → After (answered call a session now own)
   unfolding answered
-  own_answered call a session now x own j is over s t =
-      let M = writes_own k n m e writing in
+  own_answered call a session now x own j is over s free t =
+      let M = writes_own k n v vs (Some out) alone e writing in
       let u = without_out call own in
       let less : Mid u = record { outs = M.less call own.waits.out t.outs; over = t.over; mark = t.mark; entry = t.entry } in
       subst (λ (o : Option WaitJob). After (answered_job call a session now o u)) (sym j)
-      (subst (λ (o : Option Write). After (write_answered session (sends call) o a u)) (sym is) (by_answer session (sends call) x u a is over s less))
+      (subst (λ (o : Option Write). After (write_answered session (sends call) o a u)) (sym is) (by_answer session (sends call) x u a (sends_misses call vs) is over s free less))

@@ -64,7 +64,7 @@ use Rattle.cached_laws.proofs.Worlds.{AllTold, Beside}
 use Rattle.owned_laws.specs.Owned.{owns, owned, is_numbered, Owns}
 use Rattle.owned_laws.specs.Caches.{is_reply_of, IsRepliedAtOnce, OwnsCompared, OwnsRead, OwnsReads, OwnsNamed}
 use Rattle.owned_laws.proofs.Cores as cores
-use Rattle.owned_laws.proofs.Steps.{IsHeldIn}
+use Rattle.owned_laws.proofs.Ready.{IsHeldIn}
 use Rattle.owned_laws.proofs.Carrying.{AllOwned}
 use Rattle.owned_laws.proofs.Standing.{Before, prefix_is}
 use Rattle.owned_laws.proofs.OwnKept.{unknown_gives}

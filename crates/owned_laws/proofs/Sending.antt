@@ -1,14 +1,15 @@
 -- A proxy sends a call: what items tell of its owned keys goes on, and the call that takes a key is its acquire.
-use Rattle.std.proofs.Common.{◌≡◌, ℕ, ◌+◌, ◌<◌, ◌==◌, nat_lt, Bool, true, false, ◌&&◌, ◌||◌, List, [], ◌∷◌, ◌++◌, Option, None, Some, Result, Ok, Err, refl, sym, ◌∙◌, ap, subst, arith}
+use Rattle.std.proofs.Common.{◌≡◌, ℕ, ◌+◌, ◌<◌, ◌==◌, nat_lt, Bool, true, false, not, ◌&&◌, ◌||◌, List, [], ◌∷◌, ◌++◌, Option, None, Some, Result, Ok, Err, refl, sym, ◌∙◌, ap, subst, arith}
 use Rattle.std.proofs.lemmas.Bool.Decides.{nat_tests}
+use Rattle.std.specs.List.{list_all, list_any}
 use Rattle.etcd_types.specs.declared.request.Request.{Request}
 use Rattle.etcd_types.specs.declared.request.Request.TheVariants as request
+use Rattle.etcd_types.proofs.Bools.{and_first}
 use Rattle.proxy_model.specs.declared.lease.Entry.{Entry}
 use Rattle.proxy_model.specs.declared.lease.Phase.TheVariants.{Writing}
 use Rattle.proxy_model.specs.Leaving.{rescind}
 use Rattle.proxy_model.specs.RequestRefusals.{is_session, names_session}
 use Rattle.proxy_model.specs.Wrapped.{request_under}
-use Rattle.wait_model.specs.declared.write.Write.{Write}
 use Rattle.wait_model.specs.Sent.{JobSent, job_sent}
 use Rattle.wait_model.specs.Writes.{has_ticket}
 use Rattle.core_model.specs.declared.event.CoreEvent.TheVariants as event
@@ -26,7 +27,7 @@ use Rattle.core_model.specs.State.{Seat, Core}
 use Rattle.core_model.specs.Step.{happened, is_worn, stepped}
 use Rattle.core_model.specs.Stepped.{Stepped, counted, counted_by}
 use Rattle.core_fits.specs.Fits.{EachOf}
-use Rattle.core_laws.proofs.Steps.Lists.{number_itself, number_turned}
+use Rattle.core_laws.proofs.Steps.Lists.{number_itself}
 use Rattle.script_text.specs.declared.item.Item.{Item}
 use Rattle.script_text.specs.declared.item.Item.TheVariants as item
 use Rattle.world_model.specs.declared.sent_call.SentCall.{SentCall}
@@ -51,15 +52,20 @@ use Rattle.owned_laws.proofs.Standing.{Before, later, mine, core_ok, agrees, own
 use Rattle.owned_laws.proofs.Ending.{seated}
 use Rattle.owned_laws.proofs.Cores as cores
 use Rattle.owned_laws.proofs.Cores.{CoreSo, GoesOut}
-use Rattle.owned_laws.proofs.Kept.{HasCall, mine_as, Kept, KeysOk, Rescinded, OutsOk}
-use Rattle.owned_laws.proofs.Late.{stays_at, on_time}
-use Rattle.owned_laws.proofs.Modes.{IsMine}
+use Rattle.owned_laws.proofs.Kept.{HasCall, Kept, KeysOk, Rescinded, OutsOk}
+use Rattle.owned_laws.proofs.Late.{all_other, all_stay, behind_apart, all_apart, on_time}
+use Rattle.owned_laws.proofs.Modes.{AllAlone, first_as, behind_as}
+use Rattle.owned_laws.proofs.Own.{MissesOf}
 use Rattle.owned_laws.proofs.OwnDue.{own_goes}
 use Rattle.owned_laws.proofs.OwnWork.{outs_stay}
 use Rattle.owned_laws.proofs.Sent.{is_client, ClientsApart, rescind_tells, rescind_due, writes_out, acquire_out}
 use Rattle.owned_laws.proofs.Steps.{counted_so, sent_each, holding_out}
 use Rattle.owned_laws.proofs.Told.{IsSent, SentAs, takes_it, sends_write, sends_other, told_sent}
 use Rattle.owned_laws.proofs.Ways.{asking, sending_as, writes_own}
+
+off_it : (b : Bool) → not b ≡ true → b ≡ false
+off_it true e = absurd (cc)
+off_it false e = refl
 
 module _ {namespace : List ℕ} {items : List Item} {w : World} {p : ℕ} {x : Place} (known : Before namespace items w p x) where
   abbrev next : ℕ
@@ -142,19 +148,16 @@ module _ {namespace : List ℕ} {items : List Item} {w : World} {p : ℕ} {x : P
         same_ticket : (i n : ℕ) (r : Request) → ◌≡◌ {A = Result Outcome StepFault} (Ok (outcome.Job (Some (job.Call n d.members.current i r)))) (Ok (outcome.Job (Some (job.Call own member ticket q)))) → i ≡ ticket
         same_ticket i n r e = cc
 
-    -- it is another's than the owner's own write
-    other_ticket : (v : OwnWrite) (c : Option ℕ) (i : ℕ) → (ticket == v.ticket) ≡ false → i ≡ ticket → (y : Write) → IsMine (mine_as v c) y → has_ticket i y ≡ false
-    other_ticket v c i n is y m = ap (λ (j : ℕ). j == i) m.ticket ∙ ap (λ (j : ℕ). v.ticket == j) is ∙ number_turned ticket v.ticket n
-
-    write_lets : (k : List ℕ) (n : ℕ) (v : OwnWrite) (c : Option ℕ) (e : Entry) (f : e.phase ≡ Writing false) → (ticket == v.ticket) ≡ false → GoesOut (writes_own k n (mine_as v c) e f) (first_job d) d
-    write_lets k n v c e f other j s is u = (outs_stay k n (mine_as v c) e f d (order known) u s is, other_ticket v c s.due.ticket other (named_by s j is))
+    -- it is another's than the owner's own writes
+    write_lets : (k : List ℕ) (n : ℕ) (v : OwnWrite) (vs : List OwnWrite) (c : Option ℕ) (a : AllAlone k (first_as v c ∷ behind_as vs)) (e : Entry) (f : e.phase ≡ Writing false) → list_any (λ w. ticket == w.ticket) (v ∷ vs) ≡ false → GoesOut (writes_own k n v vs c a e f) (first_job d) d
+    write_lets k n v vs c a e f other j s is u = (outs_stay k n v vs c a e f d (order known) u s is, subst (λ (i : ℕ). MissesOf (first_as v c ∷ behind_as vs) (has_ticket i)) (sym (named_by s j is)) (all_apart ticket v vs c other))
 
     work_lets : (k : List ℕ) (t : ℕ) (o : Owning) → has_write ticket o ≡ false → Lets known event.Work k t o
     work_lets k t asks h = λ s j z i u. (tt, tt)
-    work_lets k t (sends c m) h = λ n v s j z i u. (tt, tt)
+    work_lets k t (sends c m vs) h = (all_other event.Work (λ i. tt) vs, λ n v a s j z i u. (tt, subst (λ (i : ℕ). MissesOf (behind_as vs) (has_ticket i)) (sym (named_by z j i)) (behind_apart ticket vs h)))
     work_lets k t (owns m create) h = λ e f c u s. holding_out k m e f d (order known)
-    work_lets k t (write_asked m create v) h = (tt, λ l e f c s. write_lets k m v None e f h)
-    work_lets k t (write_sent m create v number) h = (tt, λ n i l e f c s. write_lets k m v (Some n) e f h)
+    work_lets k t (write_asked m create v vs) h = (all_other event.Work (λ i. tt) (v ∷ vs), λ l a e f c s. write_lets k m v vs None a e f h)
+    work_lets k t (write_sent m create v vs number) h = (all_other event.Work (λ i. tt) (v ∷ vs), λ n i l a e f c s. write_lets k m v vs (Some n) a e f h)
 
     its_call : HasCall after p x.life (next_number w) own
     its_call = record { call = new_call p (stepped_to x event.Work) own member q; there = last_nth w.calls (new_call p (stepped_to x event.Work) own member q); own_is = refl; mine = refl; lives = refl }
@@ -171,29 +174,40 @@ module _ {namespace : List ℕ} {items : List Item} {w : World} {p : ℕ} {x : P
           own = own;
           call = its_call;
           below = (let k = less n (bound_of w) (ap (λ (m : ℕ). nat_lt m (bound_of w)) (sym s.number) ∙ (known.beside.sessions.places p x known.there).known.below s.its s.there) in less_later n (bound_of w) next k (later known));
-          so = subst (λ (z : Stepped). CoreSo (sending_as k own n) z.core) (sym (stepped_is x.core event.Work x.clock gave'.0)) (counted_so (sending_as k own n) (happened x.clock event.Work d) out);
+          clients = refl;
+          so = λ early. record {
+            alone = tt;
+            asked = tt;
+            so = subst (λ (z : Stepped). CoreSo (sending_as k own n [] tt) z.core) (sym (stepped_is x.core event.Work x.clock gave'.0)) (counted_so (sending_as k own n [] tt) (happened x.clock event.Work d) out);
+          };
         })
 
-    -- the write's own call
-    writing_kept : (k : List ℕ) (t n create : ℕ) (v : OwnWrite) → owned nsp lea k p t items ≡ Some (write_asked n create v) → ticket ≡ v.ticket → Kept after next p x.life x.clock k t (write_sent n create v (next_number w)) (stepped x.core event.Work x.clock).core
-    writing_kept k t n create v told names =
-        let s = (mine known).keys k t (write_asked n create v) told in
+    -- the first write's own call
+    writing_kept : (k : List ℕ) (t n create : ℕ) (v : OwnWrite) (vs : List OwnWrite) → owned nsp lea k p t items ≡ Some (write_asked n create v vs) → ticket ≡ v.ticket → Kept after next p x.life x.clock k t (write_sent n create v vs (next_number w)) (stepped x.core event.Work x.clock).core
+    writing_kept k t n create v vs told names =
+        let s = (mine known).keys k t (write_asked n create v vs) told in
+        let client = off_it (v.ticket == 0) (and_first (not (v.ticket == 0)) (list_all (λ v. not (v.ticket == 0)) vs) s.clients) in
         record {
           own = own;
           call = its_call;
           below = less_later n (bound_of w) next s.below (later known);
+          clients = s.clients;
           so = λ early.
-              let h = s.so early in
-              let M = writes_own k n (mine_as v None) h.entry h.writing in
-              let goes = own_goes k v.ticket v.request n h.entry h.writing d (order known) (agrees known) (owners known).acquires.rising s.client x.clock own member q (due known) (gave'.1 ∙ ap (λ (m : ℕ). Ok (outcome.Job (Some (job.Call own member m q)))) names)
-              (cores.clock_by M x.clock x.core (on_time k n (mine_as v None) h.entry h.writing v.since x.clock early x.core h.asked) h.so) in
+              let u = s.so early in
+              let h = u.begun in
+              let M = writes_own k n v vs None h.alone h.entry h.writing in
+              let N = writes_own k n v vs (Some own) h.alone h.entry h.writing in
+              let goes = own_goes k v vs n h.alone h.entry h.writing d (order known) (agrees known) (owners known).acquires.rising client x.clock own member q (due known) (gave'.1 ∙ ap (λ (m : ℕ). Ok (outcome.Job (Some (job.Call own member m q)))) names)
+              (cores.clock_by M x.clock x.core (on_time x.clock k n v vs None h.alone h.entry h.writing early x.core u.asked) h.so) in
               record {
-                entry = h.entry;
-                writing = h.writing;
-                created = h.created;
-                asked = stays_at v.ticket v.since x.core event.Work x.clock (core_ok known) tt h.asked;
-                so = subst (λ (z : Stepped). CoreSo (writes_own k n (mine_as v (Some own)) h.entry h.writing) z.core) (sym (stepped_is x.core event.Work x.clock gave'.0))
-                    (counted_so (writes_own k n (mine_as v (Some own)) h.entry h.writing) (happened x.clock event.Work d) goes);
+                begun = record {
+                  entry = h.entry;
+                  writing = h.writing;
+                  created = h.created;
+                  alone = h.alone;
+                  so = subst (λ (z : Stepped). CoreSo N z.core) (sym (stepped_is x.core event.Work x.clock gave'.0)) (counted_so N (happened x.clock event.Work d) goes);
+                };
+                asked = all_stay (v ∷ vs) x.core event.Work x.clock (core_ok known) (all_other event.Work (λ i. tt) (v ∷ vs)) u.asked;
               };
         }
 
@@ -202,7 +216,7 @@ module _ {namespace : List ℕ} {items : List Item} {w : World} {p : ℕ} {x : P
       where
         by : SentAs nsp lea k p t items (next_number w) ticket q o → Kept after next p x.life x.clock k t o (stepped x.core event.Work x.clock).core
         by (takes_it v) = sending_kept k t o v
-        by (sends_write n create v told names is) = subst (λ (y : Owning). Kept after next p x.life x.clock k t y (stepped x.core event.Work x.clock).core) (sym is) (writing_kept k t n create v told names)
+        by (sends_write n create v vs told names is) = subst (λ (y : Owning). Kept after next p x.life x.clock k t y (stepped x.core event.Work x.clock).core) (sym is) (writing_kept k t n create v vs told names)
         by (sends_other u h) = keep known event.Work k t o after (carry_pushed w.calls (new_call p (stepped_to x event.Work) own member q)) (work_lets k t o h) ((mine known).keys k t o u)
 
     same_request : (r : Request) (t n m : ℕ) → ◌≡◌ {A = Result Outcome StepFault} (Ok (outcome.Job (Some (job.Call n m t (request_under d.settings.namespace r))))) (Ok (outcome.Job (Some (job.Call own member ticket q)))) → request_under d.settings.namespace r ≡ q

@@ -143,7 +143,7 @@ module _ (namespace leasing k : List ℕ) (n own member t now : ℕ) (q : Reques
   same_call r t' own' e = ((cc), ((cc), (cc)))
 
   abbrev Out : Core → Type 0
-  Out c = CoreSo (sending_as k own n) c
+  Out c = CoreSo (sending_as k own n [] tt) c
 
   nothing : {A : Type 0} → takes_under (owner_key namespace leasing k) n q ≡ false → A
   nothing f = no_true (sym f ∙ takes)

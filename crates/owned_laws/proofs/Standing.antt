@@ -1,5 +1,5 @@
 -- What is known before a step of a proxy, and that a step that lets an owned key be keeps what items tell of it.
-use Rattle.std.proofs.Common.{◌≡◌, ℕ, ◌+◌, ◌<◌, ◌≤◌, true, false, List, [], ◌++◌, Option, None, Some, refl, sym, ◌∙◌, ap, arith}
+use Rattle.std.proofs.Common.{◌≡◌, ℕ, ◌+◌, ◌<◌, ◌≤◌, true, false, List, [], ◌∷◌, ◌++◌, Option, None, Some, refl, sym, ◌∙◌, ap, arith}
 use Rattle.std.specs.List.{list_all}
 use Rattle.proxy_model.specs.declared.lease.Entry.{Entry}
 use Rattle.proxy_model.specs.declared.lease.Phase.TheVariants.{Held, Writing}
@@ -26,8 +26,9 @@ use Rattle.owned_laws.specs.OwnWrites.{OwnWrite}
 use Rattle.owned_laws.specs.Owned.{Owning, asks, sends, owns, write_asked, write_sent}
 use Rattle.owned_laws.proofs.Carrying.{Carry, call_on, less_later, ProxyOwned, AllOwned, outs_more, plain_so}
 use Rattle.owned_laws.proofs.Cores.{CoreSo, Stands}
-use Rattle.owned_laws.proofs.Kept.{HasCall, mine_as, Kept, KeysOk, Rescinded, OutsOk, writing_steps}
-use Rattle.owned_laws.proofs.Late.{AsksOther}
+use Rattle.owned_laws.proofs.Kept.{HasCall, Kept, KeysOk, Rescinded, OutsOk, sending_steps, writing_steps}
+use Rattle.owned_laws.proofs.Late.{AllOther}
+use Rattle.owned_laws.proofs.Modes.{AllAlone, first_as, behind_as}
 use Rattle.owned_laws.proofs.Steps.{Leaves, steps_so, stands}
 use Rattle.owned_laws.proofs.Told.{told_calm, is_calm}
 use Rattle.owned_laws.proofs.Ways.{plain, asking, sending_as, holds, writes_own}
@@ -82,37 +83,39 @@ module _ {namespace : List ℕ} {items : List Item} {w : World} {p : ℕ} {x : P
   pub order : is_in_order d.own.entries ≡ true
   order = (clock_fit x.core.own.waits.prefix x.clock x.core mine.order).0
 
-  -- what comes lets the owner's write be
-  abbrev pub Spares : CoreEvent → List ℕ → ℕ → ℕ → OwnWrite → Option ℕ → Type 0
-  Spares e k n create v own =
-      (entry : Entry) (writing : entry.phase ≡ Writing false) → entry.create ≡ create → CoreSo (writes_own k n (mine_as v own) entry writing) d → Leaves (writes_own k n (mine_as v own) entry writing) d e
+  -- what comes lets the owner's writes be
+  abbrev pub Spares : CoreEvent → List ℕ → ℕ → ℕ → OwnWrite → List OwnWrite → Option ℕ → Type 0
+  Spares e k n create v vs own =
+      (alone : AllAlone k (first_as v own ∷ behind_as vs)) (entry : Entry) (writing : entry.phase ≡ Writing false) → entry.create ≡ create → CoreSo (writes_own k n v vs own alone entry writing) d → Leaves (writes_own k n v vs own alone entry writing) d e
 
   -- and an owned key
   abbrev pub Lets : CoreEvent → List ℕ → ℕ → Owning → Type 0
   Lets e k t asks = CoreSo (asking k t) d → Leaves (asking k t) d e
-  Lets e k t (sends number n) = (m : ℕ) → HasCall w.calls p x.life number m → CoreSo (sending_as k m n) d → Leaves (sending_as k m n) d e
+  Lets e k t (sends number n vs) = AllOther e vs × ((m : ℕ) → HasCall w.calls p x.life number m → (alone : AllAlone k (behind_as vs)) → CoreSo (sending_as k m n vs alone) d → Leaves (sending_as k m n vs alone) d e)
   Lets e k t (owns n create) = (entry : Entry) (held : entry.phase ≡ Held) → entry.create ≡ create → n < bound_of w → CoreSo (holds k n entry held) d → Leaves (holds k n entry held) d e
-  Lets e k t (write_asked n create v) = AsksOther e v.ticket × (n < bound_of w → Spares e k n create v None)
-  Lets e k t (write_sent n create v number) = AsksOther e v.ticket × ((m : ℕ) → HasCall w.calls p x.life number m → n < bound_of w → Spares e k n create v (Some m))
+  Lets e k t (write_asked n create v vs) = AllOther e (v ∷ vs) × (n < bound_of w → Spares e k n create v vs None)
+  Lets e k t (write_sent n create v vs number) = AllOther e (v ∷ vs) × ((m : ℕ) → HasCall w.calls p x.life number m → n < bound_of w → Spares e k n create v vs (Some m))
 
   pub keep : (e : CoreEvent) (k : List ℕ) (t : ℕ) (o : Owning) (after : List SentCall) → Carry w.calls after → Lets e k t o → Kept w.calls (bound_of w) p x.life x.clock k t o x.core → Kept after next p x.life x.clock k t o (stepped x.core e x.clock).core
   keep e k t asks after c l s = steps_so (asking k t) refl x.core e x.clock due l s
-  keep e k t (sends number n) after c l s = record {
+  keep e k t (sends number n vs) after c l s = record {
     own = s.own;
     call = call_on w.calls after p x.life number s.own c s.call;
     below = less_later n (bound_of w) next s.below later;
-    so = steps_so (sending_as k s.own n) refl x.core e x.clock due (l s.own s.call) s.so;
+    clients = s.clients;
+    so = sending_steps k s.own n vs x.core e x.clock core_ok due l.0 (l.1 s.own s.call) s.so;
   }
   keep e k t (owns n create) after c l s = (
     less_later n (bound_of w) next s.0 later,
     record { entry = s.1.entry; held = s.1.held; created = s.1.created; so = steps_so (holds k n s.1.entry s.1.held) refl x.core e x.clock due (l s.1.entry s.1.held s.1.created s.0) s.1.so },
   )
-  keep e k t (write_asked n create v) after c l s = record { below = less_later n (bound_of w) next s.below later; client = s.client; so = writing_steps k n create v None x.core e x.clock core_ok due l.0 (l.1 s.below) s.so }
-  keep e k t (write_sent n create v number) after c l s = record {
+  keep e k t (write_asked n create v vs) after c l s = record { below = less_later n (bound_of w) next s.below later; clients = s.clients; so = writing_steps k n create v vs None x.core e x.clock core_ok due l.0 (l.1 s.below) s.so }
+  keep e k t (write_sent n create v vs number) after c l s = record {
     own = s.own;
     call = call_on w.calls after p x.life number s.own c s.call;
     below = less_later n (bound_of w) next s.below later;
-    so = writing_steps k n create v (Some s.own) x.core e x.clock core_ok due l.0 (l.1 s.own s.call s.below) s.so;
+    clients = s.clients;
+    so = writing_steps k n create v vs (Some s.own) x.core e x.clock core_ok due l.0 (l.1 s.own s.call s.below) s.so;
   }
 
   -- items that tell nothing

@@ -58,12 +58,14 @@ use Rattle.owner_fits.proofs.Runs.{due_acquires_stand}
 use Rattle.step_moves.proofs.DueCalls.{rescind_stands}
 use Rattle.cached_laws.specs.Awaited.{is_due_for}
 use Rattle.cached_laws.proofs.Steps.{stepped_is}
+use Rattle.owned_laws.specs.OwnWrites.{OwnWrite}
 use Rattle.owned_laws.specs.Owned.{claim_told, claim_heard, claim_in}
 use Rattle.owned_laws.proofs.Cores as cores
 use Rattle.owned_laws.proofs.Cores.{CoreSo, StepSo, Draws, OnTime, EndsAs, Misses, PassesIn, GoesOut, Stands}
-use Rattle.owned_laws.proofs.Grounds.{GroundSo, ReadsSo, released_so}
-use Rattle.owned_laws.proofs.Modes.{Mine, Mode}
-use Rattle.owned_laws.proofs.Own.{Misses as MissesBy}
+use Rattle.owned_laws.proofs.Grounds.{GroundSo}
+use Rattle.owned_laws.proofs.Modes.{IsMine, AllAlone, first_as, behind_as, Mode}
+use Rattle.owned_laws.proofs.Own.{sends_misses, Misses as MissesBy}
+use Rattle.owned_laws.proofs.Ready.{Ready, released_ready, IsKeptIn, ready_goes_on}
 use Rattle.wait_model.specs.Writes as writes
 use Rattle.owned_laws.proofs.Ways.{CallSo, IsOutIn, NotOf, plain, asking, sending_as, holds, writes_own}
 
@@ -115,7 +117,7 @@ pub steps_by : (M : Mode) (c : Core) (e : CoreEvent) (now : ℕ) → OnTime M no
 steps_by M c e now t s l h = by_happened M c e now t h (λ d. happened_so M now e (clock_work now c) s (l d) d)
 
 -- where no write is the owner's own
-pub steps_so : (M : Mode) → M.mine ≡ None → (c : Core) (e : CoreEvent) (now : ℕ) → Stands (clock_work now c) (first_job (clock_work now c)) → (CoreSo M (clock_work now c) → Leaves M (clock_work now c) e) → CoreSo M c → CoreSo M (stepped c e now).core
+pub steps_so : (M : Mode) → M.mine ≡ [] → (c : Core) (e : CoreEvent) (now : ℕ) → Stands (clock_work now c) (first_job (clock_work now c)) → (CoreSo M (clock_work now c) → Leaves M (clock_work now c) e) → CoreSo M c → CoreSo M (stepped c e now).core
 steps_so M n c e now s l h = steps_by M c e now (cores.none_late M n now c) s l h
 
 -- the first due job is of what stands
@@ -160,15 +162,15 @@ same_acquire x y e = cc
 same_out : (a b : ℕ) → sending.Out a ≡ sending.Out b → a ≡ b
 same_out a b e = cc
 
-pub sending_ends : (k : List ℕ) (m n : ℕ) (d : Core) (call : ℕ) → OwnersFit d → (call == m) ≡ false → CoreSo (sending_as k m n) d → EndsSo (sending_as k m n) d call
-sending_ends k m n d call f other h o e = (
+pub sending_ends : (k : List ℕ) (m n : ℕ) (vs : List OwnWrite) (alone : AllAlone k (behind_as vs)) (d : Core) (call : ℕ) → OwnersFit d → (call == m) ≡ false → CoreSo (sending_as k m n vs alone) d → EndsSo (sending_as k m n vs alone) d call
+sending_ends k m n vs alone d call f other h o e = (
   (λ s i j y.
       let a = out_as d call o i k f e j y in
       let t = (h tt tt).1 in
       let one = same_acquire a.acquire t.acquire (sym a.stands ∙ t.stands) in
       let is : call ≡ m = same_out call m (sym a.out ∙ ap (λ (x : Acquire). x.sending) one ∙ t.out) in
       absurd (let z : true ≡ false = sym (number_itself m) ∙ ap (λ (x : ℕ). x == m) (sym is) ∙ other in cc)),
-  tt,
+  sends_misses o.call vs,
 )
 
 pub holding_ends : (k : List ℕ) (n : ℕ) (e : Entry) (held : e.phase ≡ Held) (d : Core) (call : ℕ) → OwnersFit d → CoreSo (holds k n e held) d → EndsSo (holds k n e held) d call
@@ -179,13 +181,13 @@ holding_ends k n e held d call f h o g = (
   tt,
 )
 
-pub writing_ends : (k : List ℕ) (n : ℕ) (m : Mine) (e : Entry) (writing : e.phase ≡ Writing false) (d : Core) (call : ℕ) → OwnersFit d → ((o : OutCall) → out_at call d.out ≡ Some o → MissesBy (writes_own k n m e writing) (writes.sends o.call)) → CoreSo (writes_own k n m e writing) d
-    → EndsSo (writes_own k n m e writing) d call
-writing_ends k n m e writing d call f misses h o g = (
+pub writing_ends : (k : List ℕ) (n : ℕ) (v : OwnWrite) (vs : List OwnWrite) (own : Option ℕ) (alone : AllAlone k (first_as v own ∷ behind_as vs)) (e : Entry) (writing : e.phase ≡ Writing false) (d : Core) (call : ℕ) → OwnersFit d
+    → ((o : OutCall) → out_at call d.out ≡ Some o → (y : Write) → IsMine (first_as v own) y → writes.sends o.call y ≡ false) → CoreSo (writes_own k n v vs own alone e writing) d → EndsSo (writes_own k n v vs own alone e writing) d call
+writing_ends k n v vs own alone e writing d call f misses h o g = (
   (λ s i j y.
       let a = out_as d call o i k f g j y in
       absurd (let z : None ≡ Some a.acquire = sym (h s tt).1 ∙ a.stands in cc)),
-  misses o g,
+  (misses o g, sends_misses o.call vs),
 )
 
 -- ---- calls of writes and entries go out
@@ -260,18 +262,13 @@ unasked_so k t d a u s i = absurd (by (at d.acquires k) (a.awaited k) i)
 
 -- ---- its acquire is won
 
-pub record Wins (k : List ℕ) (n call now : ℕ) (a : Answer) (create : ℕ) (d : Core) : Type 0 where
-  pub stands : CoreSo (sending_as k call n) d
+pub record Wins (k : List ℕ) (n call now : ℕ) (vs : List OwnWrite) (a : Answer) (create : ℕ) (d : Core) : Type 0 where
+  pub alone : AllAlone k (behind_as vs)
+  pub stands : CoreSo (sending_as k call n vs alone) d
   pub agrees : Agrees d
   pub live : live_number d.seat now ≡ Some n
   pub claim : claim_in d.settings.namespace d.own.waits.prefix k (Some a) ≡ Some create
   pub outs : EachOf (CallSo (NotOf k create)) d.own.waits.out
-
-pub record IsHeldIn (k : List ℕ) (n create : ℕ) (c : Core) : Type 0 where
-  pub entry : Entry
-  pub held : entry.phase ≡ Held
-  pub created : entry.create ≡ create
-  pub so : CoreSo (holds k n entry held) c
 
 some_number : (a b : ℕ) → ◌≡◌ {A = Option ℕ} (Some a) (Some b) → a ≡ b
 some_number a b e = cc
@@ -282,41 +279,36 @@ none_number b e = absurd (cc)
 none_answer : {A : Type 0} (b : Answer) → ◌≡◌ {A = Option Answer} None (Some b) → A
 none_answer b e = absurd (cc)
 
-module _ (k : List ℕ) (n call now : ℕ) (create : ℕ) (d : Core) where
+module _ (k : List ℕ) (n call now : ℕ) (vs : List OwnWrite) (alone : AllAlone k (behind_as vs)) (create : ℕ) (d : Core) where
   -- by the acquire's answer
-  won_reads : (r' : ℕ) (m : Moment) (h : Rattle.etcd_types.specs.declared.record.Header.Header) (kv : Option Kv) (r : Reads) → GroundSo (sending_as k call n) (ground_of r) → EachOf (CallSo (NotOf k r')) r.own.waits.out
-      → ReadsSo (holds k n (won true r' kv) refl) (acquire_done m k true h (Acquired r' kv) r)
-  won_reads r' m h kv r t outs =
-      released_so (holds k n (won true r' kv) refl) true m (acquired m k true h r' kv r)
-      (λ i. (
+  won_ready : (r' : ℕ) (m : Moment) (h : Rattle.etcd_types.specs.declared.record.Header.Header) (kv : Option Kv) (r : Reads) → GroundSo (sending_as k call n vs alone) (ground_of r) → EachOf (CallSo (NotOf k r')) r.own.waits.out
+      → Ready k (won true r' kv) vs (ground_of (acquire_done m k true h (Acquired r' kv) r))
+  won_ready r' m h kv r t outs =
+      released_ready k (won true r' kv) vs true m (acquired m k true h r' kv r) (
         record {
+          entry = at-with_at r.own.entries k k (Some (won true r' kv)) ∙ ap (λ (b : Bool). cond b (Some (won true r' kv)) (at r.own.entries k)) (same-itself k);
+          free = at-with_at r.own.waits.spoiled k k None ∙ ap (λ (b : Bool). cond b None (at r.own.waits.spoiled k)) (same-itself k);
+          over = (t tt).0.over refl;
           outs = outs;
-          over = (t tt).0.over;
-          mark = λ y. no_true y;
-          entry = λ y. at-with_at r.own.entries k k (Some (won true r' kv)) ∙ ap (λ (b : Bool). cond b (Some (won true r' kv)) (at r.own.entries k)) (same-itself k);
         },
         at-with_at r.acquires k k None ∙ ap (λ (b : Bool). cond b None (at r.acquires k)) (same-itself k),
-      ))
+      )
 
   abbrev Won : Core → Type 0
-  Won c = IsHeldIn k n create c
+  Won c = IsKeptIn k n create vs c
 
-  done_won : (c : Core) (o : OutCall) (reply : Reply) (x : Option Claim) → claim_told x ≡ Some create → GroundSo (sending_as k call n) (ground_of (reads_of c)) → EachOf (CallSo (NotOf k create)) c.own.waits.out
+  done_won : (c : Core) (o : OutCall) (reply : Reply) (x : Option Claim) → claim_told x ≡ Some create → GroundSo (sending_as k call n vs alone) (ground_of (reads_of c)) → EachOf (CallSo (NotOf k create)) c.own.waits.out
       → Won (writes_go_on (or_lost now o c (acquire_if c (done_by (moment c now) k true reply.header x (reads_of c)))))
   done_won c o reply None e t outs = none_number create e
   done_won c o reply (Some (OwnedBy kv owner)) e t outs = none_number create e
   done_won c o reply (Some (Acquired r kv)) e t outs =
       let same_create : create ≡ r = sym (some_number r create e) in
       let d' = Rattle.core_model.specs.Lookups.with_reads c (acquire_done (moment c now) k true reply.header (Acquired r kv) (reads_of c)) in
-      record {
-        entry = won true r kv;
-        held = refl;
-        created = sym same_create;
-        so = cores.go_on (holds k n (won true r kv) refl) d' (λ s. won_reads r (moment c now) reply.header kv (reads_of c) t (subst (λ (y : ℕ). EachOf (CallSo (NotOf k y)) c.own.waits.out) same_create outs));
-      }
+      ready_goes_on k n create vs (won true r kv) refl (sym same_create) alone d'
+      (won_ready r (moment c now) reply.header kv (reads_of c) t (subst (λ (y : ℕ). EachOf (CallSo (NotOf k y)) c.own.waits.out) same_create outs))
 
   -- it is to be held: unspoiled, and under the live session
-  to_hold : (c : Core) (x : Acquire) → at c.acquires k ≡ Some x → live_number c.seat now ≡ Some n → GroundSo (sending_as k call n) (ground_of (reads_of c)) → is_to_be_held (moment c now) k x (reads_of c) ≡ true
+  to_hold : (c : Core) (x : Acquire) → at c.acquires k ≡ Some x → live_number c.seat now ≡ Some n → GroundSo (sending_as k call n vs alone) (ground_of (reads_of c)) → is_to_be_held (moment c now) k x (reads_of c) ≡ true
   to_hold c x f l t =
       let g = t tt in
       let one = same_acquire x g.1.acquire (sym f ∙ g.1.stands) in
@@ -324,7 +316,7 @@ module _ (k : List ℕ) (n call now : ℕ) (create : ℕ) (d : Core) where
       (ap (λ (s : Option ℕ). is_session s x.session) l ∙ ap (λ (y : Acquire). n == y.session) one ∙ ap (λ (m : ℕ). n == m) g.1.session ∙ number_itself n)
       (ap (λ (b : Option Bool). not (Rattle.wait_model.specs.Asked.is_true b)) (g.0.mark refl))
 
-  job_won : (c : Core) (o : OutCall) (a : Answer) → claim_heard c.own.waits.prefix k (Some a) ≡ Some create → live_number c.seat now ≡ Some n → GroundSo (sending_as k call n) (ground_of (reads_of c)) → EachOf (CallSo (NotOf k create)) c.own.waits.out
+  job_won : (c : Core) (o : OutCall) (a : Answer) → claim_heard c.own.waits.prefix k (Some a) ≡ Some create → live_number c.seat now ≡ Some n → GroundSo (sending_as k call n vs alone) (ground_of (reads_of c)) → EachOf (CallSo (NotOf k create)) c.own.waits.out
       → Won (writes_go_on (or_lost now o c (answered_job now o (job.Acquire k) a c)))
   job_won c o (Refused r) e l t outs = none_number create e
   job_won c o (Done reply) e l t outs =
@@ -334,20 +326,21 @@ module _ (k : List ℕ) (n call now : ℕ) (create : ℕ) (d : Core) where
       (subst (λ (b : Bool). Won (writes_go_on (or_lost now o c (acquire_if c (done_by (moment c now) k b reply.header (claimed c.own.waits.prefix k reply) (reads_of c)))))) (sym hold)
       (done_won c o reply (claimed c.own.waits.prefix k reply) e t outs))
 
-  heard_won : (c : Core) (o : OutCall) (h : Option Answer) → o.job ≡ job.Acquire k → claim_heard c.own.waits.prefix k h ≡ Some create → live_number c.seat now ≡ Some n → GroundSo (sending_as k call n) (ground_of (reads_of c)) → EachOf (CallSo (NotOf k create)) c.own.waits.out
+  heard_won : (c : Core) (o : OutCall) (h : Option Answer) → o.job ≡ job.Acquire k → claim_heard c.own.waits.prefix k h ≡ Some create → live_number c.seat now ≡ Some n → GroundSo (sending_as k call n vs alone) (ground_of (reads_of c)) → EachOf (CallSo (NotOf k create)) c.own.waits.out
       → Won (writes_go_on (heard_call now o h c))
   heard_won c o None j e l t outs = none_number create e
   heard_won c o (Some a) j e l t outs = subst (λ (y : OutJob). Won (writes_go_on (or_lost now o c (answered_job now o y a c)))) (sym j) (job_won c o a e l t outs)
 
-  pub acquire_won : (a : Answer) → Wins k n call now a create d → Won (on_answer now call a d).core
+  acquire_kept : (a : Answer) → CoreSo (sending_as k call n vs alone) d → Agrees d → live_number d.seat now ≡ Some n → claim_in d.settings.namespace d.own.waits.prefix k (Some a) ≡ Some create → EachOf (CallSo (NotOf k create)) d.own.waits.out
+      → Won (on_answer now call a d).core
   unfolding on_answer
-  acquire_won a w = by (out_at call d.out) refl
+  acquire_kept a stands agrees live claim outs = by (out_at call d.out) refl
     where
       g : IsOutIn call n (at d.acquires k)
-      g = (w.stands tt tt).1
+      g = (stands tt tt).1
 
       out : passes (is_acquire_of k) (job_at call d.out) ≡ true
-      out = ap (λ (s : Rattle.wait_model.specs.declared.sending.Sending.Sending). Rattle.core_model.specs.Fits.is_out_to (is_acquire_of k) d.out s) (sym g.out) ∙ ap (is_acquire_out d.out k) (sym g.stands) ∙ w.agrees.out.acquires k
+      out = ap (λ (s : Rattle.wait_model.specs.declared.sending.Sending.Sending). Rattle.core_model.specs.Fits.is_out_to (is_acquire_of k) d.out s) (sym g.out) ∙ ap (is_acquire_out d.out k) (sym g.stands) ∙ agrees.out.acquires k
 
       is_job : (j : OutJob) → is_acquire_of k j ≡ true → j ≡ job.Acquire k
       is_job (job.Acquire i) e = ap (λ (l : List ℕ). job.Acquire l) (same-equal i k e)
@@ -370,10 +363,13 @@ module _ (k : List ℕ) (n call now : ℕ) (create : ℕ) (d : Core) where
 
       by_answer : (o : OutCall) (b : Answer) → a ≡ b → o.job ≡ job.Acquire k → Won (writes_go_on (answered_call now o b (call_gone call d)))
       by_answer o (Done reply) e j =
-          heard_won (header_taken reply.header (call_gone call d)) o (heard d.settings.namespace (Done reply)) j (ap (λ (x : Answer). claim_heard d.own.waits.prefix k (heard d.settings.namespace x)) (sym e) ∙ w.claim) w.live (w.stands tt) w.outs
+          heard_won (header_taken reply.header (call_gone call d)) o (heard d.settings.namespace (Done reply)) j (ap (λ (x : Answer). claim_heard d.own.waits.prefix k (heard d.settings.namespace x)) (sym e) ∙ claim) live (stands tt) outs
       by_answer o (Refused r) e j =
-          heard_won (call_gone call d) o (heard d.settings.namespace (Refused r)) j (ap (λ (x : Answer). claim_heard d.own.waits.prefix k (heard d.settings.namespace x)) (sym e) ∙ w.claim) w.live (w.stands tt) w.outs
+          heard_won (call_gone call d) o (heard d.settings.namespace (Refused r)) j (ap (λ (x : Answer). claim_heard d.own.waits.prefix k (heard d.settings.namespace x)) (sym e) ∙ claim) live (stands tt) outs
 
       by : (q : Option OutCall) → out_at call d.out ≡ q → Won (answer_of now call a q d).core
       by None f = no_true (ap (passes (is_acquire_of k)) (sym (none_out d.out f)) ∙ out)
       by (Some o) f = by_answer o a refl (at_job d.out o f out)
+
+pub acquire_won : (k : List ℕ) (n call now : ℕ) (vs : List OwnWrite) (create : ℕ) (d : Core) (a : Answer) → Wins k n call now vs a create d → IsKeptIn k n create vs (on_answer now call a d).core
+acquire_won k n call now vs create d a w = acquire_kept k n call now vs w.alone create d a w.stands w.agrees w.live w.claim w.outs

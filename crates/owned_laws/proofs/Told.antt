@@ -16,8 +16,8 @@ use Rattle.world_model.specs.Lives.{begins, clock_of, executed_to, next_message}
 use Rattle.world_model.specs.LiveSessions.{Session, session_of, is_live}
 use Rattle.cached_laws.specs.Streams.{leasing_of}
 use Rattle.cached_laws.proofs.Folds.{told_next, told_still}
-use Rattle.owned_laws.specs.OwnWrites.{OwnWrite, keeps_over, settles_as, is_in_time}
-use Rattle.owned_laws.specs.Owned.{Owning, asks, sends, owns, write_asked, write_sent, owner_key, takes_under, gave_up, claim_in, is_numbered, owned_if, won_under, revokes, told_revokes, is_stream, writes_over, has_write, awaits_call, create_of, unless_so, written_by, asked_by, sent_under, sent_by, answered_by, delivered_by, owned_by, owned}
+use Rattle.owned_laws.specs.OwnWrites.{OwnWrite, settles_as, is_in_time}
+use Rattle.owned_laws.specs.Owned.{Owning, asks, sends, owns, write_asked, write_sent, owned_behind, owner_key, takes_under, gave_up, claim_in, is_numbered, owned_if, won_under, revokes, told_revokes, is_stream, writes_over, has_write, awaits_call, create_of, unless_so, joined, may_join, written_by, asked_by, sent_under, sent_by, answered_by, delivered_by, owned_by, owned}
 use Rattle.owned_laws.specs.Watched.{Spares, AllSpare}
 
 -- ---- items that tell nothing of it
@@ -90,31 +90,23 @@ module _ (namespace leasing k : List ℕ) (p ticket : ℕ) where
       by true e f = no_owning o f
       by false e f = (f, ap q (sym (some_owning y o f)) ∙ e)
 
-  -- ---- a request of the proxy: it begins with it, or it writes the owned key alone, or it doesn't write the key
+  -- ---- a request of the proxy: it begins with it, or it writes the key alone and joins the writes of it, or it doesn't write the key
   pub data AskedAs (items : List Item) (t : ℕ) (r : Request) (o : Owning) : Type 0 where
     begins_it : writes_over leasing k r ≡ false → t ≡ ticket → o ≡ asks → AskedAs items t r o
-    writes_it : (n create : ℕ) → Told items ≡ Some (owns n create) → writes_over leasing k r ≡ true → keeps_over leasing k r ≡ true → (t == 0) ≡ false
-        → o ≡ write_asked n create (record { ticket = t; request = r; since = clock_of p items }) → AskedAs items t r o
+    writes_it : (y : Owning) → Told items ≡ Some y → writes_over leasing k r ≡ true → may_join leasing k t r y ≡ true → joined (record { ticket = t; request = r; since = clock_of p items }) y ≡ Some o → AskedAs items t r o
     asks_other : writes_over leasing k r ≡ false → Told items ≡ Some o → has_write t o ≡ false → AskedAs items t r o
 
   pub told_asked : (items : List Item) (t : ℕ) (r : Request) (o : Owning) → Told (items ++ item.Asked p t r ∷ []) ≡ Some o → AskedAs items t r o
   told_asked items t r o e =
       by (writes_over leasing k r) refl (sym (next items (item.Asked p t r) refl ∙ ap (λ (b : Bool). cond b (asked_by leasing k ticket t r (clock_of p items) (Told items)) (Told items)) (number_itself p)) ∙ e)
     where
-      by_keeps : (n create : ℕ) → Told items ≡ Some (owns n create) → writes_over leasing k r ≡ true → (b : Bool) → keeps_over leasing k r && not (t == 0) ≡ b
-          → cond b (Some (write_asked n create (record { ticket = t; request = r; since = clock_of p items }))) None ≡ Some o → AskedAs items t r o
-      by_keeps n create f w true g h =
-          writes_it n create f w (and_first (keeps_over leasing k r) (not (t == 0)) g) (off_it (t == 0) (and_second (keeps_over leasing k r) (not (t == 0)) g))
-          (sym (some_owning (write_asked n create (record { ticket = t; request = r; since = clock_of p items })) o h))
-      by_keeps n create f w false g h = no_owning o h
+      by_join : (y : Owning) → Told items ≡ Some y → writes_over leasing k r ≡ true → (b : Bool) → may_join leasing k t r y ≡ b → cond b (joined (record { ticket = t; request = r; since = clock_of p items }) y) None ≡ Some o → AskedAs items t r o
+      by_join y f w true g h = writes_it y f w g h
+      by_join y f w false g h = no_owning o h
 
       by_told : (x : Option Owning) → Told items ≡ x → writes_over leasing k r ≡ true → written_by leasing k t r (clock_of p items) x ≡ Some o → AskedAs items t r o
       by_told None f w h = no_owning o h
-      by_told (Some asks) f w h = no_owning o h
-      by_told (Some (sends c n)) f w h = no_owning o h
-      by_told (Some (owns n create)) f w h = by_keeps n create f w (keeps_over leasing k r && not (t == 0)) refl h
-      by_told (Some (write_asked n create v)) f w h = no_owning o h
-      by_told (Some (write_sent n create v c)) f w h = no_owning o h
+      by_told (Some y) f w h = by_join y f w (may_join leasing k t r y) refl h
 
       by_ticket : writes_over leasing k r ≡ false → (b : Bool) → (t == ticket) ≡ b → cond b (Some asks) (unless_so (has_write t) (Told items)) ≡ Some o → AskedAs items t r o
       by_ticket w true g h = begins_it w (same_number t ticket g) (sym (some_owning asks o h))
@@ -124,7 +116,7 @@ module _ (namespace leasing k : List ℕ) (p ticket : ℕ) where
       by true w h = by_told (Told items) refl w h
       by false w h = by_ticket w (t == ticket) refl h
 
-  -- ---- a call of the proxy: it is the acquire, or the write, or tells nothing
+  -- ---- a call of the proxy: it is the acquire, or the first write, or tells nothing
   pub record IsSent (items : List Item) (call t : ℕ) (r : Request) (o : Owning) : Type 0 where
     pub asked : Told items ≡ Some asks
     pub ticket_is : t ≡ ticket
@@ -132,11 +124,11 @@ module _ (namespace leasing k : List ℕ) (p ticket : ℕ) where
     pub told : session_of p items ≡ Some session
     pub live : is_live p items ≡ true
     pub takes : takes_under (owner_key namespace leasing k) session.number r ≡ true
-    pub sent : o ≡ sends call session.number
+    pub sent : o ≡ sends call session.number []
 
   pub data SentAs (items : List Item) (call t : ℕ) (r : Request) (o : Owning) : Type 0 where
     takes_it : IsSent items call t r o → SentAs items call t r o
-    sends_write : (n create : ℕ) (w : OwnWrite) → Told items ≡ Some (write_asked n create w) → t ≡ w.ticket → o ≡ write_sent n create w call → SentAs items call t r o
+    sends_write : (n create : ℕ) (w : OwnWrite) (ws : List OwnWrite) → Told items ≡ Some (write_asked n create w ws) → t ≡ w.ticket → o ≡ write_sent n create w ws call → SentAs items call t r o
     sends_other : Told items ≡ Some o → has_write t o ≡ false → SentAs items call t r o
 
   pub told_sent : (items : List Item) (call member t : ℕ) (r : Request) (o : Owning) → Told (items ++ item.Sent p call member t r ∷ []) ≡ Some o → SentAs items call t r o
@@ -146,9 +138,9 @@ module _ (namespace leasing k : List ℕ) (p ticket : ℕ) where
       same_of : (y : Owning) → has_write t y ≡ false → Told items ≡ Some y → Some y ≡ Some o → SentAs items call t r o
       same_of y n f h = sends_other (f ∙ h) (ap (has_write t) (sym (some_owning y o h)) ∙ n)
 
-      by_takes : (s : Session) (b : Bool) → Told items ≡ Some asks → t ≡ ticket → session_of p items ≡ Some s → is_live p items && takes_under (owner_key namespace leasing k) s.number r ≡ b → cond b (Some (sends call s.number)) (Some asks) ≡ Some o → SentAs items call t r o
+      by_takes : (s : Session) (b : Bool) → Told items ≡ Some asks → t ≡ ticket → session_of p items ≡ Some s → is_live p items && takes_under (owner_key namespace leasing k) s.number r ≡ b → cond b (Some (sends call s.number [])) (Some asks) ≡ Some o → SentAs items call t r o
       by_takes s true a i f g h =
-          takes_it (record { asked = a; ticket_is = i; session = s; told = f; live = and_first (is_live p items) (takes_under (owner_key namespace leasing k) s.number r) g; takes = and_second (is_live p items) (takes_under (owner_key namespace leasing k) s.number r) g; sent = sym (some_owning (sends call s.number) o h) })
+          takes_it (record { asked = a; ticket_is = i; session = s; told = f; live = and_first (is_live p items) (takes_under (owner_key namespace leasing k) s.number r) g; takes = and_second (is_live p items) (takes_under (owner_key namespace leasing k) s.number r) g; sent = sym (some_owning (sends call s.number []) o h) })
       by_takes s false a i f g h = same_of asks refl a h
 
       by_session : (s : Option Session) → Told items ≡ Some asks → t ≡ ticket → session_of p items ≡ s → sent_under (owner_key namespace leasing k) call (is_live p items) r s ≡ Some o → SentAs items call t r o
@@ -159,41 +151,44 @@ module _ (namespace leasing k : List ℕ) (p ticket : ℕ) where
       by_ticket true i f h = by_session (session_of p items) f (same_number t ticket i) refl h
       by_ticket false i f h = same_of asks refl f h
 
-      by_write : (n create : ℕ) (w : OwnWrite) (b : Bool) → (t == w.ticket) ≡ b → Told items ≡ Some (write_asked n create w) → cond b (Some (write_sent n create w call)) (Some (write_asked n create w)) ≡ Some o → SentAs items call t r o
-      by_write n create w true i f h = sends_write n create w f (same_number t w.ticket i) (sym (some_owning (write_sent n create w call) o h))
-      by_write n create w false i f h = same_of (write_asked n create w) i f h
+      -- a call under another ticket
+      by_other : (y : Owning) → Told items ≡ Some y → unless_so (has_write t) (Some y) ≡ Some o → SentAs items call t r o
+      by_other y f h = let u = unless_told (has_write t) (Some y) o h in sends_other (f ∙ u.0) u.1
 
-      by_again : (n create : ℕ) (w : OwnWrite) (c : ℕ) (b : Bool) → (t == w.ticket) ≡ b → Told items ≡ Some (write_sent n create w c) → cond b None (Some (write_sent n create w c)) ≡ Some o → SentAs items call t r o
-      by_again n create w c true i f h = no_owning o h
-      by_again n create w c false i f h = same_of (write_sent n create w c) i f h
+      by_write : (n create : ℕ) (w : OwnWrite) (ws : List OwnWrite) (b : Bool) → (t == w.ticket) ≡ b → Told items ≡ Some (write_asked n create w ws)
+          → cond b (Some (write_sent n create w ws call)) (unless_so (has_write t) (Some (write_asked n create w ws))) ≡ Some o → SentAs items call t r o
+      by_write n create w ws true i f h = sends_write n create w ws f (same_number t w.ticket i) (sym (some_owning (write_sent n create w ws call) o h))
+      by_write n create w ws false i f h = by_other (write_asked n create w ws) f h
 
       by_told : (x : Option Owning) → Told items ≡ x → sent_by (owner_key namespace leasing k) p ticket call t items r x ≡ Some o → SentAs items call t r o
       by_told None f h = no_owning o h
       by_told (Some asks) f h = by_ticket (t == ticket) refl f h
-      by_told (Some (sends c n)) f h = same_of (sends c n) refl f h
-      by_told (Some (owns n create)) f h = same_of (owns n create) refl f h
-      by_told (Some (write_asked n create w)) f h = by_write n create w (t == w.ticket) refl f h
-      by_told (Some (write_sent n create w c)) f h = by_again n create w c (t == w.ticket) refl f h
+      by_told (Some (sends c n ws)) f h = by_other (sends c n ws) f h
+      by_told (Some (owns n create)) f h = by_other (owns n create) f h
+      by_told (Some (write_asked n create w ws)) f h = by_write n create w ws (t == w.ticket) refl f h
+      by_told (Some (write_sent n create w ws c)) f h = by_other (write_sent n create w ws c) f h
 
-  -- ---- an answer: it is the acquire's, and wins; or the write's, and settles it; or it is of another call
+  -- ---- an answer: it is the acquire's, and wins; or the first write's, and settles it; or it is of another call
   pub record IsWon (items : List Item) (call : ℕ) (o : Owning) : Type 0 where
     pub n : ℕ
-    pub sent : Told items ≡ Some (sends call n)
+    pub writes : List OwnWrite
+    pub sent : Told items ≡ Some (sends call n writes)
     pub create : ℕ
     pub claim : claim_in namespace leasing k (executed_to call items) ≡ Some create
     pub numbered : is_numbered n (session_of p items) ≡ true
     pub live : is_live p items ≡ true
     pub kept : gave_up (owner_key namespace leasing k) create p items ≡ false
-    pub won : o ≡ owns n create
+    pub won : o ≡ owned_behind n create writes
 
   pub record IsDone (items : List Item) (call : ℕ) (o : Owning) : Type 0 where
     pub n : ℕ
     pub create : ℕ
     pub write : OwnWrite
-    pub sent : Told items ≡ Some (write_sent n create write call)
+    pub behind : List OwnWrite
+    pub sent : Told items ≡ Some (write_sent n create write behind call)
     pub in_time : is_in_time (clock_of p items) write ≡ true
     pub settled : settles_as namespace leasing write.request (executed_to call items) ≡ true
-    pub again : o ≡ owns n create
+    pub again : o ≡ owned_behind n create behind
 
   pub data AnsweredAs (items : List Item) (call : ℕ) (o : Owning) : Type 0 where
     wins_it : IsWon items call o → AnsweredAs items call o
@@ -206,55 +201,57 @@ module _ (namespace leasing k : List ℕ) (p ticket : ℕ) where
       same_of : (y : Owning) → awaits_call call y ≡ false → Told items ≡ Some y → Some y ≡ Some o → AnsweredAs items call o
       same_of y n f h = answers_other (f ∙ h) (ap (awaits_call call) (sym (some_owning y o h)) ∙ n)
 
-      by_claim : (n c : ℕ) → c ≡ call → Told items ≡ Some (sends c n) → (x : Option ℕ) → claim_in namespace leasing k (executed_to call items) ≡ x → won_under (owner_key namespace leasing k) p items n x ≡ Some o → AnsweredAs items call o
-      by_claim n c i f None g h = no_owning o h
-      by_claim n c i f (Some create) g h = by_test (is_numbered n (session_of p items) && is_live p items && not (gave_up (owner_key namespace leasing k) create p items)) refl h
+      by_claim : (n c : ℕ) (ws : List OwnWrite) → c ≡ call → Told items ≡ Some (sends c n ws) → (x : Option ℕ) → claim_in namespace leasing k (executed_to call items) ≡ x → won_under (owner_key namespace leasing k) p items n ws x ≡ Some o → AnsweredAs items call o
+      by_claim n c ws i f None g h = no_owning o h
+      by_claim n c ws i f (Some create) g h = by_test (is_numbered n (session_of p items) && is_live p items && not (gave_up (owner_key namespace leasing k) create p items)) refl h
         where
-          by_test : (b : Bool) → is_numbered n (session_of p items) && is_live p items && not (gave_up (owner_key namespace leasing k) create p items) ≡ b → owned_if b n create ≡ Some o → AnsweredAs items call o
+          by_test : (b : Bool) → is_numbered n (session_of p items) && is_live p items && not (gave_up (owner_key namespace leasing k) create p items) ≡ b → owned_if b (owned_behind n create ws) ≡ Some o → AnsweredAs items call o
           by_test true t u =
               let both = and_first (is_numbered n (session_of p items) && is_live p items) (not (gave_up (owner_key namespace leasing k) create p items)) t in
               wins_it (record {
                 n = n;
-                sent = f ∙ ap (λ (m : ℕ). Some (sends m n)) i;
+                writes = ws;
+                sent = f ∙ ap (λ (m : ℕ). Some (sends m n ws)) i;
                 create = create;
                 claim = g;
                 numbered = and_first (is_numbered n (session_of p items)) (is_live p items) both;
                 live = and_second (is_numbered n (session_of p items)) (is_live p items) both;
                 kept = off_it (gave_up (owner_key namespace leasing k) create p items) (and_second (is_numbered n (session_of p items) && is_live p items) (not (gave_up (owner_key namespace leasing k) create p items)) t);
-                won = sym (some_owning (owns n create) o u);
+                won = sym (some_owning (owned_behind n create ws) o u);
               })
           by_test false t u = no_owning o u
 
-      by_settled : (n create : ℕ) (w : OwnWrite) (c : ℕ) → c ≡ call → Told items ≡ Some (write_sent n create w c) → (b : Bool) → is_in_time (clock_of p items) w && settles_as namespace leasing w.request (executed_to call items) ≡ b → cond b (Some (owns n create)) None ≡ Some o
+      by_settled : (n create : ℕ) (w : OwnWrite) (ws : List OwnWrite) (c : ℕ) → c ≡ call → Told items ≡ Some (write_sent n create w ws c) → (b : Bool) → is_in_time (clock_of p items) w && settles_as namespace leasing w.request (executed_to call items) ≡ b → cond b (Some (owned_behind n create ws)) None ≡ Some o
           → AnsweredAs items call o
-      by_settled n create w c i f true g h =
+      by_settled n create w ws c i f true g h =
           settles_it (record {
             n = n;
             create = create;
             write = w;
-            sent = f ∙ ap (λ (m : ℕ). Some (write_sent n create w m)) i;
+            behind = ws;
+            sent = f ∙ ap (λ (m : ℕ). Some (write_sent n create w ws m)) i;
             in_time = and_first (is_in_time (clock_of p items) w) (settles_as namespace leasing w.request (executed_to call items)) g;
             settled = and_second (is_in_time (clock_of p items) w) (settles_as namespace leasing w.request (executed_to call items)) g;
-            again = sym (some_owning (owns n create) o h);
+            again = sym (some_owning (owned_behind n create ws) o h);
           })
-      by_settled n create w c i f false g h = no_owning o h
+      by_settled n create w ws c i f false g h = no_owning o h
 
-      by_call : (c n : ℕ) → Told items ≡ Some (sends c n) → (b : Bool) → (c == call) ≡ b → cond b (won_under (owner_key namespace leasing k) p items n (claim_in namespace leasing k (executed_to call items))) (Some (sends c n)) ≡ Some o → AnsweredAs items call o
-      by_call c n f true g h = by_claim n c (same_number c call g) f (claim_in namespace leasing k (executed_to call items)) refl h
-      by_call c n f false g h = same_of (sends c n) g f h
+      by_call : (c n : ℕ) (ws : List OwnWrite) → Told items ≡ Some (sends c n ws) → (b : Bool) → (c == call) ≡ b → cond b (won_under (owner_key namespace leasing k) p items n ws (claim_in namespace leasing k (executed_to call items))) (Some (sends c n ws)) ≡ Some o → AnsweredAs items call o
+      by_call c n ws f true g h = by_claim n c ws (same_number c call g) f (claim_in namespace leasing k (executed_to call items)) refl h
+      by_call c n ws f false g h = same_of (sends c n ws) g f h
 
-      by_write : (n create : ℕ) (w : OwnWrite) (c : ℕ) → Told items ≡ Some (write_sent n create w c) → (b : Bool) → (c == call) ≡ b
-          → cond b (cond (is_in_time (clock_of p items) w && settles_as namespace leasing w.request (executed_to call items)) (Some (owns n create)) None) (Some (write_sent n create w c)) ≡ Some o → AnsweredAs items call o
-      by_write n create w c f true g h = by_settled n create w c (same_number c call g) f (is_in_time (clock_of p items) w && settles_as namespace leasing w.request (executed_to call items)) refl h
-      by_write n create w c f false g h = same_of (write_sent n create w c) g f h
+      by_write : (n create : ℕ) (w : OwnWrite) (ws : List OwnWrite) (c : ℕ) → Told items ≡ Some (write_sent n create w ws c) → (b : Bool) → (c == call) ≡ b
+          → cond b (cond (is_in_time (clock_of p items) w && settles_as namespace leasing w.request (executed_to call items)) (Some (owned_behind n create ws)) None) (Some (write_sent n create w ws c)) ≡ Some o → AnsweredAs items call o
+      by_write n create w ws c f true g h = by_settled n create w ws c (same_number c call g) f (is_in_time (clock_of p items) w && settles_as namespace leasing w.request (executed_to call items)) refl h
+      by_write n create w ws c f false g h = same_of (write_sent n create w ws c) g f h
 
       by : (x : Option Owning) → Told items ≡ x → answered_by namespace leasing k p call items x ≡ Some o → AnsweredAs items call o
       by None f h = no_owning o h
       by (Some asks) f h = same_of asks refl f h
       by (Some (owns m create)) f h = same_of (owns m create) refl f h
-      by (Some (write_asked m create w)) f h = same_of (write_asked m create w) refl f h
-      by (Some (sends c n)) f h = by_call c n f (c == call) refl h
-      by (Some (write_sent n create w c)) f h = by_write n create w c f (c == call) refl h
+      by (Some (write_asked m create w ws)) f h = same_of (write_asked m create w ws) refl f h
+      by (Some (sends c n ws)) f h = by_call c n ws f (c == call) refl h
+      by (Some (write_sent n create w ws c)) f h = by_write n create w ws c f (c == call) refl h
 
   -- ---- a loss of another call, and another client that leaves
   pub told_lost : (items : List Item) (call : ℕ) (o : Owning) → Told (items ++ item.Lost call ∷ []) ≡ Some o → (Told items ≡ Some o) × (awaits_call call o ≡ false)

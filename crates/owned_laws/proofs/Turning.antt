@@ -1,5 +1,5 @@
 -- A turn of a proxy: what items tell of its owned keys goes on being so.
-use Rattle.std.proofs.Common.{◌≡◌, ℕ, ◌+◌, ◌==◌, Bool, true, false, List, [], ◌∷◌, ◌++◌, append_assoc, Option, None, Some, Result, Ok, refl, sym, ◌∙◌, ap, subst}
+use Rattle.std.proofs.Common.{◌≡◌, ℕ, ◌+◌, Bool, true, false, List, [], ◌∷◌, ◌++◌, append_assoc, Option, None, Some, Result, Ok, refl, sym, ◌∙◌, subst}
 use Rattle.std.specs.List.{list_all}
 use Rattle.etcd_types.specs.declared.answer.Answer.{Answer}
 use Rattle.etcd_types.specs.declared.request.Request.{Request}
@@ -27,11 +27,9 @@ use Rattle.world_model.specs.Sends.{closed_in}
 use Rattle.world_model.specs.State.{Place, OpenedStream, World, word}
 use Rattle.world_laws.proofs.Effects.{Turn, ticks, asks_it, posts_it, calls, opens, closes, answers, loses, delivers, cuts, takes, waits, leaves}
 use Rattle.renewed_laws.proofs.Gains.{stepped_to}
-use Rattle.core_laws.proofs.Steps.Lists.{number_turned}
 use Rattle.session_laws.proofs.Items.{clock-append}
 use Rattle.session_laws.proofs.Steps.{gave}
 use Rattle.session_laws.proofs.Turns.{bound_of}
-use Rattle.owned_laws.specs.OwnWrites.{OwnWrite}
 use Rattle.owned_laws.specs.Owned.{Owning, asks, sends, owns, write_asked, write_sent, has_write}
 use Rattle.owned_laws.proofs.Carrying.{no_true, carry_itself}
 use Rattle.owned_laws.proofs.Standing.{Before, mine, Lets, keep, calm_keys, outs_by}
@@ -39,11 +37,9 @@ use Rattle.owned_laws.proofs.Hearing.{tick_lets, ask_keys, item_keys, plain_pass
 use Rattle.owned_laws.proofs.Ending.{lost_keys, answered_keys}
 use Rattle.owned_laws.proofs.Sending.{sent_keys, sent_outs}
 use Rattle.owned_laws.proofs.Cores.{GoesOut}
-use Rattle.owned_laws.proofs.Kept.{mine_as, KeysOk, Rescinded, OutsOk}
-use Rattle.owned_laws.proofs.Late.{AsksOther}
-use Rattle.owned_laws.proofs.Modes.{IsMine, Mode}
-use Rattle.wait_model.specs.declared.write.Write.{Write}
-use Rattle.wait_model.specs.Writes.{has_ticket}
+use Rattle.owned_laws.proofs.Kept.{KeysOk, Rescinded, OutsOk}
+use Rattle.owned_laws.proofs.Late.{AsksOther, all_other, behind_apart, all_apart}
+use Rattle.owned_laws.proofs.Modes.{Mode}
 use Rattle.owned_laws.proofs.Sent.{writes_out}
 use Rattle.owned_laws.proofs.Steps.{Leaves, plain_ends}
 use Rattle.owned_laws.proofs.Told.{told_calm, told_left, is_calm}
@@ -72,29 +68,26 @@ module _ {namespace : List ℕ} {items : List Item} {w : World} {p : ℕ} {x : P
 
   quiet_work : ((M : Mode) → GoesOut M (first_job d) d) → (k : List ℕ) (t : ℕ) (o : Owning) → Lets known event.Work k t o
   quiet_work f k t asks = λ s. f (asking k t)
-  quiet_work f k t (sends c m) = λ n v s. f (sending_as k n m)
+  quiet_work f k t (sends c m vs) = (all_other event.Work (λ i. tt) vs, λ n v a s. f (sending_as k n m vs a))
   quiet_work f k t (owns m create) = λ e i c u s. f (holds k m e i)
-  quiet_work f k t (write_asked m create v) = (tt, λ l e i c s. f (writes_own k m (mine_as v None) e i))
-  quiet_work f k t (write_sent m create v number) = (tt, λ n h l e i c s. f (writes_own k m (mine_as v (Some n)) e i))
+  quiet_work f k t (write_asked m create v vs) = (all_other event.Work (λ i. tt) (v ∷ vs), λ l a e i c s. f (writes_own k m v vs None a e i))
+  quiet_work f k t (write_sent m create v vs number) = (all_other event.Work (λ i. tt) (v ∷ vs), λ n h l a e i c s. f (writes_own k m v vs (Some n) a e i))
 
   -- events that let every key be
   free_lets : (e : CoreEvent) → ((i : ℕ) → AsksOther e i) → ((M : Mode) → Leaves M d e) → (k : List ℕ) (t : ℕ) (o : Owning) → Lets known e k t o
   free_lets e a f k t asks = λ s. f (asking k t)
-  free_lets e a f k t (sends c m) = λ n v s. f (sending_as k n m)
+  free_lets e a f k t (sends c m vs) = (all_other e a vs, λ n v b s. f (sending_as k n m vs b))
   free_lets e a f k t (owns m create) = λ y i c u s. f (holds k m y i)
-  free_lets e a f k t (write_asked m create v) = (a v.ticket, λ l y i c s. f (writes_own k m (mine_as v None) y i))
-  free_lets e a f k t (write_sent m create v number) = (a v.ticket, λ n h l y i c s. f (writes_own k m (mine_as v (Some n)) y i))
+  free_lets e a f k t (write_asked m create v vs) = (all_other e a (v ∷ vs), λ l b y i c s. f (writes_own k m v vs None b y i))
+  free_lets e a f k t (write_sent m create v vs number) = (all_other e a (v ∷ vs), λ n h l b y i c s. f (writes_own k m v vs (Some n) b y i))
 
-  -- a client leaves, but not the write's
-  away : (v : OwnWrite) (c : Option ℕ) (ticket : ℕ) → (ticket == v.ticket) ≡ false → (y : Write) → IsMine (mine_as v c) y → has_ticket ticket y ≡ false
-  away v c ticket n y m = ap (λ (j : ℕ). j == ticket) m.ticket ∙ number_turned ticket v.ticket n
-
+  -- a client leaves, but none of theirs
   left_lets : (k : List ℕ) (t : ℕ) (o : Owning) (ticket : ℕ) → has_write ticket o ≡ false → Lets known (event.Leave ticket) k t o
   left_lets k t asks ticket h = λ s. tt
-  left_lets k t (sends c m) ticket h = λ n v s. tt
+  left_lets k t (sends c m vs) ticket h = (all_other (event.Leave ticket) (λ i. tt) vs, λ n v a s. behind_apart ticket vs h)
   left_lets k t (owns m create) ticket h = λ y i c u s. tt
-  left_lets k t (write_asked m create v) ticket h = (tt, λ l y i c s. away v None ticket h)
-  left_lets k t (write_sent m create v number) ticket h = (tt, λ n g l y i c s. away v (Some n) ticket h)
+  left_lets k t (write_asked m create v vs) ticket h = (all_other (event.Leave ticket) (λ i. tt) (v ∷ vs), λ l a y i c s. all_apart ticket v vs None h)
+  left_lets k t (write_sent m create v vs number) ticket h = (all_other (event.Leave ticket) (λ i. tt) (v ∷ vs), λ n g l a y i c s. all_apart ticket v vs (Some n) h)
 
   left_keys : (ticket : ℕ) → KeysOk nsp lea next w.calls (items ++ item.Left p ticket ∷ []) p x.life x.clock (stepped x.core (event.Leave ticket) x.clock).core
   left_keys ticket k t o f = let u = told_left nsp lea k p t items ticket o f in keep known (event.Leave ticket) k t o w.calls (carry_itself w.calls) (left_lets k t o ticket u.1) ((mine known).keys k t o u.0)

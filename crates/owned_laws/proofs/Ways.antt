@@ -1,6 +1,6 @@
 -- The ways in which a key is watched: of no more than the rescinds that are out; from the request of a ticket; from the sending of its
--- acquire; as held; and as written by its owner.
-use Rattle.std.proofs.Common.{◌≡◌, inl, inr, ℕ, ◌==◌, Bool, true, false, cond, ◌&&◌, List, [], ◌∷◌, Option, None, Some, refl, sym, ◌∙◌, ap, subst}
+-- acquire, with the writes that wait for it; as held; and as written by its owner.
+use Rattle.std.proofs.Common.{◌≡◌, inl, inr, ℕ, ◌==◌, Bool, true, false, cond, not, ◌&&◌, ◌||◌, List, [], ◌∷◌, Option, None, Some, refl, sym, ◌∙◌, ap, subst}
 use Rattle.etcd_types.specs.Keys.{same}
 use Rattle.proxy_model.specs.declared.lease.Entry.{Entry}
 use Rattle.proxy_model.specs.declared.lease.Phase.TheVariants.{Held, Writing}
@@ -16,10 +16,15 @@ use Rattle.read_model.specs.SessionEnd.{is_due, is_due_acquire}
 use Rattle.core_fits.specs.Fits.{EachOf}
 use Rattle.core_laws.proofs.Steps.Lists.{same_number}
 use Rattle.cached_laws.specs.Awaited.{is_due_for}
-use Rattle.owned_laws.proofs.Modes.{Mine, Mode}
+use Rattle.owned_laws.specs.OwnWrites.{OwnWrite}
+use Rattle.owned_laws.proofs.Modes.{AllAlone, is_begun, any_begun, went_as, begun_as, first_as, behind_as, none_begun, Mode}
 
 pub no_true : {A : Type 0} → false ≡ true → A
 no_true e = absurd (cc)
+
+pub or_true : (a b : Bool) → a ≡ true → a || b ≡ true
+or_true true b e = refl
+or_true false b e = no_true e
 
 -- ---- of the rescinds that are out
 
@@ -62,7 +67,9 @@ plain k T = record {
   over = false;
   mark = false;
   hold = false;
-  mine = None;
+  mine = [];
+  alone = tt;
+  behind = λ y. no_true y;
   entry = unheld;
   session = None;
   If = λ o. Unit {0};
@@ -95,7 +102,9 @@ asking k t = record {
   over = true;
   mark = true;
   hold = false;
-  mine = None;
+  mine = [];
+  alone = tt;
+  behind = λ y. no_true y;
   entry = unheld;
   session = None;
   If = λ o. is_due_for t o ≡ true;
@@ -111,7 +120,7 @@ asking k t = record {
   apart = λ xs call j create q f y. no_true y;
   gone = λ f i o. no_true i;
   fell = λ o d i. no_true i;
-  began = λ a d i. inr ((λ xs. tt), (tt, (λ y. no_true y)));
+  began = λ a d i. inr ((λ xs. tt), (tt, ((λ y. no_true y), refl)));
   sent = λ a call d i. absurd (due_out (a.ticket == t) i);
 }
 
@@ -129,14 +138,17 @@ not_due call n o h d = no_true (sym (ap is_due_acquire h.stands ∙ ap is_due h.
 pub not_none : {A : Type 0} (call n : ℕ) → IsOutIn call n None → A
 not_none call n h = absurd (let f : None ≡ Some h.acquire = h.stands in cc)
 
-abbrev pub sending_as : List ℕ → ℕ → ℕ → Mode
-sending_as k m n = record {
+-- these writes wait for it
+abbrev pub sending_as : (k : List ℕ) → ℕ → ℕ → (vs : List OwnWrite) → AllAlone k (behind_as vs) → Mode
+sending_as k m n vs alone = record {
   key = k;
   Outs = λ xs. Unit {0};
   over = true;
   mark = true;
   hold = false;
-  mine = None;
+  mine = behind_as vs;
+  alone = alone;
+  behind = λ y. refl;
   entry = unheld;
   session = None;
   If = λ o. Unit {0};
@@ -144,9 +156,9 @@ sending_as k m n = record {
   free = false;
   marked = λ y. refl;
   holding = λ y. refl;
-  writing = refl;
+  writing = sym (none_begun vs);
   still = λ b. refl;
-  writes = λ y. no_true y;
+  writes = λ y. no_true (sym (none_begun vs) ∙ y);
   seated = λ y. no_true y;
   less = λ call xs q. tt;
   apart = λ xs call j create q f y. no_true y;
@@ -172,7 +184,9 @@ holds k n e held = record {
   over = true;
   mark = false;
   hold = true;
-  mine = None;
+  mine = [];
+  alone = tt;
+  behind = λ y. no_true y;
   entry = e;
   session = Some n;
   If = λ o. Unit {0};
@@ -194,15 +208,17 @@ holds k n e held = record {
 
 -- ---- as written by its owner
 
--- the entry is as the write found it, but for its phase
-abbrev pub writes_own : List ℕ → ℕ → Mine → (e : Entry) → e.phase ≡ Writing false → Mode
-writes_own k n m e writing = record {
+-- the entry is as the first of the writes found it, but for its phase; the others wait behind that
+abbrev pub writes_own : (k : List ℕ) → ℕ → (v : OwnWrite) → (vs : List OwnWrite) → (own : Option ℕ) → AllAlone k (first_as v own ∷ behind_as vs) → (e : Entry) → e.phase ≡ Writing false → Mode
+writes_own k n v vs own alone e writing = record {
   key = k;
   Outs = EachOf (CallSo (NotOf k e.create));
   over = true;
   mark = false;
   hold = true;
-  mine = Some m;
+  mine = first_as v own ∷ behind_as vs;
+  alone = alone;
+  behind = λ y. no_true (sym (ap not (begun_as own)) ∙ y);
   entry = e;
   session = Some n;
   If = λ o. Unit {0};
@@ -210,7 +226,7 @@ writes_own k n m e writing = record {
   free = false;
   marked = λ y. refl;
   holding = λ y. refl;
-  writing = ap is_writing_phase writing;
+  writing = ap is_writing_phase writing ∙ sym (or_true (is_begun (went_as own)) (any_begun (behind_as vs)) (begun_as own));
   still = λ b. ap (phase_sent b) writing ∙ sym writing;
   writes = λ y. refl;
   seated = λ y. (n, refl);
@@ -231,7 +247,9 @@ absent k n = record {
   over = false;
   mark = false;
   hold = false;
-  mine = None;
+  mine = [];
+  alone = tt;
+  behind = λ y. no_true y;
   entry = unheld;
   session = Some n;
   If = λ o. Unit {0};

@@ -2,16 +2,20 @@
 use Rattle.std.proofs.Common.{refl}
 use Rattle.etcd_types.specs.declared.answer.Body.TheBlock as b
 use denote.Hole.Carrier.{hidden}
-use Rattle.owned_laws.specs.WorkedWrites.{AreWorked, WritesKeepIt, OthersTakeIt}
+use Rattle.owned_laws.specs.WorkedWrites.{AreWorked, WritesKeepIt, TheyWait, OthersTakeIt}
 
 pub stages : AreWorked
 unfolding b.hidden-the_row-Body-0 hidden
-stages = (refl, refl, refl)
+stages = (refl, refl, refl, refl)
 
 pub kept : WritesKeepIt
 unfolding b.hidden-the_row-Body-0 hidden
 kept = (refl, refl, refl)
 
+pub waiting : TheyWait
+unfolding b.hidden-the_row-Body-0 hidden
+waiting = (refl, refl, refl)
+
 pub taken : OthersTakeIt
 unfolding b.hidden-the_row-Body-0 hidden
-taken = (refl, refl, refl, refl, refl, refl, refl, refl, refl)
+taken = (refl, refl, refl, refl, refl, refl, refl, refl, refl, refl)

@@ -61,12 +61,13 @@ use Rattle.cached_laws.proofs.Worlds.{AllTold, Beside, replies_plain, turn_goes}
 use Rattle.owned_laws.specs.Owned.{Owning, asks, sends, owns, write_asked, write_sent, owned}
 use Rattle.owned_laws.proofs.Cores.{Stands}
 use Rattle.owned_laws.proofs.Steps.{steps_so, stands}
-use Rattle.owned_laws.proofs.Kept.{Kept, KeysOk, Rescinded, OutsOk, writing_steps}
+use Rattle.owned_laws.proofs.Kept.{Kept, KeysOk, Rescinded, OutsOk, sending_steps, writing_steps}
+use Rattle.owned_laws.proofs.Late.{all_other}
 use Rattle.owned_laws.proofs.Told.{AnsweredAs, wins_it, settles_it, answers_other, told_calm, told_answered, told_lost, told_delivered, told_begun, is_calm}
 use Rattle.owned_laws.proofs.Carrying.{Carry, carry_itself, carry_pushed, carry_changed, kept_on, ProxyOwned, AllOwned, outs_more}
 use Rattle.owned_laws.proofs.Standing.{Before}
 use Rattle.owned_laws.proofs.Turning.{Behind, IsEnd, turn_owned, lost_owned, answered_owned}
-use Rattle.owned_laws.proofs.Ways.{plain, asking, sending_as, holds}
+use Rattle.owned_laws.proofs.Ways.{plain, asking, holds}
 
 -- ---- a call is lost in the life that sent it
 
@@ -145,17 +146,28 @@ due_at now c ok o = stands (clock_work now c) (clock_whole 0 now c (of_ok c ok).
 
 fetch_one : (all : List SentCall) (bound p life : ℕ) (k : List ℕ) (t : ℕ) (o : Owning) (c : Core) (ticket now : ℕ) → CoreOk c → OwnersFit c → Kept all bound p life now k t o c → Kept all bound p life now k t o (stepped c (event.Take ticket) now).core
 fetch_one all bound p life k t asks c ticket now ok f s = steps_so (asking k t) refl c (event.Take ticket) now (due_at now c ok f) (λ z. tt) s
-fetch_one all bound p life k t (sends number n) c ticket now ok f s = record { own = s.own; call = s.call; below = s.below; so = steps_so (sending_as k s.own n) refl c (event.Take ticket) now (due_at now c ok f) (λ z. tt) s.so }
+fetch_one all bound p life k t (sends number n vs) c ticket now ok f s = record {
+  own = s.own;
+  call = s.call;
+  below = s.below;
+  clients = s.clients;
+  so = sending_steps k s.own n vs c (event.Take ticket) now ok (due_at now c ok f) (all_other (event.Take ticket) (λ i. tt) vs) (λ a u. tt) s.so;
+}
 fetch_one all bound p life k t (owns n create) c ticket now ok f s = (
   s.0,
   record { entry = s.1.entry; held = s.1.held; created = s.1.created; so = steps_so (holds k n s.1.entry s.1.held) refl c (event.Take ticket) now (due_at now c ok f) (λ z. tt) s.1.so },
 )
-fetch_one all bound p life k t (write_asked n create v) c ticket now ok f s = record { below = s.below; client = s.client; so = writing_steps k n create v None c (event.Take ticket) now ok (due_at now c ok f) tt (λ e g i u. tt) s.so }
-fetch_one all bound p life k t (write_sent n create v number) c ticket now ok f s = record {
+fetch_one all bound p life k t (write_asked n create v vs) c ticket now ok f s = record {
+  below = s.below;
+  clients = s.clients;
+  so = writing_steps k n create v vs None c (event.Take ticket) now ok (due_at now c ok f) (all_other (event.Take ticket) (λ i. tt) (v ∷ vs)) (λ a e g i u. tt) s.so;
+}
+fetch_one all bound p life k t (write_sent n create v vs number) c ticket now ok f s = record {
   own = s.own;
   call = s.call;
   below = s.below;
-  so = writing_steps k n create v (Some s.own) c (event.Take ticket) now ok (due_at now c ok f) tt (λ e g i u. tt) s.so;
+  clients = s.clients;
+  so = writing_steps k n create v vs (Some s.own) c (event.Take ticket) now ok (due_at now c ok f) (all_other (event.Take ticket) (λ i. tt) (v ∷ vs)) (λ a e g i u. tt) s.so;
 }
 
 -- a turn leaves the clock
@@ -358,8 +370,8 @@ module _ (namespace : List ℕ) (items : List Item) (w : World) (b : Beside name
           absurd (let y : true ≡ false = sym (number_itself q) ∙ ap (λ (m : ℕ). q == m) (sym same) ∙ n in cc)
 
       by : AnsweredAs nsp lea k q t items number o → owned nsp lea k q t items ≡ Some o
-      by (wins_it v) = let s = (g q z was).keys k t (sends number v.n) v.sent in others s.call.call s.call.there s.call.mine
-      by (settles_it v) = let s = (g q z was).keys k t (write_sent v.n v.create v.write number) v.sent in others s.call.call s.call.there s.call.mine
+      by (wins_it v) = let s = (g q z was).keys k t (sends number v.n v.writes) v.sent in others s.call.call s.call.there s.call.mine
+      by (settles_it v) = let s = (g q z was).keys k t (write_sent v.n v.create v.write v.behind number) v.sent in others s.call.call s.call.there s.call.mine
       by (answers_other u m) = u
 
   -- ---- lines of no turn

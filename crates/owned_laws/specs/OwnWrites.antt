@@ -1,5 +1,5 @@
--- A proxy's own writes of a key that it owns, by which it stays the owner: each is of the key alone and puts it without a lease, and its one
--- call is answered in time as done or as refused (the leasing cache of etcd's clientv3).
+-- A proxy's own writes of a key that it owns or is about to, by which it stays the owner: each is of the key alone and puts it without a
+-- lease, and its one call is answered in time as done or as refused (the leasing cache of etcd's clientv3).
 use Rattle.std.specs.Prelude.{ℕ, ◌+◌, ◌&&◌, nat_lt, Bool, true, false, not, List, Option, None, Some}
 use Rattle.etcd_types.specs.declared.answer.Answer.{Answer}
 use Rattle.etcd_types.specs.declared.answer.Answer.TheVariants.{Done, Refused}

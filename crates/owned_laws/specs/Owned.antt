@@ -1,6 +1,7 @@
 -- What a transcript tells of a key that a proxy owns: it was asked for, the acquire that named the request was answered as won under the
--- live session, and nothing since took the key away; writes of the proxy's own that are done leave it (the leasing cache of etcd's clientv3).
-use Rattle.std.specs.Prelude.{◌≡◌, ℕ, ◌==◌, ◌&&◌, nat_lt, Bool, true, false, not, if◌then◌else◌, List, ◌++◌, Option, None, Some, Ok, Err}
+-- live session, and nothing since took the key away; writes of the proxy's own that are done, one after the other, leave it (the leasing
+-- cache of etcd's clientv3).
+use Rattle.std.specs.Prelude.{◌≡◌, ℕ, ◌==◌, ◌&&◌, nat_lt, Bool, true, false, not, if◌then◌else◌, List, [], ◌∷◌, ◌++◌, Option, None, Some, Ok, Err}
 use Rattle.std.specs.List.{list_any}
 use Rattle.etcd_types.specs.declared.answer.Answer.{Answer}
 use Rattle.etcd_types.specs.declared.answer.Answer.TheVariants.{Done, Refused}
@@ -33,18 +34,23 @@ use Rattle.cached_laws.specs.Reads.{is_served}
 use Rattle.cached_laws.specs.Streams.{ToldStream, leasing_of}
 use Rattle.owned_laws.specs.OwnWrites.{OwnWrite, keeps_over, settles_as, is_in_time}
 
--- How far a ticket's acquire of the key came, and a write of the key since it was won.
+-- How far a ticket's acquire of the key came, and the writes of the key since it was sent, in the order in which they were asked.
 pub data Owning : Type 0 where
   -- the ticket was asked
   asks : Owning
-  -- the acquire that names it was sent as this call, under this session
-  sends : ℕ → ℕ → Owning
+  -- the acquire that names it was sent as this call, under this session; these writes wait for it
+  sends : ℕ → ℕ → List OwnWrite → Owning
   -- it was won: the key is owned under this session, since this create revision
   owns : ℕ → ℕ → Owning
-  -- since then a write of it was asked, and isn't sent yet
-  write_asked : ℕ → ℕ → OwnWrite → Owning
+  -- a write of it was asked, and isn't sent yet; these wait behind it
+  write_asked : ℕ → ℕ → OwnWrite → List OwnWrite → Owning
   -- it was sent as this call
-  write_sent : ℕ → ℕ → OwnWrite → ℕ → Owning
+  write_sent : ℕ → ℕ → OwnWrite → List OwnWrite → ℕ → Owning
+
+-- the key is owned, or the first of the writes that waited begins
+abbrev pub owned_behind : ℕ → ℕ → List OwnWrite → Owning
+owned_behind n create [] = owns n create
+owned_behind n create (w ∷ ws) = write_asked n create w ws
 
 -- ---- what is sent
 
@@ -98,14 +104,14 @@ abbrev pub is_numbered : ℕ → Option Session → Bool
 is_numbered n None = false
 is_numbered n (Some s) = s.number == n
 
-abbrev pub owned_if : Bool → ℕ → ℕ → Option Owning
-owned_if true n create = Some (owns n create)
-owned_if false n create = None
+abbrev pub owned_if : Bool → Owning → Option Owning
+owned_if true o = Some o
+owned_if false o = None
 
 -- under the session that is live at that step
-abbrev pub won_under : List ℕ → ℕ → List Item → ℕ → Option ℕ → Option Owning
-won_under owner p before n None = None
-won_under owner p before n (Some create) = owned_if (is_numbered n (session_of p before) && is_live p before && not (gave_up owner create p before)) n create
+abbrev pub won_under : List ℕ → ℕ → List Item → ℕ → List OwnWrite → Option ℕ → Option Owning
+won_under owner p before n ws None = None
+won_under owner p before n ws (Some create) = owned_if (is_numbered n (session_of p before) && is_live p before && not (gave_up owner create p before)) (owned_behind n create ws)
 
 -- ---- what is told by the leasing stream
 
@@ -139,34 +145,51 @@ is_stream number (Some s) = s.number == number
 abbrev pub writes_over : List ℕ → List ℕ → Request → Bool
 writes_over leasing k q = is_served (refusal_of leasing q) && covered (written_ranges q) k
 
--- a write of the key under this ticket is asked, or sent
+-- the writes of the key that aren't done
+abbrev pub writes_of : Owning → List OwnWrite
+writes_of asks = []
+writes_of (sends c n ws) = ws
+writes_of (owns n create) = []
+writes_of (write_asked n create w ws) = w ∷ ws
+writes_of (write_sent n create w ws call) = w ∷ ws
+
+-- one of them goes under this ticket
 abbrev pub has_write : ℕ → Owning → Bool
-has_write t (write_asked n create w) = t == w.ticket
-has_write t (write_sent n create w call) = t == w.ticket
-has_write t _ = false
+has_write t o = list_any (λ w. t == w.ticket) (writes_of o)
 
 -- what was sent as this call isn't answered
 abbrev pub awaits_call : ℕ → Owning → Bool
-awaits_call call (sends c n) = c == call
-awaits_call call (write_sent n create w c) = c == call
+awaits_call call (sends c n ws) = c == call
+awaits_call call (write_sent n create w ws c) = c == call
 awaits_call call _ = false
 
 abbrev pub create_of : Owning → Option ℕ
 create_of asks = None
-create_of (sends call n) = None
+create_of (sends call n ws) = None
 create_of (owns n create) = Some create
-create_of (write_asked n create w) = Some create
-create_of (write_sent n create w call) = Some create
+create_of (write_asked n create w ws) = Some create
+create_of (write_sent n create w ws call) = Some create
 
 -- but where that holds
 abbrev pub unless_so : (Owning → Bool) → Option Owning → Option Owning
 unless_so p None = None
 unless_so p (Some o) = if p o then None else Some o
 
--- An owned key is written by a request of a client: under ticket 0 calls of the proxy's own go.
+-- A write of an owned key begins at once; one that comes while the acquire, or another write, is on its way waits behind that.
+abbrev pub joined : OwnWrite → Owning → Option Owning
+joined v asks = None
+joined v (sends c n ws) = Some (sends c n (ws ++ v ∷ []))
+joined v (owns n create) = Some (write_asked n create v [])
+joined v (write_asked n create w ws) = Some (write_asked n create w (ws ++ v ∷ []))
+joined v (write_sent n create w ws call) = Some (write_sent n create w (ws ++ v ∷ []) call)
+
+-- by a request of a client, under a new ticket: under ticket 0 calls of the proxy's own go
+abbrev pub may_join : List ℕ → List ℕ → ℕ → Request → Owning → Bool
+may_join leasing k t r o = keeps_over leasing k r && not (t == 0) && not (has_write t o)
+
 abbrev pub written_by : List ℕ → List ℕ → ℕ → Request → ℕ → Option Owning → Option Owning
-written_by leasing k t r now (Some (owns n create)) = if keeps_over leasing k r && not (t == 0) then Some (write_asked n create (record { ticket = t; request = r; since = now })) else None
-written_by leasing k t r now o = None
+written_by leasing k t r now None = None
+written_by leasing k t r now (Some o) = if may_join leasing k t r o then joined (record { ticket = t; request = r; since = now }) o else None
 
 abbrev pub asked_by : List ℕ → List ℕ → ℕ → ℕ → Request → ℕ → Option Owning → Option Owning
 asked_by leasing k ticket t r now o =
@@ -175,23 +198,22 @@ asked_by leasing k ticket t r now o =
 -- an acquire goes out under the session that is live
 abbrev pub sent_under : List ℕ → ℕ → Bool → Request → Option Session → Option Owning
 sent_under owner call live q None = Some asks
-sent_under owner call live q (Some s) = if live && takes_under owner s.number q then Some (sends call s.number) else Some asks
+sent_under owner call live q (Some s) = if live && takes_under owner s.number q then Some (sends call s.number []) else Some asks
 
--- or the write, which is sent once
+-- or the first of the writes, which is sent once
 abbrev pub sent_by : List ℕ → ℕ → ℕ → ℕ → ℕ → List Item → Request → Option Owning → Option Owning
 sent_by owner p ticket call t before q None = None
 sent_by owner p ticket call t before q (Some asks) = if t == ticket then sent_under owner call (is_live p before) q (session_of p before) else Some asks
-sent_by owner p ticket call t before q (Some (sends c n)) = Some (sends c n)
-sent_by owner p ticket call t before q (Some (owns n create)) = Some (owns n create)
-sent_by owner p ticket call t before q (Some (write_asked n create w)) = if t == w.ticket then Some (write_sent n create w call) else Some (write_asked n create w)
-sent_by owner p ticket call t before q (Some (write_sent n create w c)) = if t == w.ticket then None else Some (write_sent n create w c)
+sent_by owner p ticket call t before q (Some (write_asked n create w ws)) =
+    if t == w.ticket then Some (write_sent n create w ws call) else unless_so (has_write t) (Some (write_asked n create w ws))
+sent_by owner p ticket call t before q (Some o) = unless_so (has_write t) (Some o)
 
 abbrev pub answered_by : List ℕ → List ℕ → List ℕ → ℕ → ℕ → List Item → Option Owning → Option Owning
-answered_by namespace leasing k p call before (Some (sends c n)) =
-    if c == call then won_under (owner_key namespace leasing k) p before n (claim_in namespace leasing k (executed_to call before)) else Some (sends c n)
-answered_by namespace leasing k p call before (Some (write_sent n create w c)) =
-    if c == call then (if is_in_time (clock_of p before) w && settles_as namespace leasing w.request (executed_to call before) then Some (owns n create) else None)
-    else Some (write_sent n create w c)
+answered_by namespace leasing k p call before (Some (sends c n ws)) =
+    if c == call then won_under (owner_key namespace leasing k) p before n ws (claim_in namespace leasing k (executed_to call before)) else Some (sends c n ws)
+answered_by namespace leasing k p call before (Some (write_sent n create w ws c)) =
+    if c == call then (if is_in_time (clock_of p before) w && settles_as namespace leasing w.request (executed_to call before) then Some (owned_behind n create ws) else None)
+    else Some (write_sent n create w ws c)
 answered_by namespace leasing k p call before o = o
 
 abbrev pub delivered_by : List ℕ → List ℕ → List ℕ → ℕ → ℕ → List Item → Option Owning → Option Owning
@@ -214,8 +236,8 @@ owned namespace leasing k p ticket items = told_of p None (owned_by namespace le
 
 -- In this life the proxy won the key under this session, by the acquire that names some ticket. Since that ticket was asked its leasing stream
 -- brought neither the revoking word for the key, nor a deletion of this ownership, nor a cancellation that names a compaction; and each
--- request that it served since then and that writes the key is of the key alone and puts it without a lease, was asked once the key was won and
--- the one before was done, and was sent as one call, which was answered in time as done or as refused. None of them is still to be answered.
+-- request that it served since then and that writes the key is of the key alone and puts it without a lease, was asked once the acquire was
+-- sent, and was sent as one call, which was answered in time as done or as refused. None of them is still to be answered.
 pub record Owns (namespace leasing k : List ℕ) (p session : ℕ) (items : List Item) : Type 0 where
   pub ticket : ℕ
   pub create : ℕ

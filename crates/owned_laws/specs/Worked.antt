@@ -22,10 +22,15 @@ granted =
     item.World 1 (codes "n/") (codes "L/") ∷ item.Started 1 ∷ item.Ticked 1 ∷ item.Sent 1 1 1 0 (request.Grant 10 FIRST_SESSION)
     ∷ item.Executed 1 (answer.Done (record { header = head 1; body = body.Grant FIRST_SESSION 10 })) ∷ item.Answered 1 ∷ []
 
+abbrev pub acquiring : List Item
+acquiring =
+    granted ++ item.Asked 1 5 (request.Range (range_ask (only (codes "a")))) ∷ item.Sent 1 2 1 5 (request_under (codes "n/") (request.Txn (acquire (codes "L/") (codes "a") FIRST_SESSION))) ∷ []
+
+abbrev pub acquired : List Item
+acquired = item.Executed 2 (answer.Done (record { header = head 7; body = body.Txn true (body.Range 0 false [] ∷ body.Put None ∷ []) })) ∷ item.Answered 2 ∷ []
+
 abbrev pub won : List Item
-won =
-    granted ++ item.Asked 1 5 (request.Range (range_ask (only (codes "a")))) ∷ item.Sent 1 2 1 5 (request_under (codes "n/") (request.Txn (acquire (codes "L/") (codes "a") FIRST_SESSION)))
-    ∷ item.Executed 2 (answer.Done (record { header = head 7; body = body.Txn true (body.Range 0 false [] ∷ body.Put None ∷ []) })) ∷ item.Answered 2 ∷ []
+won = acquiring ++ acquired
 
 abbrev pub TheKeyIsOwned : Type 0
 TheKeyIsOwned = owned (codes "n/") (codes "L/") (codes "a") 1 5 won ≡ Some (owns FIRST_SESSION 7)

@@ -1,6 +1,6 @@
--- Worked transcripts: a key that a proxy owns is written by a request of its own. It isn't owned while that isn't answered, and is owned again
--- once it was done or refused; not where the call was lost, found another owner or was answered too late, nor where it is put with a lease,
--- written twice at a time, under no client's ticket, or left.
+-- Worked transcripts: a key that a proxy owns is written by requests of its own. It isn't owned while one of them isn't answered, and is owned
+-- again once the last was done or refused, also where one was asked before the acquire was answered; not where a call was lost, found another
+-- owner or was answered too late, nor where one puts it with a lease, overtakes another, goes under no client's ticket, or is left.
 use Rattle.std.specs.Prelude.{◌≡◌, ℕ, true, false, codes, List, [], ◌∷◌, ◌++◌, None, Some}
 use Rattle.etcd_types.specs.declared.answer.Answer.{Answer}
 use Rattle.etcd_types.specs.declared.answer.Answer.TheVariants as answer
@@ -13,8 +13,8 @@ use Rattle.proxy_model.specs.Wrapped.{request_under}
 use Rattle.script_text.specs.declared.item.Item.{Item}
 use Rattle.script_text.specs.declared.item.Item.TheVariants as item
 use Rattle.owned_laws.specs.OwnWrites.{OwnWrite}
-use Rattle.owned_laws.specs.Owned.{owns, write_asked, write_sent, owned}
-use Rattle.owned_laws.specs.Worked.{head, won}
+use Rattle.owned_laws.specs.Owned.{sends, owns, write_asked, write_sent, owned}
+use Rattle.owned_laws.specs.Worked.{head, acquiring, acquired, won}
 
 -- of the key `a`, put under this lease
 abbrev pub put : ℕ → Request
@@ -23,8 +23,12 @@ put lease = request.Put (record { key = codes "a"; value = codes "x"; lease = le
 abbrev pub asked : ℕ → ℕ → Item
 asked ticket lease = item.Asked 1 ticket (put lease)
 
+-- the call of the write of this ticket
+abbrev pub sent_for : ℕ → ℕ → Item
+sent_for ticket call = item.Sent 1 call 1 ticket (request_under (codes "n/") (request.Txn (guarded (codes "L/") (put 0) (λ k. 7))))
+
 abbrev pub sent : ℕ → Item
-sent call = item.Sent 1 call 1 6 (request_under (codes "n/") (request.Txn (guarded (codes "L/") (put 0) (λ k. 7))))
+sent call = sent_for 6 call
 
 abbrev pub done : Answer
 done = answer.Done (record { header = head 8; body = body.Txn true (body.Put None ∷ []) })
@@ -45,19 +49,30 @@ Told items = owned (codes "n/") (codes "L/") (codes "a") 1 5 items ≡ Some (own
 abbrev pub Untold : List Item → Type 0
 Untold items = owned (codes "n/") (codes "L/") (codes "a") 1 5 items ≡ None
 
-abbrev pub write : OwnWrite
-write = record { ticket = 6; request = put 0; since = 0 }
+abbrev pub write : ℕ → OwnWrite
+write ticket = record { ticket = ticket; request = put 0; since = 0 }
+
+-- it is called as this, done and answered
+abbrev pub does : ℕ → ℕ → List Item
+does ticket call = sent_for ticket call ∷ item.Executed call done ∷ item.Answered call ∷ []
 
 abbrev pub AreWorked : Type 0
 AreWorked =
-    Told won × (owned (codes "n/") (codes "L/") (codes "a") 1 5 (won ++ asked 6 0 ∷ []) ≡ Some (write_asked FIRST_SESSION 7 write))
-    × (owned (codes "n/") (codes "L/") (codes "a") 1 5 (won ++ asked 6 0 ∷ sent 3 ∷ []) ≡ Some (write_sent FIRST_SESSION 7 write 3))
+    Told won × (owned (codes "n/") (codes "L/") (codes "a") 1 5 (won ++ asked 6 0 ∷ []) ≡ Some (write_asked FIRST_SESSION 7 (write 6) []))
+    × (owned (codes "n/") (codes "L/") (codes "a") 1 5 (won ++ asked 6 0 ∷ sent 3 ∷ asked 7 0 ∷ []) ≡ Some (write_sent FIRST_SESSION 7 (write 6) (write 7 ∷ []) 3))
+    × (owned (codes "n/") (codes "L/") (codes "a") 1 5 (acquiring ++ asked 6 0 ∷ []) ≡ Some (sends 2 FIRST_SESSION (write 6 ∷ [])))
 
 abbrev pub WritesKeepIt : Type 0
-WritesKeepIt = Told (answered done) × Told (answered (refused 9)) × Told (answered done ++ asked 7 0 ∷ item.Sent 1 4 1 7 (put 0) ∷ item.Executed 4 done ∷ item.Answered 4 ∷ [])
+WritesKeepIt = Told (answered done) × Told (answered (refused 9)) × Told (answered done ++ asked 7 0 ∷ does 7 4)
+
+-- two at a time, and one that is asked before the acquire is answered
+abbrev pub TheyWait : Type 0
+TheyWait =
+    (owned (codes "n/") (codes "L/") (codes "a") 1 5 (won ++ asked 6 0 ∷ asked 7 0 ∷ does 6 3) ≡ Some (write_asked FIRST_SESSION 7 (write 7) []))
+    × Told (won ++ asked 6 0 ∷ asked 7 0 ∷ does 6 3 ++ does 7 4) × Told (acquiring ++ asked 6 0 ∷ acquired ++ does 6 3)
 
 abbrev pub OthersTakeIt : Type 0
 OthersTakeIt =
     Untold (answered blocked) × Untold (answered (refused 14)) × Untold (won ++ asked 6 0 ∷ sent 3 ∷ item.Lost 3 ∷ []) × Untold (won ++ asked 6 5 ∷ []) × Untold (won ++ asked 0 0 ∷ [])
-    × Untold (won ++ asked 6 0 ∷ asked 7 0 ∷ []) × Untold (won ++ asked 6 0 ∷ sent 3 ∷ sent 4 ∷ []) × Untold (won ++ asked 6 0 ∷ item.Left 1 6 ∷ [])
+    × Untold (won ++ asked 6 0 ∷ asked 7 5 ∷ []) × Untold (won ++ asked 6 0 ∷ asked 7 0 ∷ sent_for 7 3 ∷ []) × Untold (won ++ asked 6 0 ∷ sent 3 ∷ sent 4 ∷ []) × Untold (won ++ asked 6 0 ∷ asked 7 0 ∷ item.Left 1 7 ∷ [])
     × Untold (won ++ asked 6 0 ∷ sent 3 ∷ item.Executed 3 done ∷ item.Clock 1 5000 ∷ item.Answered 3 ∷ [])
