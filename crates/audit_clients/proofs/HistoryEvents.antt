@@ -1,0 +1,85 @@
+-- The events of the whole history for a watch are those that a watch of the store which asks for the records before would be told.
+use Rattle.std.proofs.Common.{◌≡◌, ℕ, Bool, true, false, cond, ◌||◌, nat_lt, List, [], ◌∷◌, map, filter, Option, None, Some, refl, sym, ◌∙◌, ap, arith}
+use Rattle.std.proofs.lemmas.Bool.{le-leb}
+use Rattle.etcd_types.specs.declared.key_range.KeyRange.{KeyRange}
+use Rattle.etcd_types.specs.declared.record.Kv.{Kv}
+use Rattle.etcd_types.specs.declared.request.WatchAsk.{WatchAsk}
+use Rattle.etcd_types.specs.declared.watch.Change.{Change}
+use Rattle.etcd_types.specs.declared.watch.Change.TheVariants as change
+use Rattle.etcd_types.specs.declared.watch.Event.{Event}
+use Rattle.proxy_model.specs.Prefixes.{under}
+use Rattle.store_model.specs.Events.{change_passes, event_revision, events, events_after, passes, told_event, visible_prev, watch_events}
+use Rattle.store_model.specs.History.{History}
+use Rattle.watch_model.specs.Joining.{watched_range}
+use Rattle.world_model.specs.Received.{history_events, is_from}
+use Rattle.audit_clients.specs.Stored.{with_prev}
+
+or_true : (b : Bool) → b || true ≡ true
+or_true true = refl
+or_true false = refl
+
+-- nothing is compacted at revision 0
+all_visible : (revision : ℕ) (prev : Option Kv) → visible_prev 0 revision prev ≡ prev
+all_visible revision None = refl
+all_visible revision (Some kv) =
+    ap (λ (b : Bool). cond (nat_lt 0 revision || b) (Some kv) None) (le-leb 0 kv.modified (omega arith))
+    ∙ ap (λ (b : Bool). cond b (Some kv) None) (or_true (nat_lt 0 revision))
+
+told_whole : (p : List ℕ) (ask : WatchAsk) (e : Event) → told_event 0 (with_prev p ask) e ≡ e
+told_whole p ask e = ap (λ (prev : Option Kv). record { change = e.change; prev = prev }) (all_visible (event_revision e) e.prev)
+
+all_told : (p : List ℕ) (ask : WatchAsk) (es : List Event) → map (told_event 0 (with_prev p ask)) es ≡ es
+all_told p ask [] = refl
+all_told p ask (e ∷ es) = λ i. told_whole p ask e i ∷ all_told p ask es i
+
+change_so : (p : List ℕ) (ask : WatchAsk) (c : Change) → change_passes (with_prev p ask) c ≡ change_passes ask c
+change_so p ask (change.Put kv) = refl
+change_so p ask (change.Delete key modified) = refl
+
+passing_so : (p : List ℕ) (ask : WatchAsk) (es : List Event) → filter (passes (with_prev p ask)) es ≡ filter (passes ask) es
+passing_so p ask [] = refl
+passing_so p ask (e ∷ es) = λ i. cond (change_so p ask e.change i) (e ∷ passing_so p ask es i) (passing_so p ask es i)
+
+swapped : {A : Type 0} (f g : A → Bool) (xs : List A) → filter f (filter g xs) ≡ filter g (filter f xs)
+swapped f g [] = refl
+swapped f g (x ∷ xs) = by (f x) (g x) refl refl (swapped f g xs)
+  where
+    by : (a b : Bool) → f x ≡ a → g x ≡ b → filter f (filter g xs) ≡ filter g (filter f xs) → filter f (cond (g x) (x ∷ filter g xs) (filter g xs)) ≡ filter g (cond (f x) (x ∷ filter f xs) (filter f xs))
+    by true true e h rest =
+        ap (λ (t : Bool). filter f (cond t (x ∷ filter g xs) (filter g xs))) h
+        ∙ ap (λ (t : Bool). cond t (x ∷ filter f (filter g xs)) (filter f (filter g xs))) e
+        ∙ (λ i. x ∷ rest i)
+        ∙ sym
+        (ap (λ (t : Bool). filter g (cond t (x ∷ filter f xs) (filter f xs))) e
+        ∙ ap (λ (t : Bool). cond t (x ∷ filter g (filter f xs)) (filter g (filter f xs))) h)
+    by true false e h rest =
+        ap (λ (t : Bool). filter f (cond t (x ∷ filter g xs) (filter g xs))) h
+        ∙ rest
+        ∙ sym
+        (ap (λ (t : Bool). filter g (cond t (x ∷ filter f xs) (filter f xs))) e
+        ∙ ap (λ (t : Bool). cond t (x ∷ filter g (filter f xs)) (filter g (filter f xs))) h)
+    by false true e h rest =
+        ap (λ (t : Bool). filter f (cond t (x ∷ filter g xs) (filter g xs))) h
+        ∙ ap (λ (t : Bool). cond t (x ∷ filter f (filter g xs)) (filter f (filter g xs))) e
+        ∙ rest
+        ∙ sym (ap (λ (t : Bool). filter g (cond t (x ∷ filter f xs) (filter f xs))) e)
+    by false false e h rest =
+        ap (λ (t : Bool). filter f (cond t (x ∷ filter g xs) (filter g xs))) h
+        ∙ rest
+        ∙ sym (ap (λ (t : Bool). filter g (cond t (x ∷ filter f xs) (filter f xs))) e)
+
+from_begin : (range : KeyRange) (h : History) → events h range 0 ≡ events_after range [] h
+from_begin range [] = refl
+from_begin range (cs ∷ h) = refl
+
+history_told : (h : History) (p : List ℕ) (ask : WatchAsk) (start : ℕ) → filter (is_from start) (watch_events h 0 (with_prev p ask) 0) ≡ history_events h p ask start
+history_told h p ask start =
+    let range = under p (watched_range ask.range) in
+    let all : List Event = events_after range [] h in
+    ap (filter (is_from start)) (ap (λ (es : List Event). map (told_event 0 (with_prev p ask)) (filter (passes (with_prev p ask)) es)) (from_begin range h) ∙ all_told p ask (filter (passes (with_prev p ask)) all) ∙ passing_so p ask all)
+    ∙ swapped (is_from start) (passes ask) all
+
+pub told_so : (h : History) (p : List ℕ) (ask : WatchAsk) (start : ℕ) (revisions : History) (asked : WatchAsk) (batch found : List Event) → asked ≡ with_prev p ask → revisions ≡ h
+    → batch ≡ watch_events revisions 0 asked 0 → found ≡ filter (is_from start) batch → found ≡ history_events h p ask start
+told_so h p ask start revisions asked batch found a r b f =
+    f ∙ ap (filter (is_from start)) (b ∙ (λ i. watch_events (r i) 0 (a i) 0)) ∙ history_told h p ask start

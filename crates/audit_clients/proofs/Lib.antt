@@ -1,0 +1,7 @@
+pub mod Quiet
+pub mod Sent
+pub mod HistoryEvents
+pub mod Fronts
+pub mod Counts
+pub mod Turns
+pub mod Greatest

@@ -1,0 +1,54 @@
+-- What is kept of what proxies and sessions were given, in place of the items that tell it.
+use Rattle.std.specs.Prelude.{◌≡◌, ℕ, Bool, false, ◌==◌, max, if◌then◌else◌, List, [], ◌∷◌, Option, None, Some}
+use Rattle.etcd_types.specs.declared.answer.Answer.{Answer}
+use Rattle.etcd_types.specs.declared.answer.Answer.TheVariants.{Done, Refused}
+use Rattle.etcd_types.specs.declared.watch.WatchItem.{WatchItem}
+use Rattle.core_model.specs.LeasingStream.{item_header}
+use Rattle.script_text.specs.declared.item.Item.{Item}
+use Rattle.world_model.specs.Places.{kept_at}
+use Rattle.world_model.specs.Reads.{given}
+use Rattle.world_model.specs.Received.{or_zero}
+use Rattle.world_model.specs.State.{Numbered}
+use Rattle.audit_model.specs.Floors.{reported_floors}
+use Rattle.audit_clients.specs.declared.given.Given.{Given}
+
+-- the greatest of these, or 0
+abbrev pub greatest : List ℕ → ℕ
+greatest [] = 0
+greatest (r ∷ rs) = max r (greatest rs)
+
+-- the revision of an answer's header, or of a message's, or 0
+
+abbrev pub answer_revision : Option Answer → ℕ
+answer_revision None = 0
+answer_revision (Some (Done reply)) = reply.header.revision
+answer_revision (Some (Refused why)) = 0
+
+abbrev pub message_revision : Option WatchItem → ℕ
+message_revision None = 0
+message_revision (Some i) = (item_header i).revision
+
+-- what is kept for the proxy, or 0
+abbrev pub newest_at : Numbered ℕ → ℕ → ℕ
+newest_at kept p = or_zero (kept_at kept p)
+
+-- for each proxy the greatest header revision that it was given in its life
+abbrev pub KeepsNewest : Numbered ℕ → List Item → Type 0
+KeepsNewest kept items = (p : ℕ) → newest_at kept p ≡ greatest (given p items)
+
+-- it is raised to the revision for the proxies of which the test is so
+abbrev pub Raises : Numbered ℕ → Numbered ℕ → (ℕ → Bool) → ℕ → Type 0
+Raises old new test revision = (p : ℕ) → newest_at new p ≡ max (newest_at old p) (if test p then revision else 0)
+
+-- the proxy begins a life, in which it was given nothing
+abbrev pub Forgets : Numbered ℕ → Numbered ℕ → ℕ → Type 0
+Forgets old new q = (p : ℕ) → newest_at new p ≡ (if q == p then 0 else newest_at old p)
+
+-- this is the proxy that is told
+abbrev pub is_one : Option ℕ → ℕ → Bool
+is_one None p = false
+is_one (Some q) p = q == p
+
+pub record Gave (g : Given) (items : List Item) : Type 0 where
+  pub floors : g.floors ≡ reported_floors items
+  pub newest : KeepsNewest g.newest items

@@ -1,0 +1,5 @@
+pub mod Growing
+pub mod Taking
+pub mod Turns
+pub mod ItemTexts
+pub mod Complete

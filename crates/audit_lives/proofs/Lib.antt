@@ -1,0 +1,5 @@
+pub mod Walks
+pub mod Found
+pub mod LifeSteps
+pub mod Rests
+pub mod GivenItems

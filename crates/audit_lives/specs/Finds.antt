@@ -1,0 +1,34 @@
+-- What one item tells of what is looked for.
+use Rattle.std.specs.Prelude.{ℕ, Bool, false, ◌==◌, ◌&&◌, if◌then◌else◌, Option, None, Some}
+use Rattle.etcd_types.specs.declared.request.Request.{Request}
+use Rattle.script_text.specs.declared.item.Item.{Item}
+use Rattle.script_text.specs.declared.item.Item.TheVariants as item
+
+abbrev pub members_in : Item → Option ℕ
+members_in (item.World members namespace leasing) = Some members
+members_in _ = None
+
+abbrev pub asked_in : ℕ → ℕ → Item → Option Request
+asked_in p ticket (item.Asked q t r) = if q == p && t == ticket then Some r else None
+asked_in p ticket _ = None
+
+abbrev pub sender_in : ℕ → Item → Option ℕ
+sender_in call (item.Sent p number member ticket q) = if number == call then Some p else None
+sender_in call _ = None
+
+abbrev pub opener_in : ℕ → Item → Option ℕ
+opener_in stream (item.Opened p number member q) = if number == stream then Some p else None
+opener_in stream _ = None
+
+abbrev pub executes : ℕ → Item → Bool
+executes call (item.Executed number answer) = number == call
+executes call _ = false
+
+abbrev pub pushes_into : ℕ → Item → Bool
+pushes_into stream (item.Pushed number message) = number == stream
+pushes_into stream _ = false
+
+-- the first of what is found
+abbrev pub found_or : {A : Type 0} → Option A → Option A → Option A
+found_or None later = later
+found_or (Some x) later = Some x

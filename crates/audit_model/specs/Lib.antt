@@ -1,0 +1,12 @@
+pub mod Texts
+pub mod Calls
+pub mod Streams
+pub mod Order
+pub mod Answers
+pub mod Unsent
+pub mod Takes
+pub mod Floors
+pub mod Broken
+pub mod Summaries
+pub mod Audited
+pub mod Worked

@@ -1,0 +1,18 @@
+-- A message that is found for a watch, before the watch moves on.
+use Rattle.std.specs.Prelude.{◌≡◌, ℕ, Option, None, Some, Ok}
+use Rattle.store_model.specs.declared.watch.OpenWatch.{OpenWatch}
+use Rattle.store_model.specs.State.{State}
+use Rattle.store_model.specs.Watches.{Pushed, with_next, watch_of}
+use Rattle.audit_store.specs.declared.watches.Push.{Push}
+
+-- the state once the watch has moved on
+abbrev pub moved : State → ℕ → OpenWatch → Option ℕ → State
+moved s number w None = s
+moved s number w (Some next) = with_next s number w next
+
+abbrev pub IsPush : State → ℕ → OpenWatch → Push → Pushed → Type 0
+IsPush s number w push step = step ≡ Ok (moved s number w push.next, push.item)
+
+-- the same, for the watch of this number
+abbrev pub IsPushOf : State → ℕ → Push → Pushed → Type 0
+IsPushOf s number push step = (w : OpenWatch) × (watch_of s number ≡ Some w) × IsPush s number w push step

@@ -1,0 +1,201 @@
+ghost use Rattle.std.specs.Prelude.{◌≡◌, ◌++◌, map, IfOk, OnOk};
+ghost use Rattle.store_model.specs.declared.history.KeyChange.TheVariants as change;
+ghost use Rattle.store_model.specs.History.{newest, with_revision};
+ghost use Rattle.store_model.specs.Transactions.{put_on, run_put, deletion, delete_all, run_delete, run_range, run, run_all, run_txn};
+ghost use Rattle.audit_store.specs.Store.{state_of};
+ghost use Rattle.audit_store.specs.Running.{Runs, RunsAll};
+
+use crate::compares::all_hold;
+use crate::reads::read;
+use crate::records::{record_now, records_now};
+use crate::store::Store;
+use etcd_types::{Body, DeleteAsk, Kv, List, NoMemory, Op, PutAsk, RangeAsk, Refusal, TxnAsk};
+use std::alloc::Global;
+use store_model::KeyChange;
+use store_refusals as refusals;
+
+/// Operations run in order, and `made` is what the request changed so far. Each gives its answer, or the refusal of the
+/// whole request.
+impl Store {
+    #[cycle(run)]
+    #[tactic(auto, using(store_model::proofs::TransactionLemmas::of_runs))]
+    pub(crate) fn run(
+        &self,
+        operation: &Op,
+        made: &mut List<KeyChange>,
+    ) -> Result<Result<Body, Refusal>, NoMemory>
+        ensures { IfOk result (λ told. Runs told made.new (run (state_of self.now) operation.now made.old)) }
+    {
+        match operation {
+            Op::Range(ask) => Ok(self.run_range(ask, made)?),
+            Op::Put(ask) => Ok(self.run_put(ask, made)?),
+            Op::Delete(ask) => Ok(self.run_delete(ask, made)?),
+            Op::Txn(txn) => Ok(self.run_txn(txn, made)?),
+        }
+    }
+
+    #[cycle(run)]
+    pub(crate) fn run_txn(
+        &self,
+        txn: &TxnAsk,
+        made: &mut List<KeyChange>,
+    ) -> Result<Result<Body, Refusal>, NoMemory>
+        ensures { IfOk result (λ told. Runs told made.new (run_txn (state_of self.now) txn.now made.old)) }
+    {
+        let revisions = self.revisions.as_slice();
+        let succeeded = all_hold(
+            self.alloc,
+            revisions,
+            made.as_slice(),
+            txn.compare.as_slice(),
+        )?;
+        let branch = if succeeded {
+            &txn.success
+        } else {
+            &txn.failure
+        };
+        match self.run_all(branch, made)? {
+            Ok(bodies) => Ok(Ok(Body::Txn { succeeded, bodies })),
+            Err(refusal) => Ok(Err(refusal)),
+        }
+    }
+
+    #[cycle(run)]
+    fn run_all(
+        &self,
+        operations: &List<Op>,
+        made: &mut List<KeyChange>,
+    ) -> Result<Result<List<Body>, Refusal>, NoMemory>
+        ensures { IfOk result (λ told. RunsAll told made.new (run_all (state_of self.now) operations.now made.old)) }
+    {
+        let mut bodies = List::new(self.alloc);
+        for operation in operations.as_slice() {
+            match self.run(operation, made)? {
+                Ok(body) => bodies.push(body)?,
+                Err(refusal) => return Ok(Err(refusal)),
+            }
+        }
+        Ok(Ok(bodies))
+    }
+
+    pub(crate) fn run_range(
+        &self,
+        ask: &RangeAsk,
+        made: &List<KeyChange>,
+    ) -> Result<Result<Body, Refusal>, NoMemory>
+        ensures { IfOk result (λ told. Runs told made.now (run_range (state_of self.now) ask.now made.now)) }
+    {
+        let changes = made.as_slice();
+        let revisions = self.revisions.as_slice();
+        let latest = latest(revisions, changes);
+        let told = read(self.alloc, revisions, changes, latest, self.compacted, ask)?;
+        Ok(told)
+    }
+
+    pub(crate) fn run_put(
+        &self,
+        ask: &PutAsk,
+        made: &mut List<KeyChange>,
+    ) -> Result<Result<Body, Refusal>, NoMemory>
+        ensures { IfOk result (λ told. Runs told made.new (run_put (state_of self.now) ask.now made.old)) }
+    {
+        if ask.lease != 0 && !self.leases.has(ask.lease) {
+            return Ok(Err(refusals::lease_not_found(self.alloc)?));
+        }
+        let revisions = self.revisions.as_slice();
+        let old = record_now(self.alloc, revisions, made.as_slice(), &ask.key)?;
+        Ok(put_on(self.alloc, ask, made, old)?)
+    }
+
+    pub(crate) fn run_delete(
+        &self,
+        ask: &DeleteAsk,
+        made: &mut List<KeyChange>,
+    ) -> Result<Result<Body, Refusal>, NoMemory>
+        ensures { IfOk result (λ told. Runs told made.new (run_delete (state_of self.now) ask.now made.old)) }
+    {
+        let revisions = self.revisions.as_slice();
+        let gone = records_now(self.alloc, revisions, made.as_slice(), &ask.range)?;
+        Ok(delete_all(self.alloc, ask, made, gone)?)
+    }
+}
+
+/// The newest revision that an operation sees: what the request has changed so far counts as one.
+fn latest(revisions: &[List<KeyChange>], made: &[KeyChange]) -> u64
+    ensures { result ≡ newest (with_revision revisions.now made.now) }
+{
+    if made.is_empty() {
+        revisions.len() as u64 + 1
+    } else {
+        revisions.len() as u64 + 2
+    }
+}
+
+/// The put, where `old` is the key's record before it.
+fn put_on(
+    alloc: Global,
+    ask: &PutAsk,
+    made: &mut List<KeyChange>,
+    old: Option<Kv>,
+) -> Result<Result<Body, Refusal>, NoMemory>
+    ensures { IfOk result (λ told. Runs told made.new (put_on ask.now made.old old)) }
+{
+    match old {
+        None => {
+            if ask.ignore_lease {
+                return Ok(Err(refusals::key_not_found(alloc)?));
+            }
+            made.push(put_change(alloc, ask, ask.lease)?)?;
+            Ok(Ok(Body::Put { prev: None }))
+        }
+        Some(kv) => {
+            let lease = if ask.ignore_lease {
+                kv.lease
+            } else {
+                ask.lease
+            };
+            made.push(put_change(alloc, ask, lease)?)?;
+            let prev = if ask.prev_kv { Some(kv) } else { None };
+            Ok(Ok(Body::Put { prev }))
+        }
+    }
+}
+
+fn put_change(alloc: Global, ask: &PutAsk, lease: u64) -> Result<KeyChange, NoMemory>
+    ensures { IfOk result (λ made. made ≡ change.Put ask.now.key ask.now.value lease) }
+{
+    Ok(KeyChange::Put {
+        key: ask.key.copy(alloc)?,
+        value: ask.value.copy(alloc)?,
+        lease,
+    })
+}
+
+fn delete_all(
+    alloc: Global,
+    ask: &DeleteAsk,
+    made: &mut List<KeyChange>,
+    gone: List<Kv>,
+) -> Result<Result<Body, Refusal>, NoMemory>
+    ensures { IfOk result (λ told. Runs told made.new (delete_all ask.now made.old gone)) }
+{
+    add_deletions(alloc, made, gone.as_slice())?;
+    let deleted = gone.len() as u64;
+    let prevs = if ask.prev_kv { gone } else { List::new(alloc) };
+    Ok(Ok(Body::Delete { deleted, prevs }))
+}
+
+pub(crate) fn add_deletions(
+    alloc: Global,
+    made: &mut List<KeyChange>,
+    gone: &[Kv],
+) -> Result<(), NoMemory>
+    ensures { OnOk result (made.new ≡ made.old ++ map deletion gone.now) }
+{
+    for record in gone {
+        made.push(KeyChange::Delete {
+            key: record.key.copy(alloc)?,
+        })?;
+    }
+    Ok(())
+}

@@ -1,0 +1,229 @@
+ghost use Rattle.std.specs.Prelude.{◌≡◌, ◌<◌, ◌≤◌, ◌+◌, ◌-◌, None, Some, slice_get, slice_set, length, IsSome, IfOk, IfErr, OnErr};
+ghost use Rattle.std.specs.Option.{option_copied};
+ghost use Rattle.store_model.specs.declared.watch.OpenWatch.{OpenWatch};
+ghost use Rattle.store_model.specs.History.{newest};
+ghost use Rattle.store_model.specs.Watches.{watch_of, with_next, opened, pushed, push_to, progressed, progress_to, is_synced, watch_header, first_next};
+ghost use Rattle.audit_store.specs.Store.{state_of, Opens};
+ghost use Rattle.audit_store.specs.Faults.{Gives, IsFault};
+ghost use Rattle.audit_store.specs.Pushes.{IsPush, IsPushOf, moved};
+
+use crate::events::watch_events;
+use crate::requests::{header, newest};
+use crate::store::Store;
+use crate::table::Table;
+use etcd_types::{Header, List, NoMemory, WatchAsk, WatchItem};
+use store_model::{KeyChange, OpenWatch, StoreFault};
+
+/// A message of a watch, and the revision from which the watch goes on, where that changes.
+#[derive(Debug, Drop)]
+pub(crate) struct Push {
+    pub(crate) item: WatchItem,
+    pub(crate) next: Option<u64>,
+}
+
+impl Store {
+    pub(crate) fn open(&mut self, member: u32, ask: &WatchAsk) -> Result<u64, NoMemory>
+        ensures step { IfOk result (λ number. Opens self.new number (opened (state_of self.old) member ask.now)) }
+        ensures err { OnErr result (self.new ≡ self.old) }
+    {
+        let number = self.watches.as_slice().len() as u64 + 1;
+        let ask = ask.copy(self.alloc)?;
+        self.watches.push(OpenWatch {
+            member,
+            ask,
+            next: 0,
+        })?;
+        Ok(number)
+    }
+
+    /// Pushes what comes next on a watch.
+    pub(crate) fn push_next(&mut self, number: u64) -> Result<WatchItem, StoreFault>
+        ensures step { IfOk result (λ item. Gives self.new item (pushed (state_of self.old) number)) }
+        ensures fault { IfErr result (λ fault. IsFault fault (pushed (state_of self.old) number)) }
+        ensures err { OnErr result (self.new ≡ self.old) }
+    {
+        match self.next_push(number) {
+            Ok(push) => Ok(self.go_on(number, push)),
+            Err(fault) => Err(fault),
+        }
+    }
+
+    #[tactic(auto, using(store_model::proofs::WatchLemmas::of_pushes))]
+    fn next_push(&self, number: u64) -> Result<Push, StoreFault>
+        ensures step { IfOk result (λ push. IsPushOf (state_of self.now) number push (pushed (state_of self.now) number)) }
+        ensures fault { IfErr result (λ fault. IsFault fault (pushed (state_of self.now) number)) }
+    {
+        match self.watch(number) {
+            None => Err(StoreFault::NoSuchWatch(number)),
+            Some(watch) => self.push_for(number, watch),
+        }
+    }
+
+    /// Tells how far a watch has come.
+    pub(crate) fn push_progress(&mut self, number: u64) -> Result<WatchItem, StoreFault>
+        ensures step { IfOk result (λ item. Gives self.new item (progressed (state_of self.old) number)) }
+        ensures fault { IfErr result (λ fault. IsFault fault (progressed (state_of self.old) number)) }
+        ensures err { OnErr result (self.new ≡ self.old) }
+    {
+        match self.next_progress(number) {
+            Ok(push) => Ok(self.go_on(number, push)),
+            Err(fault) => Err(fault),
+        }
+    }
+
+    #[tactic(auto, using(store_model::proofs::WatchLemmas::of_pushes))]
+    fn next_progress(&self, number: u64) -> Result<Push, StoreFault>
+        ensures step { IfOk result (λ push. IsPushOf (state_of self.now) number push (progressed (state_of self.now) number)) }
+        ensures fault { IfErr result (λ fault. IsFault fault (progressed (state_of self.now) number)) }
+    {
+        match self.watch(number) {
+            None => Err(StoreFault::NoSuchWatch(number)),
+            Some(watch) => self.progress_for(number, watch),
+        }
+    }
+
+    /// The watch of this number.
+    fn watch(&self, number: u64) -> Option<&OpenWatch>
+        ensures { option_copied result ≡ watch_of (state_of self.now) number }
+    {
+        if number == 0 {
+            return None;
+        }
+        self.watches.as_slice().get((number - 1) as usize)
+    }
+
+    fn push_for(&self, number: u64, watch: &OpenWatch) -> Result<Push, StoreFault>
+        ensures step { IfOk result (λ push. IsPush (state_of self.now) number watch.now push (push_to (state_of self.now) number watch.now)) }
+        ensures fault { IfErr result (λ fault. IsFault fault (push_to (state_of self.now) number watch.now)) }
+    {
+        let header = self.watch_header(watch);
+        if watch.next == 0 {
+            return Ok(Push {
+                item: WatchItem::Created(header),
+                next: Some(first_next(self.revisions.as_slice(), watch.ask.start)),
+            });
+        }
+        if watch.next < self.compacted {
+            return Ok(Push {
+                item: WatchItem::Canceled {
+                    header,
+                    compact: self.compacted,
+                },
+                next: None,
+            });
+        }
+        let revisions = self.revisions.as_slice();
+        let batch = watch_events(
+            self.alloc,
+            revisions,
+            self.compacted,
+            &watch.ask,
+            watch.next,
+        )?;
+        if batch.events.as_slice().is_empty() {
+            return Err(StoreFault::NothingToPush(number));
+        }
+        Ok(Push {
+            item: WatchItem::Events {
+                header,
+                events: batch.events,
+            },
+            next: Some(batch.next),
+        })
+    }
+
+    fn progress_for(&self, number: u64, watch: &OpenWatch) -> Result<Push, StoreFault>
+        ensures step { IfOk result (λ push. IsPush (state_of self.now) number watch.now push (progress_to (state_of self.now) number watch.now)) }
+        ensures fault { IfErr result (λ fault. IsFault fault (progress_to (state_of self.now) number watch.now)) }
+    {
+        if !watch.ask.progress {
+            return Err(StoreFault::NotAsked(number));
+        }
+        let header = self.watch_header(watch);
+        let revisions = self.revisions.as_slice();
+        if !self.is_synced(watch)? {
+            return Err(StoreFault::NotSynced {
+                next: watch.next,
+                newest: newest(revisions),
+            });
+        }
+        Ok(Push {
+            item: WatchItem::Events {
+                header,
+                events: List::new(self.alloc),
+            },
+            next: Some(watch.next.max(behind_newest(revisions))),
+        })
+    }
+
+    /// Whether the watch was created and has nothing to push.
+    fn is_synced(&self, watch: &OpenWatch) -> Result<bool, NoMemory>
+        ensures { IfOk result (λ synced. synced ≡ is_synced (state_of self.now) watch.now) }
+    {
+        if watch.next == 0 || watch.next < self.compacted {
+            return Ok(false);
+        }
+        let revisions = self.revisions.as_slice();
+        let batch = watch_events(
+            self.alloc,
+            revisions,
+            self.compacted,
+            &watch.ask,
+            watch.next,
+        )?;
+        Ok(batch.events.as_slice().is_empty())
+    }
+
+    fn watch_header(&self, watch: &OpenWatch) -> Header
+        ensures { result ≡ watch_header (state_of self.now) watch.now }
+    {
+        header(watch.member, newest(self.revisions.as_slice()))
+    }
+
+    /// Moves the watch on, and gives the message.
+    fn go_on(&mut self, number: u64, push: Push) -> WatchItem
+        requires { IsSome (watch_of (state_of self.old) number) }
+        ensures item { result ≡ push.item }
+        ensures watch { (w : OpenWatch) → watch_of (state_of self.old) number ≡ Some w → state_of self.new ≡ moved (state_of self.old) number w push.next }
+    {
+        if let Some(next) = push.next {
+            self.set_next(number, next);
+        }
+        push.item
+    }
+
+    fn set_next(&mut self, number: u64, next: u64)
+        requires { IsSome (watch_of (state_of self.old) number) }
+        ensures { (w : OpenWatch) → watch_of (state_of self.old) number ≡ Some w → state_of self.new ≡ with_next (state_of self.old) number w next }
+    {
+        self.watches.set_next((number - 1) as usize, next);
+    }
+}
+
+impl Table<OpenWatch> {
+    /// Moves the watch at this place on.
+    fn set_next(&mut self, place: usize, next: u64)
+        requires { place < length self.old }
+        ensures { (w : OpenWatch) → slice_get self.old place ≡ Some w → self.new ≡ slice_set self.old place (record w { next = next }) }
+    {
+        let watch = &mut self.items[place];
+        watch.next = next;
+    }
+}
+
+/// The first revision of a watch: where it names none, the one behind the newest.
+fn first_next(revisions: &[List<KeyChange>], start: u64) -> u64
+    ensures { result ≡ first_next (newest revisions.now) start }
+{
+    if start == 0 {
+        behind_newest(revisions)
+    } else {
+        start
+    }
+}
+
+fn behind_newest(revisions: &[List<KeyChange>]) -> u64
+    ensures { result ≡ newest revisions.now + 1 }
+{
+    revisions.len() as u64 + 2
+}

@@ -1,0 +1,4 @@
+pub mod Rules
+pub mod Clients
+pub mod Steps
+pub mod Standings

@@ -1,0 +1,11 @@
+//! The audit of a transcript, item by item: whether each keeps the rules behind those before it. It keeps the items, and looks them
+//! through for each further one.
+#![tactic(auto)]
+
+mod audit;
+mod compared;
+mod made;
+mod stored;
+
+pub use audit::Audit;
+pub use audit_model::{AuditFault, Summary};
