@@ -2,3 +2,4 @@ pub mod Complete
 pub mod Generated
 pub mod Lines
 pub mod Started
+pub mod AuditEndings

@@ -3,3 +3,4 @@ pub mod Run
 pub mod Start
 pub mod Texts
 pub mod Words
+pub mod Audit

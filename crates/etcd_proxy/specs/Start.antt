@@ -10,6 +10,8 @@ use Rattle.start_words.specs.Texts.{serving_text, wrong_text}
 use Rattle.start_words.specs.declared.settings.StartSettings.{StartSettings}
 use Rattle.start_words.specs.declared.start_fault.StartFault.TheVariants.{Help, Usage}
 use Rattle.start_words.specs.declared.wrong.Wrong.{Wrong}
+use Rattle.http_talk.specs.declared.form.RefusalForm.{RefusalForm}
+use Rattle.http_talk.specs.declared.form.RefusalForm.TheVariants.{Mapping, Etcd}
 use Rattle.proxy_service.specs.Service.{Seen, Serves}
 use Rattle.proxy_service.specs.declared.ends.ServeEnd.{ServeEnd}
 use Rattle.proxy_service.specs.declared.ends.ServeEnd.TheVariants.{Stopped, NoMemory, ListenerFault, SpawnerFault}
@@ -23,6 +25,10 @@ options_of (program ∷ command ∷ options) =
     if bytes_eq (string_bytes program) (codes "grpc-proxy") && bytes_eq (string_bytes command) (codes "start") then Some options else None
 options_of _ = None
 
+-- refusals are the mapping's, but where etcd's own form was asked for
+abbrev pub form_of : Bool → RefusalForm
+form_of etcd_errors = if etcd_errors then Etcd else Mapping
+
 abbrev pub service_of : StartSettings → Service
 service_of s = record {
   core = record { members = length s.endpoints; namespace = s.namespace; leasing = s.leasing; ttl = s.session_ttl };
@@ -30,6 +36,7 @@ service_of s = record {
   listen = s.listen;
   workers = s.workers;
   message_limit = s.message_limit * 1048576;
+  form = form_of s.etcd_errors;
 }
 
 abbrev pub status_of_end : ServeEnd → ℕ
@@ -52,13 +59,12 @@ Wants told told' faults faults' status = Tells told told' faults faults' (codes 
 abbrev pub Refuses : Option (List ℕ) → Option (List ℕ) → ℕ → ℕ → List ℕ → ℕ → Type 0
 Refuses told told' faults faults' why status = Tells told told' faults faults' (why ++ usage_text) × (status ≡ 2)
 
--- it was told what is served where, then these settings were served, and then it was told why no more
+-- these settings were served, and it was told what is served where once it listened, and then why no more
 pub record ServesAs {C : Type 0} (settings : StartSettings) (told told' : Option (List ℕ)) (faults faults' : ℕ) (before after : Seen C) (status : ℕ) : Type 0 where
   pub end : ServeEnd
   pub begun : Option (List ℕ)
   pub begun_faults : ℕ
-  pub begins : Tells told begun faults begun_faults (serving_text settings.listen settings.endpoints)
-  pub serves : Serves (service_of settings) before after end
+  pub serves : Serves (service_of settings) (serving_text settings.listen settings.endpoints) told begun faults begun_faults before after end
   pub ends : Tells begun told' begun_faults faults' (text_of_end end)
   pub status_is : status ≡ status_of_end end
 

@@ -6,11 +6,12 @@ use Rattle.std.specs.declared.alloc.Global.{Global}
 use Rattle.text_model.specs.Forms.{respelled}
 use Rattle.text_model.specs.Words.{is_within}
 use Rattle.etcd_proxy.specs.declared.words.Command.{Command}
-use Rattle.etcd_proxy.specs.declared.words.Command.TheVariants.{Replay, Generate, Help, Version}
+use Rattle.etcd_proxy.specs.declared.words.Command.TheVariants.{Replay, Generate, Audit, Help, Version}
 
 abbrev pub named : List ℕ → Option Command
 named name =
     if bytes_eq name (codes "replay") then Some Replay
+    else if bytes_eq name (codes "audit") then Some Audit
     else if bytes_eq name (codes "--help") then Some Help
     else if bytes_eq name (codes "--version") then Some Version
     else None

@@ -1,5 +1,6 @@
 // Who asks the members whether they answer, each in a thread of its own.
 
+use crate::newest::Newest;
 use crate::revoke::Revoker;
 use etcd_types::code::{INVALID_ARGUMENT, PERMISSION_DENIED};
 use etcd_types::{Bytes, List, NoMemory};
@@ -11,7 +12,7 @@ use state_file::Sessions;
 use std::alloc::Global;
 use std::net::{Net, TcpStream};
 use std::rt::Clock as Times;
-use std::sync::{Arc, Mutex, Wait};
+use std::sync::{Arc, Wait};
 use std::thread::Threads;
 use std::{io, thread};
 
@@ -21,8 +22,7 @@ pub(crate) struct Shared {
     members: Arc<Members, Global>,
     limits: LinkLimits,
     sessions: Arc<Sessions, Global>,
-    // how far the cluster's history was at the newest, by the replies that came
-    newest: Mutex<Option<Standing>>,
+    newest: Arc<Newest, Global>,
     halt: Arc<Halt, Global>,
 }
 
@@ -32,13 +32,14 @@ impl Shared {
         members: Arc<Members, Global>,
         limits: LinkLimits,
         sessions: Arc<Sessions, Global>,
+        newest: Arc<Newest, Global>,
         halt: Arc<Halt, Global>,
     ) -> Shared {
         Shared {
             members,
             limits,
             sessions,
-            newest: Mutex::new(None),
+            newest,
             halt,
         }
     }
@@ -79,7 +80,7 @@ impl<R: Net<Stream = TcpStream> + Times + Wait + Eprint + Copy + Drop> Asker<R> 
     // Asks once. For want of memory that says nothing. A cluster that wants to know of a user refuses the asking, in which nothing else is
     // wrong, with the codes of an argument or of a permission.
     fn ask_once(&mut self) {
-        let before = *self.shared.newest.lock(&self.rt);
+        let before = self.shared.newest.standing(&self.rt);
         let number = self.revoker.number;
         let told = ask(
             self.alloc,
@@ -104,13 +105,7 @@ impl<R: Net<Stream = TcpStream> + Times + Wait + Eprint + Copy + Drop> Asker<R> 
     fn compare(&self, before: Option<Standing>, standing: Standing) {
         match before {
             Some(before) if standing.is_another(&before) => self.halt(&before, &standing),
-            _ => {
-                let mut newest = self.shared.newest.lock(&self.rt);
-                *newest = match *newest {
-                    Some(other) => Some(standing.newer(other)),
-                    None => Some(standing),
-                };
-            }
+            _ => self.shared.newest.add(&self.rt, standing),
         }
     }
 

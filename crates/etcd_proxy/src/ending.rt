@@ -4,11 +4,14 @@ ghost use Rattle.outside.specs.Faults.{Rose};
 ghost use Rattle.outside.specs.Streams.{WritesFront};
 ghost use Rattle.replay_generated.specs.declared.summary.Summary.{Summary as Counts};
 ghost use Rattle.replay_input.specs.Reads.{ReadsInTurn};
+ghost use Rattle.audit_input.specs.Audits.{IsKeptTranscript};
+ghost use Rattle.etcd_proxy.specs.Audit.{AuditEnds};
 ghost use Rattle.etcd_proxy.specs.Generated.{Generates, IsSummaryOf, summary_text};
 ghost use Rattle.etcd_proxy.specs.Run.{Runs, Tells, Prints, IsWholeScript, status_of, text_of_status, refused_text};
 ghost use Rattle.etcd_proxy.specs.Texts.{usage_text, help_text, version_text};
 ghost use Rattle.etcd_proxy.specs.Words.{command_of};
 
+use crate::audited::audit;
 use crate::told::{USAGE, print, tell};
 use crate::words::{Command, NoWords, command_of};
 use etcd_types::NoMemory;
@@ -23,10 +26,12 @@ etcd_proxy serves clients of an etcd cluster, and replays scripted schedules of 
 
 usage: etcd_proxy replay < SCRIPT
        etcd_proxy replay --generate N
+       etcd_proxy audit < TRANSCRIPT
        etcd_proxy grpc-proxy start OPTIONS
 
   replay             reads a script from the input and writes its transcript to the output
   --generate N       replays the script that is generated from N, 1 to 20000, and writes counts of its transcript
+  audit              reads a transcript from the input, says whether it keeps the rules of one, and writes its counts
   grpc-proxy start   serves; with --help it shows its options
   --help             shows this
   --version          shows the version
@@ -37,8 +42,8 @@ const VERSION: &[u8] = b"etcd_proxy 0.1.0\n";
 /// Does what words ask for that serve nobody, and answers the exit status.
 ///
 /// 0: the script was read to its end and its transcript is written. 1: a line is refused. 2: the words are none of the
-/// forms. 3: the input failed. 4: the output failed. 5: memory was wanting. 6: a line passes a limit. The words are
-/// those of the command line after the program's name.
+/// forms. 3: the input failed. 4: the output failed. 5: memory was wanting. 6: a line passes a limit. 9: under `audit`, an
+/// item breaks a rule. The words are those of the command line after the program's name.
 pub fn run_ending<S: Source, K: Sink, E: Sink>(
     alloc: Global,
     words: &[String],
@@ -52,14 +57,14 @@ pub fn run_ending<S: Source, K: Sink, E: Sink>(
         → Tells (E.written errors.old) (E.written errors.new) (E.faults errors.old) (E.faults errors.new) usage_text }
     ensures unwritten { command_of words.now ≡ None → output.new ≡ output.old }
 
-    // The texts are written to the output, and without `replay` nothing is read.
+    // The texts are written to the output, and without `replay` or `audit` nothing is read.
     ensures help { command_of words.now ≡ Some Command.Help
         → Prints (K.written output.old) (K.written output.new) (K.faults output.old) (K.faults output.new)
         (E.written errors.old) (E.written errors.new) (E.faults errors.old) (E.faults errors.new) help_text result }
     ensures version { command_of words.now ≡ Some Command.Version
         → Prints (K.written output.old) (K.written output.new) (K.faults output.old) (K.faults output.new)
         (E.written errors.old) (E.written errors.new) (E.faults errors.old) (E.faults errors.new) version_text result }
-    ensures unread { command_of words.now ≢ Some Command.Replay → input.new ≡ input.old }
+    ensures unread { command_of words.now ≢ Some Command.Replay → command_of words.now ≢ Some Command.Audit → input.new ≡ input.old }
 
     // A script's transcript is written; each of its answers is the store's, so is each message of a stream, each watch has received a
     // front of the history's events, and each ok reply to a keepalive is the answer of one that was sent behind it.
@@ -73,6 +78,15 @@ pub fn run_ending<S: Source, K: Sink, E: Sink>(
     // A script within the limits whose lines can all be taken is never refused: nothing but a stream that fails or want of memory keeps
     // it from its end.
     ensures complete { command_of words.now ≡ Some Command.Replay → IsWholeScript (S.left input.old) → (result ≢ 1) × (result ≢ 6) }
+
+    // A transcript is audited: where each line is the text of an item and no item breaks a rule, its counts are written, and it has what a
+    // replay's transcript has; else the first line with a refusal is told.
+    ensures audits { command_of words.now ≡ Some Command.Audit
+        → AuditEnds (S.left input.old) (S.left input.new) (K.written output.old) (K.written output.new) (K.faults output.old) (K.faults output.new)
+        (E.written errors.old) (E.written errors.new) (E.faults errors.old) (E.faults errors.new) result }
+
+    // The texts of items that keep the rules are never refused, within the limits.
+    ensures audits_all { command_of words.now ≡ Some Command.Audit → IsKeptTranscript (S.left input.old) → (result ≢ 1) × (result ≢ 9) × (result ≢ 6) }
 
     // The counts of a generated script's transcript are written.
     ensures generates { (number : ℕ) → command_of words.now ≡ Some (Command.Generate number)
@@ -90,6 +104,7 @@ pub fn run_ending<S: Source, K: Sink, E: Sink>(
         Some(Command::Help) => print(output, errors, HELP),
         Some(Command::Version) => print(output, errors, VERSION),
         Some(Command::Replay) => replay(alloc, input, output, errors),
+        Some(Command::Audit) => audit(alloc, input, output, errors),
         Some(Command::Generate(number)) => generate(alloc, number, output, errors),
     }
 }

@@ -3,10 +3,15 @@
 #![tactic(auto)]
 
 mod asker;
+mod audited;
+mod busiest;
 mod door;
 mod ending;
+mod newest;
+mod own;
 mod revoke;
 mod run;
+mod shown;
 mod start;
 mod stop;
 mod system;
@@ -15,10 +20,12 @@ mod words;
 
 use crate::asker::{Asker, askers_of, begin_all, revokers_of};
 use crate::door::door_of;
+use crate::shown::{Teller, pages_of};
 use crate::stop::{Ender, Leaving};
 use crate::system::System;
 use crate::words::{NoWords, options_of};
 use etcd_types::NoMemory;
+use metrics_pages::Pages;
 use outside::{Reading, Writing};
 use part_threads::{Nothing, spawner_of};
 use sockets::{Halt, SocketHost};
@@ -26,7 +33,7 @@ use start_words::{StartSettings, read_start};
 use state_file::Sessions;
 use std::alloc::Global;
 use std::fs::{File, Files};
-use std::net::{Net, TcpStream};
+use std::net::{Net, TcpListener, TcpStream};
 use std::process::ExitCode;
 use std::rt::Clock as Times;
 use std::sync::{Arc, Wait};
@@ -39,12 +46,16 @@ struct Outfit<R: Drop> {
     system: System<R>,
     askers: Vec<Asker<R>>,
     leaving: Leaving<R>,
+    /// Who shows what it counts, where it is to.
+    pages: Vec<Pages<R, Teller<R>>>,
     /// Whether it stops at the end of the standard input.
     stops: bool,
 }
 
 /// The outfit of a server with these settings.
-fn make_outfit<R: Net<Stream = TcpStream> + Times + Wait + Copy + Drop>(
+fn make_outfit<
+    R: Net<Listener = TcpListener, Stream = TcpStream> + Times + Wait + Eprint + Copy + Drop,
+>(
     rt: R,
     alloc: Global,
     settings: &StartSettings,
@@ -52,8 +63,10 @@ fn make_outfit<R: Net<Stream = TcpStream> + Times + Wait + Copy + Drop>(
     halt: &Arc<Halt, Global>,
 ) -> Result<Outfit<R>, NoMemory> {
     let endpoints = &settings.endpoints;
-    let (ttl, workers) = (settings.session_ttl, settings.workers);
-    let system = System::new(rt, alloc, endpoints, ttl, workers, sessions, halt)?;
+    let mut system = System::new(rt, alloc, settings, sessions, halt)?;
+    if !settings.metrics.is_empty() {
+        system = system.counting()?;
+    }
     let shared = Arc::new(alloc, system.asked()?)?;
     let leaving = Leaving {
         rt,
@@ -63,10 +76,12 @@ fn make_outfit<R: Net<Stream = TcpStream> + Times + Wait + Copy + Drop>(
         revokers: revokers_of(rt, alloc, endpoints, &shared)?,
     };
     let askers = askers_of(rt, alloc, endpoints, &shared)?;
+    let pages = pages_of(rt, alloc, &system, &settings.metrics)?;
     Ok(Outfit {
         system,
         askers,
         leaving,
+        pages,
         stops: settings.stop_at_end,
     })
 }
@@ -81,17 +96,29 @@ fn open_state<R: Files<File = File> + Wait>(rt: &R, sessions: &Sessions, setting
     }
 }
 
-/// The outfit of the server that these words ask for. Nothing where they ask for none, or where memory is wanting for it.
-fn outfit_of<R: Net<Stream = TcpStream> + Times + Wait + Files<File = File> + Copy + Drop>(
+/// The outfit of a server with these settings. Nothing where memory is wanting for it.
+fn outfit_of<
+    R: Net<Listener = TcpListener, Stream = TcpStream>
+        + Times
+        + Wait
+        + Files<File = File>
+        + Eprint
+        + Copy
+        + Drop,
+>(
     rt: R,
     alloc: Global,
-    words: &[String],
+    settings: &StartSettings,
     sessions: &Arc<Sessions, Global>,
     halt: &Arc<Halt, Global>,
 ) -> Option<Outfit<R>> {
-    let settings = read_start(alloc, options_of(words)?).ok()?;
-    open_state(&rt, sessions, &settings);
-    make_outfit(rt, alloc, &settings, sessions, halt).ok()
+    open_state(&rt, sessions, settings);
+    make_outfit(rt, alloc, settings, sessions, halt).ok()
+}
+
+/// The settings that these words name, where they ask for a server.
+fn settings_of(alloc: Global, words: &[String]) -> Option<StartSettings> {
+    read_start(alloc, options_of(words)?).ok()
 }
 
 /// Who has the server stop at the end of this input, where it is to stop then.
@@ -127,25 +154,39 @@ fn main(rt: HostRuntime) -> ExitCode {
     let mut input = Reading::new(rt.stdin());
     let mut output = Writing::new(rt.stdout());
     let words = words.as_slice();
+    let settings = settings_of(rt.alloc(), words);
+    let has_error_field = match &settings {
+        Some(settings) => settings.etcd_errors,
+        None => false,
+    };
     let (Ok(halt), Ok(sessions), Ok(door)) = (
         Arc::new(rt.alloc(), Halt::new()),
         Arc::new(rt.alloc(), Sessions::new(rt.alloc())),
-        door_of(rt.alloc()),
+        door_of(rt.alloc(), has_error_field),
     ) else {
         return ExitCode::from(ending::tell_no_words(NoWords::NoMemory, &mut errors));
     };
     // Words that serve nobody start no thread. A server that nothing can start a part for ends as one whose first worker can't be started.
-    let server = match outfit_of(rt, rt.alloc(), words, &sessions, &halt) {
+    let outfit = match &settings {
+        Some(settings) => outfit_of(rt, rt.alloc(), settings, &sessions, &halt),
+        None => None,
+    };
+    let server = match outfit {
         Some(outfit) => match enders_of(rt, rt.alloc(), &outfit, rt.stdin()) {
             Ok(enders) => {
                 let Outfit {
                     system,
                     askers,
                     leaving,
+                    pages,
                     ..
                 } = outfit;
-                match (begin_all(&rt, askers), begin_all(&rt, enders)) {
-                    (Ok(()), Ok(())) => match spawner_of(rt, rt.alloc(), system) {
+                match (
+                    begin_all(&rt, askers),
+                    begin_all(&rt, enders),
+                    begin_all(&rt, pages),
+                ) {
+                    (Ok(()), Ok(()), Ok(())) => match spawner_of(rt, rt.alloc(), system) {
                         Some(spawner) => Some((spawner, leaving)),
                         None => None,
                     },

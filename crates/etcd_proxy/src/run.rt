@@ -4,6 +4,8 @@ ghost use Rattle.std.specs.declared.alloc.Global.{Global as Heap};
 ghost use Rattle.outside.specs.Faults.{Rose};
 ghost use Rattle.proxy_service.specs.Service.{seen};
 ghost use Rattle.replay_input.specs.Reads.{ReadsInTurn};
+ghost use Rattle.audit_input.specs.Audits.{IsKeptTranscript};
+ghost use Rattle.etcd_proxy.specs.Audit.{AuditEnds};
 ghost use Rattle.etcd_proxy.specs.Generated.{Generates};
 ghost use Rattle.etcd_proxy.specs.Run.{Runs, Tells, Prints, IsWholeScript};
 ghost use Rattle.etcd_proxy.specs.Start.{Starts, moment, options_of};
@@ -45,14 +47,14 @@ pub fn run<R: Wait, S: Source, K: Sink, E: Sink, H: Host, P: Spawner<Pass = Plac
         → Tells (E.written errors.old) (E.written errors.new) (E.faults errors.old) (E.faults errors.new) usage_text }
     ensures unwritten { options_of words.now ≡ None → command_of words.now ≡ None → output.new ≡ output.old }
 
-    // The texts are written to the output, and without `replay` nothing is read.
+    // The texts are written to the output, and without `replay` or `audit` nothing is read.
     ensures help { command_of words.now ≡ Some Command.Help
         → Prints (K.written output.old) (K.written output.new) (K.faults output.old) (K.faults output.new)
         (E.written errors.old) (E.written errors.new) (E.faults errors.old) (E.faults errors.new) help_text result }
     ensures version { command_of words.now ≡ Some Command.Version
         → Prints (K.written output.old) (K.written output.new) (K.faults output.old) (K.faults output.new)
         (E.written errors.old) (E.written errors.new) (E.faults errors.old) (E.faults errors.new) version_text result }
-    ensures unread { command_of words.now ≢ Some Command.Replay → input.new ≡ input.old }
+    ensures unread { command_of words.now ≢ Some Command.Replay → command_of words.now ≢ Some Command.Audit → input.new ≡ input.old }
 
     // A script's transcript is written; each of its answers is the store's, so is each message of a stream, each watch has received a
     // front of the history's events, and each ok reply to a keepalive is the answer of one that was sent behind it.
@@ -66,6 +68,15 @@ pub fn run<R: Wait, S: Source, K: Sink, E: Sink, H: Host, P: Spawner<Pass = Plac
     // A script within the limits whose lines can all be taken is never refused: nothing but a stream that fails or want of memory keeps
     // it from its end.
     ensures complete { command_of words.now ≡ Some Command.Replay → IsWholeScript (S.left input.old) → (result ≢ 1) × (result ≢ 6) }
+
+    // A transcript is audited: where each line is the text of an item and no item breaks a rule, its counts are written, and it has what a
+    // replay's transcript has; else the first line with a refusal is told.
+    ensures audits { command_of words.now ≡ Some Command.Audit
+        → AuditEnds (S.left input.old) (S.left input.new) (K.written output.old) (K.written output.new) (K.faults output.old) (K.faults output.new)
+        (E.written errors.old) (E.written errors.new) (E.faults errors.old) (E.faults errors.new) result }
+
+    // The texts of items that keep the rules are never refused, within the limits.
+    ensures audits_all { command_of words.now ≡ Some Command.Audit → IsKeptTranscript (S.left input.old) → (result ≢ 1) × (result ≢ 9) × (result ≢ 6) }
 
     // The counts of a generated script's transcript are written.
     ensures generates { (number : ℕ) → command_of words.now ≡ Some (Command.Generate number)

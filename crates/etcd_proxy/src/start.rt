@@ -4,14 +4,14 @@ ghost use Rattle.std.specs.String.{string_bytes};
 ghost use Rattle.start_words.specs.Start.{Within};
 ghost use Rattle.proxy_service.specs.Service.{seen};
 ghost use Rattle.etcd_proxy.specs.Run.{Tells};
-ghost use Rattle.etcd_proxy.specs.Start.{is_one, IsLine, Refuses, ServesAs, Starts, Wants, moment, service_of, status_of_end, text_of_end};
+ghost use Rattle.etcd_proxy.specs.Start.{is_one, IsLine, Refuses, ServesAs, Starts, Wants, form_of, moment, service_of, status_of_end, text_of_end};
 ghost use Rattle.etcd_proxy.specs.Texts.{usage_text};
 
 use crate::told::{USAGE, print, tell};
 use core_model::Settings;
 use etcd_types::NoMemory;
 use outside::{Host, Sink, Spawner};
-use proxy_parts::Place;
+use proxy_parts::{Place, RefusalForm};
 use proxy_service::{ServeEnd, Service, serve};
 use start_words::{StartFault, StartSettings, read_start, serving_line, wrong_line};
 use std::alloc::Global;
@@ -43,7 +43,7 @@ pub(crate) fn start<R: Wait, K: Sink, E: Sink, H: Host, P: Spawner<Pass = Place,
     }
 }
 
-/// Says what is served where, and serves with these settings.
+/// Serves with these settings, and says what is served where once it listens.
 fn serve_as<R: Wait, E: Sink, H: Host, P: Spawner<Pass = Place, Conn = H::Conn>>(
     rt: &R,
     alloc: Global,
@@ -62,9 +62,27 @@ fn serve_as<R: Wait, E: Sink, H: Host, P: Spawner<Pass = Place, Conn = H::Conn>>
     let Ok(line) = serving_line(alloc, &settings) else {
         return want(errors);
     };
-    tell(errors, line.as_slice());
-    let end = serve(rt, alloc, service_of(settings), host, spawner);
+    let end = serve(
+        rt,
+        alloc,
+        service_of(settings),
+        host,
+        spawner,
+        line.as_slice(),
+        errors,
+    );
     end_with(errors, end)
+}
+
+/// How refusals are written.
+fn form_of(etcd_errors: bool) -> RefusalForm
+    ensures { result ≡ form_of etcd_errors }
+{
+    if etcd_errors {
+        RefusalForm::Etcd
+    } else {
+        RefusalForm::Mapping
+    }
 }
 
 /// What is served with these settings.
@@ -82,6 +100,9 @@ fn service_of(settings: StartSettings) -> Service
         message_limit,
         state_file: _,
         stop_at_end: _,
+        advertise: _,
+        etcd_errors,
+        metrics: _,
     } = settings;
     Service {
         core: Settings {
@@ -94,6 +115,7 @@ fn service_of(settings: StartSettings) -> Service
         listen,
         workers: workers as u32,
         message_limit: message_limit as usize * MIB,
+        form: form_of(etcd_errors),
     }
 }
 

@@ -13,6 +13,8 @@ pub(crate) enum Command {
     Replay,
     /// The script of this number, from 1 to 20,000, is generated and replayed.
     Generate(u64),
+    /// A transcript is audited.
+    Audit,
     Help,
     Version,
 }
@@ -57,6 +59,8 @@ fn named(word: &str) -> Option<Command>
 {
     if word == "replay" {
         Some(Command::Replay)
+    } else if word == "audit" {
+        Some(Command::Audit)
     } else if word == "--help" {
         Some(Command::Help)
     } else if word == "--version" {

@@ -2,6 +2,7 @@
 use Rattle.std.specs.Prelude.{◌≡◌, ℕ, List, [], Option, None, Some, Result, Ok, Err, ⊤}
 use Rattle.etcd_types.specs.declared.request.Request.{Request}
 use Rattle.http_wire.specs.declared.message.Head.{Head}
+use Rattle.http_talk.specs.declared.form.RefusalForm.{RefusalForm}
 use Rattle.http_talk.specs.declared.ready.Ready.{Ready}
 use Rattle.http_talk.specs.declared.refused.Refused.{Refused}
 use Rattle.http_talk.specs.Refusals.{refusal_to, reply_to}
@@ -13,10 +14,10 @@ pub data Direct : Type 0 where
   Undecided : Direct
 
 -- what it says to a client with this method
-abbrev pub direct_said : List ℕ → Direct → List ℕ
-direct_said method (Refuses refused) = refusal_to method refused
-direct_said method (Gives ready) = reply_to method ready.status ready.body
-direct_said method Undecided = []
+abbrev pub direct_said : RefusalForm → List ℕ → Direct → List ℕ
+direct_said form method (Refuses refused) = refusal_to form method refused
+direct_said form method (Gives ready) = reply_to method ready.status ready.body
+direct_said form method Undecided = []
 
 -- the mapping refuses the request
 abbrev pub IsRefused : Result Request Refused → Type 0

@@ -1,4 +1,5 @@
 pub mod Aliases
+pub mod Forms
 pub mod Refusals
 pub mod Requests
 pub mod Replies
@@ -6,3 +7,4 @@ pub mod Telling
 pub mod Receiving
 pub mod Direct
 pub mod Probes
+pub mod Cluster

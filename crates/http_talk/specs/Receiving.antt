@@ -7,6 +7,7 @@ use Rattle.http_wire.specs.declared.fault.WireFault.TheVariants as wire
 use Rattle.http_wire.specs.declared.message.Head.{Head}
 use Rattle.http_wire.specs.Bodies.{BodyRead}
 use Rattle.http_wire.specs.Heads.{HeadRead}
+use Rattle.http_talk.specs.declared.form.RefusalForm.{RefusalForm}
 use Rattle.http_talk.specs.declared.received.Received as received
 use Rattle.http_talk.specs.declared.refused.Refused.TheVariants as refused
 use Rattle.http_talk.specs.Refusals.{refusal}
@@ -47,21 +48,21 @@ CutBy wire.NoMemory (Announced head) = ⊤
 CutBy _ (Announced head) = ⊥
 
 -- what the client is told: of a fault of its bytes, and to go on behind a head that waits for that
-abbrev pub cut_said : Cut → List ℕ
-cut_said (Unread fault) = refusal refused.Bytes
-cut_said (BadBody head fault) = go_on_of head ++ refusal refused.Bytes
-cut_said Nothing = []
-cut_said (Announced head) = go_on_of head
+abbrev pub cut_said : RefusalForm → Cut → List ℕ
+cut_said form (Unread fault) = refusal form refused.Bytes
+cut_said form (BadBody head fault) = go_on_of head ++ refusal form refused.Bytes
+cut_said form Nothing = []
+cut_said form (Announced head) = go_on_of head
 
 -- no whole request was read, for this fault
-pub record NotReceived (left written written' : Option (List ℕ)) (fault : WireFault) : Type 0 where
+pub record NotReceived (form : RefusalForm) (left written written' : Option (List ℕ)) (fault : WireFault) : Type 0 where
   pub cut : Cut
   pub by : CutBy fault cut
   pub is_cut : IfSome left (IsCut cut)
-  pub said : WritesFront written written' (cut_said cut)
+  pub said : WritesFront written written' (cut_said form cut)
 
 -- the next request was read, or the input ended before it, or it wasn't read whole
-abbrev pub Receives : Option (List ℕ) → Option (List ℕ) → Option (List ℕ) → Option (List ℕ) → Result (Option received.Received) WireFault → Type 0
-Receives left left' written written' (Ok (Some r)) = Ahead (IsRequest r.head r.body) left left' × Appends written written' (go_on_of r.head)
-Receives left left' written written' (Ok None) = IfSome left (λ all. all ≡ []) × (written' ≡ written)
-Receives left left' written written' (Err fault) = NotReceived left written written' fault
+abbrev pub Receives : RefusalForm → Option (List ℕ) → Option (List ℕ) → Option (List ℕ) → Option (List ℕ) → Result (Option received.Received) WireFault → Type 0
+Receives form left left' written written' (Ok (Some r)) = Ahead (IsRequest r.head r.body) left left' × Appends written written' (go_on_of r.head)
+Receives form left left' written written' (Ok None) = IfSome left (λ all. all ≡ []) × (written' ≡ written)
+Receives form left left' written written' (Err fault) = NotReceived form left written written' fault

@@ -1,16 +1,18 @@
--- Refusals of requests, by their code, status and words: of bytes that are no request, of a head, and of what the JSON mapping doesn't know.
+-- Refusals of requests, by their code, status, words and form: of bytes that are no request, of a head, and of what the JSON mapping doesn't know.
 use Rattle.std.specs.Prelude.{ℕ, List, ◌++◌, Option, None, Some, if◌then◌else◌, codes, nat_eq}
 use Rattle.std.specs.Cmp.Lexicographic.{pointwise}
 use Rattle.etcd_types.specs.declared.answer.Answer.{Answer}
 use Rattle.etcd_types.specs.declared.answer.Answer.TheVariants.{Refused as Refusing}
 use Rattle.etcd_types.specs.declared.code.TheConstants.{INVALID_ARGUMENT, NOT_FOUND, UNIMPLEMENTED}
-use Rattle.json_model.specs.WrittenReplies.{answer_status, answer_text}
+use Rattle.json_model.specs.WrittenReplies.{answer_status}
 use Rattle.json_model.specs.declared.fault.ApiFault.{ApiFault}
 use Rattle.json_model.specs.declared.fault.ApiFault.TheVariants as api
 use Rattle.json_model.specs.declared.fault.FieldFault.{FieldFault}
 use Rattle.json_model.specs.declared.fault.FieldFault.TheVariants as fields
 use Rattle.json_model.specs.Faults.{api_fault_text}
 use Rattle.http_wire.specs.Written.{reply, bodiless_reply}
+use Rattle.http_talk.specs.Forms.{body_by}
+use Rattle.http_talk.specs.declared.form.RefusalForm.{RefusalForm}
 use Rattle.http_talk.specs.declared.refused.Refused.{Refused}
 use Rattle.http_talk.specs.declared.refused.Refused.TheVariants as refused
 
@@ -59,11 +61,11 @@ abbrev pub refused_status : Refused → ℕ
 refused_status refused.Method = 405
 refused_status r = answer_status (refused_answer r)
 
-abbrev pub refused_body : Refused → List ℕ
-refused_body r = answer_text (refused_answer r)
+abbrev pub refused_body : RefusalForm → Refused → List ℕ
+refused_body form r = body_by form (refused_answer r)
 
-unfoldable pub refusal : Refused → List ℕ
-refusal r = reply (refused_status r) (refused_body r)
+unfoldable pub refusal : RefusalForm → Refused → List ℕ
+refusal form r = reply (refused_status r) (refused_body form r)
 
 -- a reply of this status to a request with this method: the one to a HEAD has no body
 abbrev pub reply_to : List ℕ → ℕ → List ℕ → List ℕ
@@ -72,5 +74,5 @@ reply_to method status body =
     else reply status body
 
 -- the refusal of a request with this method
-unfoldable pub refusal_to : List ℕ → Refused → List ℕ
-refusal_to method r = reply_to method (refused_status r) (refused_body r)
+unfoldable pub refusal_to : RefusalForm → List ℕ → Refused → List ℕ
+refusal_to form method r = reply_to method (refused_status r) (refused_body form r)

@@ -47,6 +47,16 @@ fn below_v3(alloc: Global, rest: &[u8]) -> Result<Bytes, NoMemory>
     Ok(Bytes::from_vec(path))
 }
 
+/// The path for which one below `/v3beta` stands.
+pub(crate) fn v3_path(alloc: Global, path: &[u8]) -> Result<Bytes, NoMemory>
+    ensures { IfOk result (λ whole. whole ≡ spec.v3_path path.now) }
+{
+    match path.strip_prefix(b"/v3beta/".as_slice()) {
+        Some(rest) => Ok(below_v3(alloc, rest)?),
+        None => Ok(Bytes::from_slice(alloc, path)?),
+    }
+}
+
 /// The request that a path, or the one for which it stands, and a body are.
 pub(crate) fn decode(
     alloc: Global,

@@ -3,6 +3,7 @@ ghost use Rattle.http_wire.specs.declared.message.Head.{Head};
 ghost use Rattle.http_talk.specs.declared.ready.Ready.{Ready};
 ghost use Rattle.http_talk.specs.Direct.{GivesNone};
 
+use crate::form::RefusalForm;
 use crate::ready::Ready;
 use etcd_types::NoMemory;
 use http_wire::Head;
@@ -18,8 +19,13 @@ pub trait Answers {
     // which answers it may give to a request with this head and this body: none, or these
     ghost gives: { Self.Known → Head → List ℕ → Option Ready → Type 0 };
 
-    /// The answer to a request that was read whole, or none. It may wait for others, for a time that it bounds itself.
-    fn answer(&mut self, head: &Head, body: &[u8]) -> Result<Option<Ready>, NoMemory>
+    /// The answer to a request that was read whole, or none; a refusal is in this form. It may wait for others, for a time that it bounds itself.
+    fn answer(
+        &mut self,
+        form: RefusalForm,
+        head: &Head,
+        body: &[u8],
+    ) -> Result<Option<Ready>, NoMemory>
         ensures gives { IfOk result (λ given. gives (known self.old) head.now body.now given) }
         ensures known { known self.new ≡ known self.old };
 }
@@ -35,7 +41,12 @@ impl Answers for NoAnswers {
 
     ghost gives = { λ known head body given. GivesNone head body given };
 
-    fn answer(&mut self, _head: &Head, _body: &[u8]) -> Result<Option<Ready>, NoMemory> {
+    fn answer(
+        &mut self,
+        _form: RefusalForm,
+        _head: &Head,
+        _body: &[u8],
+    ) -> Result<Option<Ready>, NoMemory> {
         Ok(None)
     }
 }

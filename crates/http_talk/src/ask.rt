@@ -10,7 +10,7 @@ use http::Method;
 use json_model::{ApiFault, Reading};
 use std::alloc::Global;
 
-fn is_post(method: &Method) -> bool
+pub(crate) fn is_post(method: &Method) -> bool
     ensures { result ≡ pointwise nat_eq method.now (codes "POST") }
 {
     method.as_str() == "POST"

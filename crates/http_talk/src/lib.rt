@@ -5,6 +5,8 @@
 mod aliases;
 mod answers;
 mod ask;
+mod cluster;
+mod form;
 mod probes;
 mod ready;
 mod received;
@@ -15,6 +17,8 @@ mod telling;
 
 pub use answers::{Answers, NoAnswers};
 pub use ask::asked;
+pub use cluster::{ClusterAsk, OwnMember, cluster_ask_of, members_reply, unanswered_reply};
+pub use form::RefusalForm;
 pub use probes::{Probe, probe_of, probed};
 pub use ready::Ready;
 pub use received::Received;

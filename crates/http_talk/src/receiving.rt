@@ -9,6 +9,7 @@ ghost use Rattle.http_talk.specs.Refusals as spec;
 ghost use Rattle.http_talk.specs.Receiving.{Receives};
 ghost use Rattle.http_talk.specs.Replies.{go_on_of};
 
+use crate::form::RefusalForm;
 use crate::received::Received;
 use crate::refused::Refused;
 use crate::refusing::refuse;
@@ -28,14 +29,14 @@ fn is_of_bytes(fault: WireFault) -> bool
 
 /// Tells the client of a fault of its bytes.
 #[tactic(auto, using(crate::proofs::Said::front_by))]
-fn refuse_bytes<K: Sink>(alloc: Global, sink: &mut K, fault: WireFault)
+fn refuse_bytes<K: Sink>(alloc: Global, form: RefusalForm, sink: &mut K, fault: WireFault)
     ensures kept { K.faults sink.old ≤ K.faults sink.new }
     ensures told { MatchBool (is_of_bytes fault) (WritesFront (K.written sink.old)
-        (K.written sink.new) (spec.refusal (Refused.Bytes)))
+        (K.written sink.new) (spec.refusal form (Refused.Bytes)))
         (Keeps (K.written sink.old) (K.written sink.new)) }
 {
     if is_of_bytes(fault) {
-        let _ = refuse(alloc, sink, &Refused::Bytes);
+        let _ = refuse(alloc, form, sink, &Refused::Bytes);
     }
 }
 
@@ -59,6 +60,7 @@ fn encourage<K: Sink>(sink: &mut K, head: &Head) -> Result<(), WireFault>
 #[inline(never)]
 pub fn receive<S: Source, K: Sink>(
     alloc: Global,
+    form: RefusalForm,
     wire: &mut Wire,
     source: &mut S,
     sink: &mut K,
@@ -71,7 +73,7 @@ pub fn receive<S: Source, K: Sink>(
         → Rose (K.faults sink.old) (K.faults sink.new) }
     ensures reads { S.faults source.old ≤ S.faults source.new }
     ensures writes { K.faults sink.old ≤ K.faults sink.new }
-    ensures receives { Receives (bytes_ahead (S.left source.old) wire.old)
+    ensures receives { Receives form (bytes_ahead (S.left source.old) wire.old)
         (bytes_ahead (S.left source.new) wire.new) (K.written sink.old)
         (K.written sink.new) result }
 {
@@ -79,7 +81,7 @@ pub fn receive<S: Source, K: Sink>(
         Ok(Some(head)) => head,
         Ok(None) => return Ok(None),
         Err(fault) => {
-            refuse_bytes(alloc, sink, fault);
+            refuse_bytes(alloc, form, sink, fault);
             return Err(fault);
         }
     };
@@ -90,7 +92,7 @@ pub fn receive<S: Source, K: Sink>(
     match wire.read_body(source, &head) {
         Ok(body) => Ok(Some(Received { head, body })),
         Err(fault) => {
-            refuse_bytes(alloc, sink, fault);
+            refuse_bytes(alloc, form, sink, fault);
             Err(fault)
         }
     }

@@ -7,9 +7,9 @@ ghost use Rattle.json_model.specs.Faults.{api_fault_text};
 ghost use Rattle.http_talk.specs.Refusals as spec;
 ghost use Rattle.http_talk.specs.Telling.{IsOfWriting};
 
+use crate::form::{RefusalForm, encode_by};
 use crate::ready::Ready;
 use crate::refused::Refused;
-use api_reply::encode_reply;
 use etcd_types::code::{INVALID_ARGUMENT, NOT_FOUND, UNIMPLEMENTED};
 use etcd_types::{Answer, Bytes, NoMemory, Refusal};
 use http::Method;
@@ -89,15 +89,15 @@ fn words(alloc: Global, refused: &Refused) -> Result<Bytes, NoMemory>
 }
 
 /// The status and the body of a refusal.
-fn refusal(alloc: Global, refused: &Refused) -> Result<(u16, Bytes), NoMemory>
+fn refusal(alloc: Global, form: RefusalForm, refused: &Refused) -> Result<(u16, Bytes), NoMemory>
     ensures status { IfOk result (λ r. r.0 ≡ spec.refused_status refused.now) }
-    ensures text { IfOk result (λ r. r.1 ≡ spec.refused_body refused.now) }
+    ensures text { IfOk result (λ r. r.1 ≡ spec.refused_body form refused.now) }
 {
     let answer = Answer::Refused(Refusal {
         code: code_of(refused),
         text: words(alloc, refused)?,
     });
-    let (status, body) = encode_reply(alloc, &answer)?;
+    let (status, body) = encode_by(alloc, form, &answer)?;
     match refused {
         Refused::Method => Ok((405, body)),
         Refused::Bytes | Refused::Encoding | Refused::Request(_) => Ok((status, body)),
@@ -106,15 +106,20 @@ fn refusal(alloc: Global, refused: &Refused) -> Result<(u16, Bytes), NoMemory>
 
 /// Refuses bytes that are no request.
 #[tactic(auto, unfolding(crate::specs::Refusals::refusal))]
-pub fn refuse<K: Sink>(alloc: Global, sink: &mut K, refused: &Refused) -> Result<(), WireFault>
+pub fn refuse<K: Sink>(
+    alloc: Global,
+    form: RefusalForm,
+    sink: &mut K,
+    refused: &Refused,
+) -> Result<(), WireFault>
     ensures written { Writes (K.written sink.old) (K.written sink.new)
-        (spec.refusal refused.now) result }
+        (spec.refusal form refused.now) result }
     ensures fault { IfErr result IsOfWriting }
     ensures cause { IsErrOf result WireFault.WriteFault
         → Rose (K.faults sink.old) (K.faults sink.new) }
     ensures kept { K.faults sink.old ≤ K.faults sink.new }
 {
-    let Ok((status, body)) = refusal(alloc, refused) else {
+    let Ok((status, body)) = refusal(alloc, form, refused) else {
         return Err(WireFault::NoMemory);
     };
     write_reply(alloc, sink, status, body.as_slice())
@@ -147,18 +152,19 @@ fn write_reply_to<K: Sink>(
 #[inline(never)]
 pub fn refuse_request<K: Sink>(
     alloc: Global,
+    form: RefusalForm,
     sink: &mut K,
     method: &Method,
     refused: &Refused,
 ) -> Result<(), WireFault>
     ensures written { Writes (K.written sink.old) (K.written sink.new)
-        (spec.refusal_to method.now refused.now) result }
+        (spec.refusal_to form method.now refused.now) result }
     ensures fault { IfErr result IsOfWriting }
     ensures cause { IsErrOf result WireFault.WriteFault
         → Rose (K.faults sink.old) (K.faults sink.new) }
     ensures kept { K.faults sink.old ≤ K.faults sink.new }
 {
-    let Ok((status, body)) = refusal(alloc, refused) else {
+    let Ok((status, body)) = refusal(alloc, form, refused) else {
         return Err(WireFault::NoMemory);
     };
     write_reply_to(alloc, sink, method, status, body.as_slice())

@@ -1,27 +1,34 @@
 ghost use Rattle.std.specs.Prelude.{◌≡◌, ◌≤◌, IfErr, IsErrOf};
 ghost use Rattle.outside.specs.Faults.{Rose};
 ghost use Rattle.json_model.specs.WrittenReplies.{item_text};
+ghost use Rattle.http_wire.specs.Written.{Writes, chunk};
 ghost use Rattle.http_talk.specs.Replies as spec;
 ghost use Rattle.http_talk.specs.Telling.{Tells, IsOfWriting};
 
-use api_reply::{encode_item, encode_reply};
+use crate::form::{RefusalForm, encode_by};
+use api_reply::encode_item;
 use etcd_types::{Answer, WatchItem};
 use http_wire::{WireFault, begin_chunks, end_chunks, write_chunk, write_reply};
-use outside::Sink;
+use outside::{Sink, WriteMark};
 use std::alloc::Global;
 use told_items::Told;
 
 /// Writes the reply that an answer is.
 #[tactic(auto, unfolding(crate::specs::Replies::reply_of), using(crate::proofs::Said::tells_by, crate::proofs::Said::front_none))]
-fn write_answer<K: Sink>(alloc: Global, sink: &mut K, answer: &Answer) -> Result<(), WireFault>
+fn write_answer<K: Sink>(
+    alloc: Global,
+    form: RefusalForm,
+    sink: &mut K,
+    answer: &Answer,
+) -> Result<(), WireFault>
     ensures written { Tells (K.written sink.old) (K.written sink.new)
-        (spec.reply_of answer.now) result }
+        (spec.reply_of form answer.now) result }
     ensures fault { IfErr result IsOfWriting }
     ensures cause { IsErrOf result WireFault.WriteFault
         → Rose (K.faults sink.old) (K.faults sink.new) }
     ensures kept { K.faults sink.old ≤ K.faults sink.new }
 {
-    let Ok((status, text)) = encode_reply(alloc, answer) else {
+    let Ok((status, text)) = encode_by(alloc, form, answer) else {
         return Err(WireFault::NoMemory);
     };
     write_reply(alloc, sink, status, text.as_slice())
@@ -31,12 +38,13 @@ fn write_answer<K: Sink>(alloc: Global, sink: &mut K, answer: &Answer) -> Result
 #[tactic(auto, unfolding(crate::specs::Replies::said_as_reply))]
 pub fn tell<K: Sink>(
     alloc: Global,
+    form: RefusalForm,
     sink: &mut K,
     begun: bool,
     answer: &Answer,
 ) -> Result<(), WireFault>
     ensures written { Tells (K.written sink.old) (K.written sink.new)
-        (spec.said_as_reply begun answer.now) result }
+        (spec.said_as_reply form begun answer.now) result }
     ensures fault { IfErr result IsOfWriting }
     ensures cause { IsErrOf result WireFault.WriteFault
         → Rose (K.faults sink.old) (K.faults sink.new) }
@@ -45,7 +53,7 @@ pub fn tell<K: Sink>(
     if begun {
         end_chunks(sink)
     } else {
-        write_answer(alloc, sink, answer)
+        write_answer(alloc, form, sink, answer)
     }
 }
 
@@ -82,6 +90,30 @@ pub fn is_cancel(item: &WatchItem) -> bool
     }
 }
 
+/// How many events a message tells.
+fn events_in(item: &WatchItem) -> u64 {
+    match item {
+        WatchItem::Events { events, .. } => events.len() as u64,
+        WatchItem::Created(_) | WatchItem::Canceled { .. } => 0,
+    }
+}
+
+/// Writes the chunk of a message. The sink hears how many events it tells.
+fn write_message<K: Sink>(
+    alloc: Global,
+    sink: &mut K,
+    item: &WatchItem,
+    text: &[u8],
+) -> Result<(), WireFault>
+    ensures written { Writes (K.written sink.old) (K.written sink.new) (chunk text.now) result }
+    ensures cause { IsErrOf result WireFault.WriteFault
+        → Rose (K.faults sink.old) (K.faults sink.new) }
+    ensures kept { K.faults sink.old ≤ K.faults sink.new }
+{
+    sink.mark(WriteMark::Events(events_in(item)));
+    write_chunk(alloc, sink, text)
+}
+
 /// Tells a message of a watch, whose text this is.
 fn tell_text<K: Sink>(
     alloc: Global,
@@ -102,7 +134,7 @@ fn tell_text<K: Sink>(
         Ok(()) => {}
         Err(fault) => return Err(fault),
     }
-    match write_chunk(alloc, sink, text) {
+    match write_message(alloc, sink, item, text) {
         Ok(()) => {}
         Err(fault) => return Err(fault),
     }

@@ -28,9 +28,9 @@ asking =
       sort = unsorted;
     })
 
--- what an answer tells: the cluster, revision and term of its header
+-- what an answer tells: its header
 abbrev pub told_by : Result Answer CallFault → Result Standing AskFault
-told_by (Ok (Done reply)) = Ok (record { cluster = reply.header.cluster; revision = reply.header.revision; term = reply.header.term })
+told_by (Ok (Done reply)) = Ok (record { cluster = reply.header.cluster; member = reply.header.member; revision = reply.header.revision; term = reply.header.term })
 told_by (Ok (Refused refusal)) = Err (ask.Refused refusal.code)
 told_by (Err fault.Lost) = Err ask.Lost
 told_by (Err fault.NoMemory) = Err ask.NoMemory

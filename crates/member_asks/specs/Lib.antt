@@ -1,2 +1,3 @@
 pub mod Asking
 pub mod Standings
+pub mod Passing

@@ -54,6 +54,7 @@ fn told_by(answer: Result<Answer, CallFault>) -> Result<Standing, AskFault>
     match answer {
         Ok(Answer::Done(reply)) => Ok(Standing {
             cluster: reply.header.cluster,
+            member: reply.header.member,
             revision: reply.header.revision,
             term: reply.header.term,
         }),

@@ -6,6 +6,8 @@ ghost use Rattle.member_asks.specs.Standings.{is_another, newer};
 pub struct Standing {
     /// The cluster's number.
     pub cluster: u64,
+    /// The number of the member that replied.
+    pub member: u64,
     /// The store's revision.
     pub revision: u64,
     /// The raft term.

@@ -1,15 +1,16 @@
 //! How many of a process's workers are inside calls.
 
-use socket_limits::{Pace, line_time, time};
+use crate::counts::micros;
+use socket_limits::{Pace, line_time};
 use std::rt::Clock as Times;
 use std::sync::atomic::AtomicU64;
 use std::sync::atomic::Ordering::SeqCst;
 
-/// All workers are busy where each was inside calls for so many milliseconds.
-const BUSY: u64 = 1_000;
+/// All workers are busy where each was inside calls for so many microseconds.
+const BUSY: u64 = 1_000_000;
 
-/// Between two calls a worker that has more to do takes fewer milliseconds than these.
-const BREAK: u64 = 10;
+/// Between two calls a worker that has more to do takes fewer microseconds than these.
+const BREAK: u64 = 10_000;
 
 /// A line says that all are busy once in so many milliseconds.
 const LINES: u64 = 60_000;
@@ -21,7 +22,7 @@ pub(crate) struct Busy {
     workers: u64,
     // how many calls are in progress
     calls: AtomicU64,
-    // when a worker came last that had made no call for a while, by `time`
+    // when a worker came last that had made no call for a while, by `micros`
     rested: AtomicU64,
     pace: Pace,
 }
@@ -37,18 +38,24 @@ impl Busy {
         }
     }
 
-    /// A worker begins a call. Its last one ended then, by `time`, or it made none where that is 0.
-    pub(crate) fn begin<R: Times>(&self, rt: &R, ended: u64) {
-        let now = time(rt).unwrap_or(0);
+    /// How many workers there are, or 0 where nobody said, and how many are inside calls.
+    pub(crate) fn counts(&self) -> (u64, u64) {
+        (self.workers, self.calls.load(SeqCst))
+    }
+
+    /// A worker begins a call. Its last one ended then, by `micros`, or it made none where that is 0. When that is, by `micros`.
+    pub(crate) fn begin<R: Times>(&self, rt: &R, ended: u64) -> u64 {
+        let now = micros(rt);
         if now.saturating_sub(ended) > BREAK {
             self.rested.store(now, SeqCst);
         }
         self.calls.fetch_add(1, SeqCst);
+        now
     }
 
-    /// A worker's call ends. When that is, by `time`. Where all workers were inside calls for a second it is said on the standard error.
+    /// A worker's call ends. When that is, by `micros`. Where all workers were inside calls for a second it is said on the standard error.
     pub(crate) fn end<R: Times + Eprint>(&self, rt: &R) -> u64 {
-        let at = time(rt).unwrap_or(0);
+        let at = micros(rt);
         let calls = self.calls.fetch_sub(1, SeqCst);
         let workers = self.workers;
         let is_full = 0 < workers && workers <= calls;

@@ -1,8 +1,11 @@
 ghost use Rattle.std.specs.Prelude.{◌≡◌, ◌+◌, ◌<◌, ◌↔◌, None, IfOk, IsOk, IsTrue};
 ghost use Rattle.std.specs.Io.{ReadsAtMost};
+ghost use Rattle.outside.specs.Faults.{HasCause};
+ghost use Rattle.outside.specs.declared.link.TheConstants.{CALL_LIMIT};
 
 use crate::members::Members;
 use crate::upstream::Upstream;
+use crate::users::wants_user;
 use outside::{CALL_LIMIT, CallKind, Failed, ReadMark, Source};
 use socket_limits::{TRIES, Until};
 use std::alloc::Global;
@@ -29,6 +32,8 @@ pub struct CallAnswer<R: Drop> {
     until: Until,
     // how many bytes may still come
     room: usize,
+    /// Whether it refuses its call for want of a user, by what came first.
+    pub(crate) wants_user: bool,
     pub(crate) faults: u64,
 }
 
@@ -52,6 +57,7 @@ impl<R: Drop> CallAnswer<R> {
             kind,
             until,
             room: CALL_LIMIT,
+            wants_user: false,
             faults: 0,
         }
     }
@@ -92,6 +98,7 @@ impl<R: Times + Wait + Drop> CallAnswer<R> {
     // Reads once. An answer without a byte is none.
     fn receive(&mut self, room: &mut [u8]) -> io::Result<usize>
         ensures count { ReadsAtMost result room.new }
+        ensures some { IfOk result (λ count. self.old.room ≡ CALL_LIMIT → 0 < count) }
         ensures room { IfOk result (λ count. self.new.room + count ≡ self.old.room) }
         ensures faults { self.new.faults ≡ self.old.faults }
     {
@@ -101,6 +108,9 @@ impl<R: Times + Wait + Drop> CallAnswer<R> {
         };
         if count == 0 && !self.has_begun() {
             return Err(io::Error::from(ErrorKind::UnexpectedEof));
+        }
+        if !self.has_begun() {
+            self.wants_user = wants_user(self.kind, &room[..count]);
         }
         match self.room.checked_sub(count) {
             Some(left) => {
@@ -119,7 +129,12 @@ impl<R: Times + Wait + Drop> Source for CallAnswer<R> {
 
     ghost reads = { λ old size came new. Unit {0} };
 
-    fn read(&mut self, room: &mut [u8]) -> Result<usize, Failed> {
+    /// An answer that ends before its first byte has failed.
+    fn read(&mut self, room: &mut [u8]) -> Result<usize, Failed>
+        ensures bound { ReadsAtMost result room.new }
+        ensures some { IfOk result (λ count. self.old.room ≡ CALL_LIMIT → 0 < count) }
+        ensures cause { HasCause self.old.faults self.new.faults result }
+    {
         match self.receive(room) {
             Ok(count) => Ok(count),
             Err(_) => {

@@ -4,12 +4,14 @@
 //!
 //! Every wait has a limit, but for a lookup of a host's name. A member that fails and one that answers again are reported on the
 //! standard error, and so are workers that are all busy, and messages of streams that are too long to be read. Each line begins with its
-//! time and its level, and of each kind there is at most one a second.
+//! time and its level, and of each kind there is at most one a second. Calls of workers are counted, of each
+//! member its own.
 #![tactic(auto)]
 
 mod answer;
 mod busy;
 mod call_answer;
+mod counts;
 mod health;
 mod idle;
 mod link;
@@ -17,10 +19,14 @@ mod member;
 mod members;
 mod stream_answer;
 mod streams;
+mod traffic;
 mod unread;
 mod upstream;
+mod users;
 
 pub use answer::SocketAnswer;
+pub use counts::CallCounts;
 pub use health::{Asked, Health};
 pub use link::SocketLink;
 pub use members::Members;
+pub use traffic::StreamCount;

@@ -9,6 +9,7 @@ use crate::call_answer::CallAnswer;
 use crate::member::Member;
 use crate::members::Members;
 use crate::stream_answer::StreamAnswer;
+use crate::traffic::Traffic;
 use crate::unread::range_of;
 use crate::upstream::{Unsent, Upstream};
 use outside::{AnswerEnd, CallKind, Link, LinkFault};
@@ -18,6 +19,7 @@ use std::io::ErrorKind;
 use std::marker::Model;
 use std::net::{Net, TcpStream};
 use std::rt::Clock as Times;
+use std::sync::atomic::Ordering::SeqCst;
 use std::sync::{Arc, Wait};
 use std::time::Duration;
 use std::{io, thread};
@@ -33,8 +35,9 @@ pub struct SocketLink<R: Drop> {
     rt: R,
     members: Arc<Members, Global>,
     limits: LinkLimits,
-    // whether it is inside a worker's call, and when the last one ended, by `time`, or 0 where there was none
+    // whether it is inside a worker's call, and when the last one began and ended, by `micros`, or 0 where there was none
     inside: bool,
+    began: u64,
     ended: u64,
     faults: u64,
 }
@@ -57,6 +60,7 @@ impl<R: Drop> SocketLink<R> {
             members,
             limits,
             inside: false,
+            began: 0,
             ended: 0,
             faults: 0,
         }
@@ -110,11 +114,13 @@ impl<R: Net<Stream = TcpStream> + Times + Wait + Eprint + Drop + Clone> SocketLi
                 Ok(upstream) => return Ok((member.number, upstream)),
                 Err(Unsent::Prefix(error)) => {
                     self.members.doubt(&self.rt, member);
+                    self.count(member, kind, true, 0);
                     return Err(error);
                 }
                 // where no time is left, it may be the others that took it
                 Err(Unsent::Untouched(error)) if until.left(&self.rt).is_err() => {
                     self.members.doubt(&self.rt, member);
+                    self.count_untaken(kind);
                     return Err(error);
                 }
                 Err(Unsent::Untouched(error)) => {
@@ -123,7 +129,22 @@ impl<R: Net<Stream = TcpStream> + Times + Wait + Eprint + Drop + Clone> SocketLi
                 }
             }
         }
+        self.count_untaken(kind);
         Err(last)
+    }
+
+    // Counts a worker's call to a member that took so many microseconds.
+    fn count(&self, member: &Member, kind: CallKind, is_lost: bool, took: u64) {
+        if is_of_worker(kind) {
+            member.calls.ended(took, is_lost);
+        }
+    }
+
+    // Counts a worker's call that no member took a byte of.
+    fn count_untaken(&self, kind: CallKind) {
+        if is_of_worker(kind) {
+            self.members.untaken.fetch_add(1, SeqCst);
+        }
     }
 
     // Sends a call to the member of this number, or to another one that stands in for it.
@@ -169,7 +190,7 @@ impl<R: Net<Stream = TcpStream> + Times + Wait + Eprint + Drop + Clone> SocketLi
             limits: self.limits,
             member: number,
             stream,
-            range,
+            traffic: Arc::new(self.members.alloc, Traffic::new(range))?,
             came: 0,
             holds: false,
             socket: Arc::new(self.members.alloc, socket)?,
@@ -177,7 +198,7 @@ impl<R: Net<Stream = TcpStream> + Times + Wait + Eprint + Drop + Clone> SocketLi
             faults: 0,
         };
         let streams = &self.members.streams;
-        if streams.begin(&self.rt, stream, &answer.socket)? {
+        if streams.begin(&self.rt, stream, &answer.socket, &answer.traffic)? {
             Ok(answer)
         } else {
             Err(io::Error::from(ErrorKind::ConnectionAborted))
@@ -232,7 +253,7 @@ impl<R: Net<Stream = TcpStream> + Times + Wait + Eprint + Drop + Clone> SocketLi
         ensures { self.new.faults ≡ self.old.faults }
     {
         if is_of_worker(kind) {
-            self.members.busy.begin(&self.rt, self.ended);
+            self.began = self.members.busy.begin(&self.rt, self.ended);
             self.inside = true;
         }
     }
@@ -251,7 +272,7 @@ impl<R: Net<Stream = TcpStream> + Times + Wait + Eprint + Drop + Clone> SocketLi
     fn leave_stream(&self, answer: StreamAnswer<R>, how: AnswerEnd) {
         let mut answer = answer;
         if let (AnswerEnd::TooLong, Ok(member)) = (how, self.members.member(answer.member)) {
-            let range = answer.range.as_slice();
+            let range = answer.traffic.range.as_slice();
             let alloc = self.members.alloc;
             self.members
                 .unread
@@ -261,12 +282,20 @@ impl<R: Net<Stream = TcpStream> + Times + Wait + Eprint + Drop + Clone> SocketLi
         self.members.streams.end(&self.rt, answer.stream);
     }
 
-    // Doubts a member where the answer to a call failed. Who asks it says himself what came of that.
+    // Doubts a member where the answer to a call failed, or refuses it for want of a user, and counts the call, which is over. Who asks it says
+    // himself what came of that.
     fn judge(&self, call: &CallAnswer<R>) {
         let has_failed = call.faults > 0 && call.kind != CallKind::Asks;
-        if let (true, Ok(member)) = (has_failed, self.members.member(call.member)) {
+        let Ok(member) = self.members.member(call.member) else {
+            return;
+        };
+        if call.wants_user {
+            self.members.refused(&self.rt, member);
+        } else if has_failed {
             self.members.doubt(&self.rt, member);
         }
+        let took = self.ended.saturating_sub(self.began);
+        self.count(member, call.kind, has_failed, took);
     }
 }
 
@@ -305,8 +334,8 @@ impl<R: Net<Stream = TcpStream> + Times + Wait + Eprint + Drop + Clone> Link for
     fn end(&mut self, answer: SocketAnswer<R>, how: AnswerEnd) {
         match answer {
             SocketAnswer::Call(call) => {
-                self.judge(&call);
                 self.leave();
+                self.judge(&call);
                 if let (AnswerEnd::Whole, Ok(member)) = (how, self.members.member(call.member)) {
                     member.idle.keep(&self.rt, call.upstream);
                 }

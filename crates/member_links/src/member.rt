@@ -1,3 +1,4 @@
+use crate::counts::Calls;
 use crate::health::{Health, Pulse};
 use crate::idle::{Idle, MOST};
 use crate::upstream::{Unsent, Upstream};
@@ -31,6 +32,8 @@ pub(crate) struct Member {
     pub(crate) is_told: AtomicBool,
     /// Connections that calls left.
     pub(crate) idle: Idle,
+    /// What is counted of the calls to it.
+    pub(crate) calls: Calls,
 }
 
 /// The address of a host behind this one, or its first.
@@ -65,6 +68,7 @@ impl Member {
             is_unasked: AtomicBool::new(false),
             is_told: AtomicBool::new(false),
             idle: Idle::new(alloc),
+            calls: Calls::new(),
         })
     }
 

@@ -2,9 +2,11 @@ ghost use Rattle.std.specs.Prelude.{◌≡◌, ◌≢◌, ◌↔◌, length, IfO
 ghost use Rattle.member_links.specs.Numbers.{IsThere};
 
 use crate::busy::Busy;
+use crate::counts::CallCounts;
 use crate::health::{Asked, Health};
 use crate::member::Member;
 use crate::streams::Streams;
+use crate::traffic::StreamCount;
 use crate::unread::UnreadRanges;
 use etcd_types::{Bytes, List, NoMemory};
 use socket_limits::{Pace, Permits, line_time};
@@ -16,19 +18,24 @@ use std::io::ErrorKind;
 use std::marker::Model;
 use std::net::Net;
 use std::rt::Clock as Times;
+use std::sync::atomic::AtomicU64;
 use std::sync::atomic::Ordering::SeqCst;
 use std::sync::{Arc, Wait};
 
 /// Between two lines on the standard error are at least so many milliseconds.
 const LINES: u64 = 1_000;
 
+/// Between two lines on calls that were refused for want of a user are at least so many.
+const USERS: u64 = 60_000;
+
 /// The members of a cluster, as all links of a process share them.
 #[derive(Drop)]
 pub struct Members {
     pub(crate) alloc: Global,
     all: Vec<Member>,
-    // when the last line was written
+    // when the last line was written, and the last one of users
     pace: Pace,
+    users: Pace,
     /// The streams that were begun at them.
     pub(crate) streams: Streams,
     /// The ranges whose streams bring messages that are too long.
@@ -39,6 +46,8 @@ pub struct Members {
     pub(crate) busy: Busy,
     /// The sessions that are begun at them, where they are to be known.
     pub(crate) sessions: Option<Arc<Sessions, Global>>,
+    /// How many calls of workers no member took a byte of.
+    pub(crate) untaken: AtomicU64,
 }
 
 /// It is seen as how many members there are.
@@ -73,11 +82,13 @@ impl Members {
             alloc,
             all,
             pace: Pace::new(),
+            users: Pace::new(),
             streams: Streams::new(alloc),
             unread: UnreadRanges::new(alloc),
             large: Permits::new(alloc, 1),
             busy: Busy::new(0),
             sessions: None,
+            untaken: AtomicU64::new(0),
         })
     }
 
@@ -260,11 +271,50 @@ impl Members {
         }
     }
 
+    /// A member refused a call since it wants to know of a user: it is asked next.
+    pub(crate) fn refused<R: Times + Wait + Eprint>(&self, rt: &R, member: &Member) {
+        self.doubt(rt, member);
+        if self.users.is_due(rt, USERS) {
+            let number = member.number;
+            let host = member.host.as_str();
+            let when = line_time(rt);
+            let _ = eprintln!(rt;
+                "{when:.3} WARN etcd_proxy: member {number} ({host}) refused a call, since it asks for a user, and this proxy has none"
+            );
+        }
+    }
+
     /// Waits until a member is to be asked again: each five seconds, or each second where it isn't up.
     pub fn rest<R: Wait + Times>(&self, rt: &R, number: u32) {
         if let Ok(member) = self.member(number) {
             member.pulse.rest(rt);
         }
+    }
+
+    /// What was counted of the workers' calls to a member, and its address as it was named, where it is there.
+    pub fn calls(&self, number: u32) -> Option<(&str, CallCounts)> {
+        let member = self.member(number).ok()?;
+        Some((member.host.as_str(), member.calls.counts()))
+    }
+
+    /// How many calls of workers no member took a byte of.
+    pub fn untaken(&self) -> u64 {
+        self.untaken.load(SeqCst)
+    }
+
+    /// How many workers make calls, or 0 where nobody said, and how many are inside one.
+    pub fn workers(&self) -> (u64, u64) {
+        self.busy.counts()
+    }
+
+    /// How many streams of members are followed.
+    pub fn streams<R: Wait>(&self, rt: &R) -> u64 {
+        self.streams.count(rt)
+    }
+
+    /// Those of them on which the most messages came since they were begun, `most` at most, the busiest first.
+    pub fn busiest<R: Wait>(&self, rt: &R, most: usize) -> Result<Vec<StreamCount>, NoMemory> {
+        self.streams.busiest(rt, self.alloc, most)
     }
 
     /// Whether a member answers, as far as it is known. One that isn't there is down.

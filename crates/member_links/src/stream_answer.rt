@@ -2,20 +2,28 @@ ghost use Rattle.std.specs.Prelude.{◌≡◌, None, IsOk};
 ghost use Rattle.std.specs.Io.{ReadsAtMost};
 
 use crate::members::Members;
+use crate::traffic::Traffic;
 use outside::{Failed, ReadMark, Source};
 use socket_limits::{LinkLimits, TRIES, Until, time};
 use std::alloc::Global;
-use std::io;
 use std::io::{ErrorKind, Read};
 use std::net::{Net, TcpStream};
 use std::rt::Clock as Times;
 use std::sync::{Arc, Wait};
+use std::time::Duration;
+use std::{io, thread};
 
 /// A message of which more bytes came is large.
 const LARGE: u64 = 1_048_576;
 
 /// How long a stream waits for another one's large message, in milliseconds.
 const WAIT: u64 = 30_000;
+
+/// How long one rests that isn't to be begun again at once, in so many pieces of so many milliseconds: a core opens a stream that was cut again,
+/// and one that always ends at once would turn for ever.
+const PIECES: u32 = 4;
+
+const PIECE: u64 = 250;
 
 /// An answer that comes as long as the member sends. Of all those of a process one at a time goes on with a message that is large. Where it said nothing for five seconds it fails if its member is down, and it fails
 /// behind ten minutes of silence in any case.
@@ -28,8 +36,8 @@ pub struct StreamAnswer<R: Drop> {
     pub(crate) member: u32,
     /// The number of the stream.
     pub(crate) stream: u64,
-    /// What tells its range from others.
-    pub(crate) range: Vec<u8>,
+    /// Its range, and how many messages came.
+    pub(crate) traffic: Arc<Traffic, Global>,
     /// How many bytes came since the last message, and whether it holds the permit for a large one.
     pub(crate) came: u64,
     pub(crate) holds: bool,
@@ -71,6 +79,16 @@ impl<R: Net<Stream = TcpStream> + Times + Wait + Drop> StreamAnswer<R> {
         }
         self.holds = false;
         self.came = 0;
+    }
+
+    // Rests before its stream is begun again, for as long as somebody wants it.
+    fn rest(&self) {
+        for _ in 0..PIECES {
+            if self.members.streams.is_forgotten(&self.rt, self.stream) {
+                return;
+            }
+            thread::sleep(&self.rt, Duration::from_millis(PIECE));
+        }
     }
 
     // Reads once, where a large message may go on.
@@ -117,8 +135,13 @@ impl<R: Net<Stream = TcpStream> + Times + Wait + Drop> Source for StreamAnswer<R
 
     /// Silence is measured from the last bytes on, whatever they are. A large message is over once it was heard.
     fn mark(&mut self, mark: ReadMark) {
-        if mark == ReadMark::Message {
-            self.release();
+        match mark {
+            ReadMark::Message => {
+                self.traffic.came();
+                self.release();
+            }
+            ReadMark::Rest => self.rest(),
+            ReadMark::Head | ReadMark::Body | ReadMark::Request(_) => {}
         }
     }
 }

@@ -1,5 +1,7 @@
 //! The streams of a process by their numbers, so that one that nobody wants any more ends though its member says nothing.
 
+use crate::traffic::{StreamCount, Traffic, rank};
+use etcd_types::NoMemory;
 use std::alloc::Global;
 use std::io;
 use std::net::{Shutdown, TcpStream};
@@ -13,6 +15,8 @@ const FORGOTTEN: usize = 1_024;
 struct Begun {
     number: u64,
     socket: Arc<TcpStream, Global>,
+    is_wanted: bool,
+    traffic: Arc<Traffic, Global>,
 }
 
 /// What is known of the streams.
@@ -64,26 +68,59 @@ impl Streams {
         }
     }
 
-    /// Notes the socket of a stream, and says whether anybody still wants it.
+    /// Notes the socket of a stream and what comes on it, and says whether anybody still wants it.
     pub(crate) fn begin<R: Wait>(
         &self,
         rt: &R,
         number: u64,
         socket: &Arc<TcpStream, Global>,
+        traffic: &Arc<Traffic, Global>,
     ) -> io::Result<bool> {
         let socket = Arc::try_clone(socket)?;
+        let traffic = Arc::try_clone(traffic)?;
         let mut table = self.table.lock(rt);
         if table.takes(number) {
             return Ok(false);
         }
-        table.begun.push(Begun { number, socket })?;
+        let begun = Begun {
+            number,
+            socket,
+            is_wanted: true,
+            traffic,
+        };
+        table.begun.push(begun)?;
         Ok(true)
     }
 
-    /// Whether nobody wants a stream that wasn't begun yet.
+    /// Whether nobody wants a stream that wasn't begun yet, or hasn't ended.
     pub(crate) fn is_forgotten<R: Wait>(&self, rt: &R, number: u64) -> bool {
         let table = self.table.lock(rt);
+        for begun in table.begun.as_slice() {
+            if begun.number == number {
+                return !begun.is_wanted;
+            }
+        }
         table.forgotten.as_slice().contains(&number)
+    }
+
+    /// How many streams are begun.
+    pub(crate) fn count<R: Wait>(&self, rt: &R) -> u64 {
+        self.table.lock(rt).begun.len() as u64
+    }
+
+    /// The `most` streams on which the most messages came, the busiest first; none on which nothing came.
+    pub(crate) fn busiest<R: Wait>(
+        &self,
+        rt: &R,
+        alloc: Global,
+        most: usize,
+    ) -> Result<Vec<StreamCount>, NoMemory> {
+        let mut busiest = Vec::new(alloc);
+        let table = self.table.lock(rt);
+        for begun in table.begun.as_slice() {
+            rank(alloc, &mut busiest, most, &begun.traffic)?;
+        }
+        Ok(busiest)
     }
 
     /// A stream has ended.
@@ -96,8 +133,9 @@ impl Streams {
     /// begun yet is kept.
     pub(crate) fn forget<R: Wait>(&self, rt: &R, number: u64) {
         let mut table = self.table.lock(rt);
-        for begun in table.begun.as_slice() {
+        for begun in table.begun.as_mut_slice() {
             if begun.number == number {
+                begun.is_wanted = false;
                 let _ = begun.socket.shutdown(Shutdown::Both);
                 return;
             }

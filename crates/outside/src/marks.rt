@@ -54,6 +54,9 @@ pub enum ReadMark {
     Request(RequestKind),
     /// A message of an answer, which was also heard.
     Message,
+    /// That the answer ends, and that it isn't to be asked for again at once: who gives it lets some time pass now, but no longer than
+    /// somebody wants what it gives.
+    Rest,
 }
 
 /// What is written to a sink next, so that nobody has to look for it in the bytes.
@@ -65,4 +68,6 @@ pub enum WriteMark {
     Reply(u16),
     /// A message of a reply that comes in messages.
     Message,
+    /// How many events the message has that is written next.
+    Events(u64),
 }

@@ -12,6 +12,7 @@ use Rattle.turn_hub.specs.contracts.pass.RestsRestingStowedViewSnapshotOpeningOp
 use Rattle.part_threads.specs.contracts.carried.HubCoreAdmitsPassCore.TheImpl as admits
 use Rattle.proxy_core.specs.contracts.proxy.CoreMachine.TheImpl as machine
 use Rattle.part_threads.specs.contracts.carried.CarriedOf as carried-of
+use Rattle.part_threads.specs.contracts.lookout.Lookout as lookout
 use Rattle.turn_hub.specs.contracts.hub.HubOf as hub-of
 use Rattle.turn_hub.specs.contracts.view.Stowed as stowed
 use Rattle.turn_hub.specs.contracts.view.View as view
@@ -52,3 +53,13 @@ carried-row = carried-of.the_row hub-row pass-row admits.ghosts
 
 pub carried_send : IsSend carried-row
 carried_send = search (sendable, crosses, core_send, seat.the_send, shared.the_send, shared.the_sync, hub.the_send, hub.the_sync, pass.the_send, carried.the_send) depth 20
+
+pub carried_field : IsSend (carried-of.the_field hub-row pass-row admits.ghosts).row
+carried_field = search (sendable, crosses, core_send, seat.the_send, shared.the_send, shared.the_sync, hub.the_send, hub.the_sync, pass.the_send, carried.the_field_send) depth 20
+
+-- so may who looks at a machine
+pub lookout_send : IsSend lookout.the_row
+lookout_send = search (sendable, crosses, carried_field) depth 20
+
+pub lookout_field : IsSend (lookout.the_field).row
+lookout_field = search (sendable, crosses, carried_field) depth 20

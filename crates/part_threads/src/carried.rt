@@ -3,7 +3,7 @@ ghost use Rattle.std.specs.Arc.{arc_value};
 
 use etcd_types::{Bytes, List};
 use proxy_core::Core;
-use proxy_parts::Place;
+use proxy_parts::{Place, RefusalForm};
 use std::alloc::Global;
 use std::sync::Arc;
 use turn_hub::{Hub, Pass};
@@ -34,6 +34,7 @@ pub struct CarriedOf<H: Admits<P>, P> {
     hub: Arc<H, Global>,
     hosts: Arc<List<Bytes>, Global>,
     message_limit: usize,
+    form: RefusalForm,
     pass: P,
     ghost admitted: { H.admits (arc_value hub) (arc_value hosts) pass } by { H.only (arc_value hub) (arc_value hosts) pass },
 }
@@ -46,18 +47,21 @@ impl Carried {
         ensures hub { result.hub ≡ place.hub }
         ensures hosts { result.hosts ≡ place.hosts }
         ensures message_limit { result.message_limit ≡ place.message_limit }
+        ensures form { result.form ≡ place.form }
         ensures pass { result.pass ≡ place.pass }
     {
         let Place {
             hub,
             hosts,
             message_limit,
+            form,
             pass,
         } = place;
         CarriedOf {
             hub,
             hosts,
             message_limit,
+            form,
             pass,
         }
     }
@@ -66,18 +70,21 @@ impl Carried {
         ensures hub { result.hub ≡ self.hub }
         ensures hosts { result.hosts ≡ self.hosts }
         ensures message_limit { result.message_limit ≡ self.message_limit }
+        ensures form { result.form ≡ self.form }
         ensures pass { result.pass ≡ self.pass }
     {
         let CarriedOf {
             hub,
             hosts,
             message_limit,
+            form,
             pass,
         } = self;
         Place {
             hub,
             hosts,
             message_limit,
+            form,
             pass,
         }
     }

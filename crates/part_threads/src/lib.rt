@@ -7,6 +7,7 @@ mod further;
 mod handover;
 mod job;
 mod load;
+mod lookout;
 mod open;
 mod outfit;
 mod probes;
@@ -14,5 +15,6 @@ mod threaded;
 
 pub use ends::Ends;
 pub use further::Nothing;
+pub use lookout::Lookout;
 pub use open::CONNECTIONS;
 pub use threaded::{Server, Threaded, spawner_of};

@@ -3,6 +3,7 @@ use crate::ends::Ends;
 use crate::further::Further;
 use crate::job::{Equips, Work};
 use crate::load::Load;
+use crate::lookout::Lookout;
 use crate::open::Open;
 use crate::probes::Probes;
 use etcd_types::NoMemory;
@@ -62,6 +63,7 @@ impl<E: Ends, F: Further> Equips<Equipped<E, F>> for Equipment<E, F> {
             probes: Probes {
                 alloc: self.alloc,
                 ends: self.ends.another().ok()?,
+                own: self.ends.own().ok()?,
             },
             further: self.further.another().ok()?,
         };
@@ -71,18 +73,28 @@ impl<E: Ends, F: Further> Equips<Equipped<E, F>> for Equipment<E, F> {
     }
 }
 
+/// The place of a machine, which can be looked at from now on. Where memory is wanting for that it can't.
+fn shown<E: Ends>(ends: &E, place: Place) -> Place {
+    let mut place = place;
+    if let Ok(lookout) = Lookout::beside(&mut place) {
+        ends.shown(lookout);
+    }
+    place
+}
+
 /// The part that is to run at this place, or nothing where the ends of its connection can't be had. Its frame is gone while the part runs.
 #[inline(never)]
 fn opened<E: Ends>(
     ends: &E,
+    clock: &E::Clock,
     place: Place,
     load: Load<E::Conn>,
 ) -> Option<Part<Place, (E::Source, E::Sink)>> {
     match load {
         Load::Worker => Some(Part::Worker(place)),
-        Load::Ticker => Some(Part::Ticker(place)),
+        Load::Ticker => Some(Part::Ticker(shown(ends, place))),
         Load::Follower(follow) => Some(Part::Follower(place, follow)),
-        Load::Connection(connection, tickets) => match ends.open(connection) {
+        Load::Connection(connection, tickets) => match ends.open(connection, clock) {
             Ok(both) => Some(Part::Connection(place, both, tickets)),
             Err(NoMemory) => None,
         },
@@ -99,7 +111,7 @@ impl<R: Wait, E: Ends, F: Spawner<Pass = Place, Conn = E::Conn> + Drop> Work<
         let Equipped { mut outfit } = self;
         let outfit = &mut *outfit;
         let Laid { load, open } = load;
-        let Some(part) = opened(&outfit.ends, with.unpack(), load) else {
+        let Some(part) = opened(&outfit.ends, &outfit.clock, with.unpack(), load) else {
             return;
         };
         let done = run_part(

@@ -6,6 +6,7 @@ use Rattle.turn_hub.specs.Known.{Home, Known, made, opening_of, base_of}
 use Rattle.turn_hub.specs.Views.{longer}
 use Rattle.core_model.specs.State.{Core}
 use Rattle.http_wire.specs.declared.message.Head.{Head}
+use Rattle.http_talk.specs.declared.form.RefusalForm.{RefusalForm}
 use Rattle.http_talk.specs.declared.ready.Ready.{Ready}
 use Rattle.server_model.specs.declared.ends.SessionEnd.{SessionEnd}
 use Rattle.server_model.specs.Steps.{Step, NoEvent}
@@ -71,11 +72,11 @@ module _ (old apart first last new : Known (Opening Core) Step) (j : Joins old a
   none_first : made first ≡ []
   none_first = j.begun ∙ ap (λ (k : Known (Opening Core) Step). made k) j.split
 
-  pub joined_dialog : (gives : Head → List ℕ → Option Ready → Type 0) (left written written' : Option (List ℕ)) (end : SessionEnd) → Dialog gives NoEvent (IsTrue (is_at_limit last)) left (Some (made first)) (Some (made last)) written written' end
-      → Dialog gives NoEvent (IsTrue (is_at_limit new)) left (Some (made old)) (Some (made new)) written written' end
-  joined_dialog gives left written written' end d =
-      subst (λ (b : Bool). Dialog gives NoEvent (IsTrue b) left (Some (made old)) (Some (made new)) written written' end) limit_last
-      (dialog_behind (made old) (made first) (made last) (made new) none_first j.made_both gives NoEvent (IsTrue (is_at_limit last)) left written written' end d)
+  pub joined_dialog : (form : RefusalForm) (gives : Head → List ℕ → Option Ready → Type 0) (left written written' : Option (List ℕ)) (end : SessionEnd) → Dialog form gives NoEvent (IsTrue (is_at_limit last)) left (Some (made first)) (Some (made last)) written written' end
+      → Dialog form gives NoEvent (IsTrue (is_at_limit new)) left (Some (made old)) (Some (made new)) written written' end
+  joined_dialog form gives left written written' end d =
+      subst (λ (b : Bool). Dialog form gives NoEvent (IsTrue b) left (Some (made old)) (Some (made new)) written written' end) limit_last
+      (dialog_behind (made old) (made first) (made last) (made new) none_first j.made_both form gives NoEvent (IsTrue (is_at_limit last)) left written written' end d)
 
   pub joined_numbers : (end : SessionEnd) (limit from : ℕ) (given given' : Option (List ℕ)) → LastNumbered end limit from given given' (Some (made first)) (Some (made last))
       → LastNumbered end limit from given given' (Some (made old)) (Some (made new))

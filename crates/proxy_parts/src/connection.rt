@@ -12,7 +12,7 @@ ghost use Rattle.proxy_parts.specs.Passes.{IsSound, is_at_limit};
 use crate::seated::Seated;
 use outside::{Clock, Draw, Sink, Source, TicketRange};
 use proxy_core::Core;
-use proxy_server::{Answers, serve_on};
+use proxy_server::{Answers, RefusalForm, serve_on};
 use server_model::SessionEnd;
 use std::alloc::Global;
 use std::sync::Wait;
@@ -23,6 +23,7 @@ use turn_hub::{Hub, Pass};
 pub fn serve_connection<R: Wait, S: Source, K: Sink, C: Clock, D: Draw, A: Answers>(
     rt: &R,
     alloc: Global,
+    form: RefusalForm,
     hub: &Hub<Core>,
     pass: &mut Pass<Core>,
     tickets: TicketRange,
@@ -44,7 +45,7 @@ pub fn serve_connection<R: Wait, S: Source, K: Sink, C: Clock, D: Draw, A: Answe
         → Rose (K.faults sink.old) (K.faults sink.new) }
     ensures numbered { LastNumbered result tickets.end tickets.next (D.given draw.old)
         (D.given draw.new) (Some (made pass.old)) (Some (made pass.new)) }
-    ensures dialog { Dialog (A.gives (A.known answers.old)) NoEvent (IsTrue (is_at_limit pass.new))
+    ensures dialog { Dialog form (A.gives (A.known answers.old)) NoEvent (IsTrue (is_at_limit pass.new))
         (S.left source.old) (Some (made pass.old)) (Some (made pass.new)) (K.written sink.old)
         (K.written sink.new) result }
     ensures complete { Completes (S.left source.old) (Some (made pass.old)) (Some (made pass.new))
@@ -56,6 +57,7 @@ pub fn serve_connection<R: Wait, S: Source, K: Sink, C: Clock, D: Draw, A: Answe
     let end = serve_on(
         rt,
         alloc,
+        form,
         &mut seated,
         tickets,
         clock,

@@ -14,7 +14,7 @@ mod worker;
 
 pub use connection::serve_connection;
 pub use place::Place;
-pub use proxy_server::{Answers, NoAnswers, Ready};
+pub use proxy_server::{Answers, NoAnswers, Ready, RefusalForm};
 pub use run::{PartDone, run_part};
 pub use seated::Seated;
 pub use seating::Seating;

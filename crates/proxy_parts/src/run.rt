@@ -61,15 +61,17 @@ where
         hub,
         hosts,
         message_limit,
+        form,
         pass,
     } = place;
-    let mut seating = Seating::new(rt, &hub, &hosts, message_limit, pass);
+    let mut seating = Seating::new(rt, &hub, &hosts, message_limit, form, pass);
     keep_working(rt, alloc, &mut seating, clock, link, spawner, &hosts);
     let pass = seating.into_pass();
     Place {
         hub,
         hosts,
         message_limit,
+        form,
         pass,
     }
 }
@@ -97,6 +99,7 @@ where
         hub,
         hosts,
         message_limit,
+        form,
         mut pass,
     } = place;
     let mut before = hub.split(&mut pass);
@@ -104,6 +107,7 @@ where
         hub,
         hosts,
         message_limit,
+        form,
         pass,
     };
     let worked = keep_at_work(rt, alloc, placed, link, spawner, clock);
@@ -111,6 +115,7 @@ where
         hub,
         hosts,
         message_limit,
+        form,
         mut pass,
     } = worked;
     hub.meet(&mut pass, &mut before);
@@ -118,6 +123,7 @@ where
         hub,
         hosts,
         message_limit,
+        form,
         pass,
     }
 }
@@ -139,6 +145,7 @@ fn run_ticker<R: Wait, C: Clock, D: Draw>(
         hub,
         hosts,
         message_limit,
+        form,
         pass,
     } = place;
     let mut seated = Seated::new(rt, &hub, pass);
@@ -148,6 +155,7 @@ fn run_ticker<R: Wait, C: Clock, D: Draw>(
         hub,
         hosts,
         message_limit,
+        form,
         pass,
     }
 }
@@ -174,7 +182,7 @@ fn run_connection<R: Wait, S: Source, K: Sink, C: Clock, D: Draw, A: Answers>(
         → Rose (K.faults sink.old) (K.faults sink.new) }
     ensures numbered { LastNumbered result.1 tickets.end tickets.next (D.given draw.old)
         (D.given draw.new) (Some (made place.pass)) (Some (made result.0.pass)) }
-    ensures dialog { Dialog (A.gives (A.known answers.old)) NoEvent
+    ensures dialog { Dialog place.form (A.gives (A.known answers.old)) NoEvent
         (IsTrue (is_at_limit result.0.pass)) (S.left source.old) (Some (made place.pass))
         (Some (made result.0.pass)) (K.written sink.old) (K.written sink.new) result.1 }
     ensures complete { Completes (S.left source.old) (Some (made place.pass))
@@ -186,16 +194,18 @@ fn run_connection<R: Wait, S: Source, K: Sink, C: Clock, D: Draw, A: Answers>(
         hub,
         hosts,
         message_limit,
+        form,
         mut pass,
     } = place;
     let end = serve_connection(
-        rt, alloc, &hub, &mut pass, tickets, clock, draw, answers, source, sink,
+        rt, alloc, form, &hub, &mut pass, tickets, clock, draw, answers, source, sink,
     );
     (
         Place {
             hub,
             hosts,
             message_limit,
+            form,
             pass,
         },
         end,
@@ -222,6 +232,7 @@ fn run_follower<R: Wait, L: Link, C: Clock>(
         hub,
         hosts,
         message_limit,
+        form,
         pass,
     } = place;
     let mut seated = Seated::new(rt, &hub, pass);
@@ -232,6 +243,7 @@ fn run_follower<R: Wait, L: Link, C: Clock>(
             hub,
             hosts,
             message_limit,
+            form,
             pass,
         },
         end,
@@ -275,7 +287,7 @@ where
     ensures ticker { IfTicker part (λ place. (result.end ≡ PartEnd.Worn) × Ticking
         (IsTrue (is_at_limit result.place.pass)) (Some (made place.pass))
         (Some (made result.place.pass)) (D.given draw.old) (D.given draw.new)) }
-    ensures connection { IfConnection part (λ place connection tickets. Served S.left S.faults
+    ensures connection { IfConnection part (λ place connection tickets. Served place.form S.left S.faults
         K.written K.faults (A.gives (A.known answers.old)) connection tickets (IsTrue (is_at_limit result.place.pass))
         (Some (made place.pass)) (Some (made result.place.pass)) (D.given draw.old)
         (D.given draw.new) result.source result.sink result.end) }

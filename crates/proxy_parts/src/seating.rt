@@ -8,6 +8,7 @@ use crate::place::Place;
 use crate::seated::Seated;
 use core_model::{CoreEvent, Outcome};
 use etcd_types::{Bytes, List, NoMemory};
+use http_talk::RefusalForm;
 use outside::Clock;
 use proxy_core::Core;
 use proxy_server::Turn;
@@ -24,6 +25,7 @@ pub struct Seating<'a, R: Wait> {
     hub: &'a Arc<Hub<Core>, Global>,
     hosts: &'a Arc<List<Bytes>, Global>,
     message_limit: usize,
+    form: RefusalForm,
     ghost mine: { seated.hub.now ≡ arc_value hub.now },
     ghost numbered: { (opening_of (arc_value hub.now)).settings.members ≡ length (arc_value hosts.now) },
 }
@@ -35,6 +37,7 @@ impl<'a, R: Wait> Seating<'a, R> {
         hub: &'a Arc<Hub<Core>, Global>,
         hosts: &'a Arc<List<Bytes>, Global>,
         message_limit: usize,
+        form: RefusalForm,
         pass: Pass<Core>,
     ) -> Seating<'a, R>
         requires mine { pass.hub ≡ arc_value hub.now }
@@ -43,6 +46,7 @@ impl<'a, R: Wait> Seating<'a, R> {
         ensures hub { result.seated.pass.hub ≡ pass.hub }
         ensures hosts { result.hosts.now ≡ hosts.now }
         ensures message_limit { result.message_limit ≡ message_limit }
+        ensures form { result.form ≡ form }
         ensures made { made result.seated.pass ≡ made pass }
         ensures begun { result.seated.begun.value ≡ pass }
         ensures grows { Grows pass result.seated.pass }
@@ -53,6 +57,7 @@ impl<'a, R: Wait> Seating<'a, R> {
             hub,
             hosts,
             message_limit,
+            form,
         }
     }
 
@@ -65,11 +70,11 @@ impl<'a, R: Wait> Seating<'a, R> {
 }
 
 impl<'a, R: Wait> Turn for Seating<'a, R> {
-    type Home = (Pass<Core>, List<Bytes>, usize);
+    type Home = (Pass<Core>, List<Bytes>, usize, RefusalForm);
 
     ghost use Rattle.std.specs.Prelude.{[]};
 
-    ghost home = { λ s. (record s.seated.pass { seen = []; own = [] }, arc_value s.hosts.now, s.message_limit) };
+    ghost home = { λ s. (record s.seated.pass { seen = []; own = [] }, arc_value s.hosts.now, s.message_limit, s.form) };
 
     ghost made = { λ s. Some (made s.seated.pass) };
 
@@ -99,11 +104,13 @@ impl<'a, R: Wait> Seats for Seating<'a, R> {
         let hub = Arc::try_clone(self.hub)?;
         let hosts = Arc::try_clone(self.hosts)?;
         let message_limit = self.message_limit;
+        let form = self.form;
         let pass = self.seated.split();
         Ok(Place {
             hub,
             hosts,
             message_limit,
+            form,
             pass,
         })
     }

@@ -11,7 +11,7 @@ use crate::follow::follow;
 use crate::turn::Turn;
 use core_model::{CoreEvent, Outcome, StepFault};
 use etcd_types::Request;
-use http_talk::tell;
+use http_talk::{RefusalForm, tell};
 use outside::{Clock, Sink, Source};
 use server_model::{Attempt, SessionEnd, Stop, TurnFault};
 use std::alloc::Global;
@@ -62,6 +62,7 @@ fn leave<T: Turn, C: Clock>(turn: &mut T, clock: &mut C, ticket: u64, end: Sessi
 pub(crate) fn ask<R: Wait, T: Turn, S: Source, K: Sink, C: Clock>(
     rt: &R,
     alloc: Global,
+    form: RefusalForm,
     turn: &mut T,
     clock: &mut C,
     source: &mut S,
@@ -81,7 +82,7 @@ pub(crate) fn ask<R: Wait, T: Turn, S: Source, K: Sink, C: Clock>(
     ensures end { IfErr result IsOfAsking }
     ensures ahead { Keeps (S.left source.old) (S.left source.new) }
     ensures one { AsksOne ticket word (T.made turn.old) (T.made turn.new) result }
-    ensures asks { Asks T.rests (IsTrue (T.worn turn.new)) request (T.made turn.old)
+    ensures asks { Asks form T.rests (IsTrue (T.worn turn.new)) request (T.made turn.old)
         (T.made turn.new) (K.written sink.old) (K.written sink.new) result }
 {
     let asked = CoreEvent::Ask {
@@ -90,11 +91,11 @@ pub(crate) fn ask<R: Wait, T: Turn, S: Source, K: Sink, C: Clock>(
         word,
     };
     match turn.turn(asked, clock) {
-        Ok(Outcome::Replied(answer)) => match tell(alloc, sink, false, &answer) {
+        Ok(Outcome::Replied(answer)) => match tell(alloc, form, sink, false, &answer) {
             Ok(()) => Ok(Attempt::Whole),
             Err(fault) => Err(end_by(fault)),
         },
-        Ok(Outcome::Waiting) => match follow(rt, alloc, turn, clock, source, sink, ticket) {
+        Ok(Outcome::Waiting) => match follow(rt, alloc, form, turn, clock, source, sink, ticket) {
             Ok(()) => Ok(Attempt::Whole),
             Err(Stop::Unanswered(end)) => Err(leave(turn, clock, ticket, end)),
             Err(Stop::Answered(end)) => Err(end),

@@ -6,7 +6,7 @@ ghost use Rattle.server_model.specs.Exchanges.{Directly};
 
 use crate::ends::end_by;
 use etcd_types::NoMemory;
-use http_talk::{Answers, Received, Refused, refuse_request, write_ready};
+use http_talk::{Answers, Received, RefusalForm, Refused, refuse_request, write_ready};
 use outside::Sink;
 use server_model::SessionEnd;
 use std::alloc::Global;
@@ -15,6 +15,7 @@ use std::alloc::Global;
 #[inline(never)]
 pub(crate) fn answer_directly<K: Sink, A: Answers>(
     alloc: Global,
+    form: RefusalForm,
     sink: &mut K,
     answers: &mut A,
     received: &Received,
@@ -27,15 +28,15 @@ pub(crate) fn answer_directly<K: Sink, A: Answers>(
     ensures cause { IfSome result (λ end. end ≡ SessionEnd.WriteFault
         → Rose (K.faults sink.old) (K.faults sink.new)) }
     ensures kept { K.faults sink.old ≤ K.faults sink.new }
-    ensures directly { Directly (A.gives (A.known answers.old) received.now.head received.now.body)
+    ensures directly { Directly form (A.gives (A.known answers.old) received.now.head received.now.body)
         received.now.head.method refused.now (K.written sink.old) (K.written sink.new) result }
 {
-    match answers.answer(&received.head, received.body.as_slice()) {
+    match answers.answer(form, &received.head, received.body.as_slice()) {
         Ok(Some(ready)) => match write_ready(alloc, sink, &received.head.method, &ready) {
             Ok(()) => None,
             Err(fault) => Some(end_by(fault)),
         },
-        Ok(None) => match refuse_request(alloc, sink, &received.head.method, refused) {
+        Ok(None) => match refuse_request(alloc, form, sink, &received.head.method, refused) {
             Ok(()) => None,
             Err(fault) => Some(end_by(fault)),
         },

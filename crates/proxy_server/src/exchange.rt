@@ -13,7 +13,7 @@ use crate::direct::answer_directly;
 use crate::receive::receive;
 use crate::turn::Turn;
 use etcd_types::{NoMemory, Request};
-use http_talk::{Answers, asked};
+use http_talk::{Answers, RefusalForm, asked};
 use http_wire::Wire;
 use json_model::Reading;
 use outside::{Clock, Draw, ReadMark, RequestKind, Sink, Source, TicketRange};
@@ -34,6 +34,7 @@ fn name_kind<S: Source>(source: &mut S, kind: RequestKind)
 fn respond<R: Wait, T: Turn, S: Source, K: Sink, C: Clock, D: Draw>(
     rt: &R,
     alloc: Global,
+    form: RefusalForm,
     turn: &mut T,
     clock: &mut C,
     source: &mut S,
@@ -57,7 +58,7 @@ fn respond<R: Wait, T: Turn, S: Source, K: Sink, C: Clock, D: Draw>(
     ensures ahead { Keeps (S.left source.old) (S.left source.new) }
     ensures numbered { NumberedBy tickets.old.end tickets.old.next tickets.new.next
         (D.given draw.old) (D.given draw.new) (T.made turn.old) (T.made turn.new) result }
-    ensures asks { Asks T.rests (IsTrue (T.worn turn.new)) request (T.made turn.old)
+    ensures asks { Asks form T.rests (IsTrue (T.worn turn.new)) request (T.made turn.old)
         (T.made turn.new) (K.written sink.old) (K.written sink.new) result }
 {
     name_kind(source, RequestKind::of(&request));
@@ -69,6 +70,7 @@ fn respond<R: Wait, T: Turn, S: Source, K: Sink, C: Clock, D: Draw>(
     match ask(
         rt,
         alloc,
+        form,
         turn,
         clock,
         source,
@@ -88,6 +90,7 @@ fn respond<R: Wait, T: Turn, S: Source, K: Sink, C: Clock, D: Draw>(
 fn answer<R: Wait, T: Turn, S: Source, K: Sink, C: Clock, D: Draw, A: Answers>(
     rt: &R,
     alloc: Global,
+    form: RefusalForm,
     turn: &mut T,
     clock: &mut C,
     source: &mut S,
@@ -111,7 +114,7 @@ fn answer<R: Wait, T: Turn, S: Source, K: Sink, C: Clock, D: Draw, A: Answers>(
     ensures ahead { Keeps (S.left source.old) (S.left source.new) }
     ensures numbered { NumberedSo tickets.old.end tickets.old.next tickets.new.next
         (D.given draw.old) (D.given draw.new) (T.made turn.old) (T.made turn.new) result }
-    ensures replies { Replies T.rests (IsTrue (T.worn turn.new))
+    ensures replies { Replies form T.rests (IsTrue (T.worn turn.new))
         (A.gives (A.known answers.old) received.now.head received.now.body)
         received.now.head.method (asked_of OfClient received.now.head received.now.body)
         (T.made turn.old) (T.made turn.new) (K.written sink.old) (K.written sink.new) result }
@@ -119,7 +122,7 @@ fn answer<R: Wait, T: Turn, S: Source, K: Sink, C: Clock, D: Draw, A: Answers>(
     'tries: loop {
         match asked(alloc, Reading::Client, received) {
             Ok(Ok(request)) => match respond(
-                rt, alloc, turn, clock, source, sink, tickets, draw, request,
+                rt, alloc, form, turn, clock, source, sink, tickets, draw, request,
             ) {
                 Ok(Attempt::Whole) => return None,
                 Ok(Attempt::InUse) => {}
@@ -127,7 +130,7 @@ fn answer<R: Wait, T: Turn, S: Source, K: Sink, C: Clock, D: Draw, A: Answers>(
             },
             Ok(Err(refused)) => {
                 name_kind(source, RequestKind::Other);
-                match answer_directly(alloc, sink, answers, received, &refused) {
+                match answer_directly(alloc, form, sink, answers, received, &refused) {
                     None => return None,
                     Some(end) => return Some(end),
                 }
@@ -141,6 +144,7 @@ fn answer<R: Wait, T: Turn, S: Source, K: Sink, C: Clock, D: Draw, A: Answers>(
 pub(crate) fn exchange<R: Wait, T: Turn, S: Source, K: Sink, C: Clock, D: Draw, A: Answers>(
     rt: &R,
     alloc: Global,
+    form: RefusalForm,
     wire: &mut Wire,
     turn: &mut T,
     clock: &mut C,
@@ -164,16 +168,16 @@ pub(crate) fn exchange<R: Wait, T: Turn, S: Source, K: Sink, C: Clock, D: Draw, 
     ensures writes { K.faults sink.old ≤ K.faults sink.new }
     ensures numbered { NumberedSo tickets.old.end tickets.old.next tickets.new.next
         (D.given draw.old) (D.given draw.new) (T.made turn.old) (T.made turn.new) result }
-    ensures turned { Turned (A.gives (A.known answers.old)) T.rests (IsTrue (T.worn turn.new))
+    ensures turned { Turned form (A.gives (A.known answers.old)) T.rests (IsTrue (T.worn turn.new))
         (bytes_ahead (S.left source.old) wire.old) (bytes_ahead (S.left source.new) wire.new)
         (T.made turn.old) (T.made turn.new) (K.written sink.old) (K.written sink.new) result }
 {
-    let received = match receive(alloc, wire, source, sink) {
+    let received = match receive(alloc, form, wire, source, sink) {
         Ok(received) => received,
         Err(end) => return Some(end),
     };
     match answer(
-        rt, alloc, turn, clock, source, sink, tickets, draw, answers, &received,
+        rt, alloc, form, turn, clock, source, sink, tickets, draw, answers, &received,
     ) {
         Some(end) => Some(end),
         None => {

@@ -9,6 +9,7 @@ ghost use Rattle.proxy_server.specs.Causes.{IsOfAsking};
 use crate::ends::end_of;
 use crate::take::take;
 use crate::turn::Turn;
+use http_talk::RefusalForm;
 use outside::{Clock, Failed, Sink, Source};
 use server_model::{SessionEnd, Stop, Taken};
 use std::alloc::Global;
@@ -20,6 +21,7 @@ use std::sync::Wait;
 pub(crate) fn follow<R: Wait, T: Turn, S: Source, K: Sink, C: Clock>(
     rt: &R,
     alloc: Global,
+    form: RefusalForm,
     turn: &mut T,
     clock: &mut C,
     source: &mut S,
@@ -37,7 +39,7 @@ pub(crate) fn follow<R: Wait, T: Turn, S: Source, K: Sink, C: Clock>(
     ensures end { IfErr result (λ why. IsOfAsking (end_in why)) }
     ensures ahead { Keeps (S.left source.old) (S.left source.new) }
     ensures quiet { Asked (T.made turn.old) (T.made turn.new) [] }
-    ensures follows { Follows T.rests (IsTrue (T.worn turn.new)) ticket (T.made turn.old)
+    ensures follows { Follows form T.rests (IsTrue (T.worn turn.new)) ticket (T.made turn.old)
         (T.made turn.new) (K.written sink.old) (K.written sink.new) result }
 {
     let mut begun = false;
@@ -46,7 +48,7 @@ pub(crate) fn follow<R: Wait, T: Turn, S: Source, K: Sink, C: Clock>(
             Ok(()) => {}
             Err(fault) => return Err(Stop::Unanswered(end_of(fault))),
         }
-        match take(alloc, turn, clock, sink, ticket, begun) {
+        match take(alloc, form, turn, clock, sink, ticket, begun) {
             Ok(Taken::Nothing) => {
                 match source.check() {
                     Ok(()) => {}

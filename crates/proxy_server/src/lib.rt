@@ -15,7 +15,7 @@ mod serve;
 mod take;
 mod turn;
 
-pub use http_talk::{Answers, NoAnswers, Ready};
+pub use http_talk::{Answers, NoAnswers, Ready, RefusalForm};
 pub use serve::serve_on;
 pub use server_model::{SessionEnd, TurnFault};
 pub use turn::Turn;

@@ -5,6 +5,7 @@ ghost use Rattle.server_model.specs.Numbers.{IsElse};
 ghost use Rattle.server_model.specs.Exchanges.{Received as Gets};
 
 use crate::ends::end_by;
+use http_talk::RefusalForm;
 use http_wire::Wire;
 use outside::{Sink, Source};
 use server_model::{Received, SessionEnd};
@@ -14,6 +15,7 @@ use std::alloc::Global;
 #[inline(never)]
 pub(crate) fn receive<S: Source, K: Sink>(
     alloc: Global,
+    form: RefusalForm,
     wire: &mut Wire,
     source: &mut S,
     sink: &mut K,
@@ -27,11 +29,11 @@ pub(crate) fn receive<S: Source, K: Sink>(
     ensures other { IfErr result IsElse }
     ensures reads { S.faults source.old ≤ S.faults source.new }
     ensures writes { K.faults sink.old ≤ K.faults sink.new }
-    ensures gets { Gets (bytes_ahead (S.left source.old) wire.old)
+    ensures gets { Gets form (bytes_ahead (S.left source.old) wire.old)
         (bytes_ahead (S.left source.new) wire.new) (K.written sink.old)
         (K.written sink.new) result }
 {
-    match http_talk::receive(alloc, wire, source, sink) {
+    match http_talk::receive(alloc, form, wire, source, sink) {
         Ok(Some(received)) => Ok(received),
         Ok(None) => Err(SessionEnd::Closed),
         Err(fault) => Err(end_by(fault)),

@@ -6,7 +6,7 @@ ghost use Rattle.server_model.specs.Numbers.{LastNumbered};
 
 use crate::exchange::exchange;
 use crate::turn::Turn;
-use http_talk::Answers;
+use http_talk::{Answers, RefusalForm};
 use http_wire::Wire;
 use outside::{Clock, Draw, Sink, Source, TicketRange};
 use server_model::SessionEnd;
@@ -16,9 +16,11 @@ use std::sync::Wait;
 /// Serves a connection until it ends: reads requests, steps the turn for each, and writes their replies. Each Ask takes the next
 /// ticket and one drawn word. A request that the JSON mapping refuses has the answer that `answers` gives for it, else its refusal: either
 /// is written as it is, makes no step and takes no ticket. Where it ends in the midst of a request whose ticket is still known, it leaves that ticket.
+/// `form` says how refusals are written.
 pub fn serve_on<R: Wait, T: Turn, S: Source, K: Sink, C: Clock, D: Draw, A: Answers>(
     rt: &R,
     alloc: Global,
+    form: RefusalForm,
     turn: &mut T,
     tickets: TicketRange,
     clock: &mut C,
@@ -36,7 +38,7 @@ pub fn serve_on<R: Wait, T: Turn, S: Source, K: Sink, C: Clock, D: Draw, A: Answ
         → Rose (K.faults sink.old) (K.faults sink.new) }
     ensures numbered { LastNumbered result tickets.end tickets.next (D.given draw.old)
         (D.given draw.new) (T.made turn.old) (T.made turn.new) }
-    ensures dialog { Dialog (A.gives (A.known answers.old)) T.rests (IsTrue (T.worn turn.new))
+    ensures dialog { Dialog form (A.gives (A.known answers.old)) T.rests (IsTrue (T.worn turn.new))
         (S.left source.old) (T.made turn.old) (T.made turn.new) (K.written sink.old)
         (K.written sink.new) result }
     ensures complete { Completes (S.left source.old) (T.made turn.old) (T.made turn.new)
@@ -51,6 +53,7 @@ pub fn serve_on<R: Wait, T: Turn, S: Source, K: Sink, C: Clock, D: Draw, A: Answ
         match exchange(
             rt,
             alloc,
+            form,
             &mut wire,
             turn,
             clock,

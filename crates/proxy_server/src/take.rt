@@ -7,7 +7,7 @@ ghost use Rattle.proxy_server.specs.Causes.{IsOfTakes, IsOfAsking};
 use crate::ends::{end_by, end_of};
 use crate::turn::Turn;
 use core_model::{CoreEvent, Outcome};
-use http_talk::{is_cancel, tell, tell_item};
+use http_talk::{RefusalForm, is_cancel, tell, tell_item};
 use outside::{Clock, Sink};
 use server_model::{SessionEnd, Stop, Taken};
 use std::alloc::Global;
@@ -45,6 +45,7 @@ fn pass_on<K: Sink>(alloc: Global, sink: &mut K, begun: bool, told: &Told) -> Re
 /// Takes what is there for a ticket, and tells it. `begun` says whether the head of a reply in chunks was written.
 pub(crate) fn take<T: Turn, K: Sink, C: Clock>(
     alloc: Global,
+    form: RefusalForm,
     turn: &mut T,
     clock: &mut C,
     sink: &mut K,
@@ -59,12 +60,12 @@ pub(crate) fn take<T: Turn, K: Sink, C: Clock>(
     ensures end { IfErr result (λ why. IsOfTakes (end_in why)) }
     ensures asking { IfErr result (λ why. IsOfAsking (end_in why)) }
     ensures quiet { Asked (T.made turn.old) (T.made turn.new) [] }
-    ensures takes { Takes T.rests (IsTrue (T.worn turn.new)) ticket begun (T.made turn.old)
+    ensures takes { Takes form T.rests (IsTrue (T.worn turn.new)) ticket begun (T.made turn.old)
         (T.made turn.new) (K.written sink.old) (K.written sink.new) result }
 {
     match turn.turn(CoreEvent::Take { ticket }, clock) {
         Ok(Outcome::Pending) => Ok(Taken::Nothing),
-        Ok(Outcome::Replied(answer)) => match tell(alloc, sink, begun, &answer) {
+        Ok(Outcome::Replied(answer)) => match tell(alloc, form, sink, begun, &answer) {
             Ok(()) => Ok(Taken::Last),
             Err(fault) => Err(Stop::Answered(end_by(fault))),
         },

@@ -1,3 +1,4 @@
+pub mod Announced
 pub mod Parts
 pub mod Serving
 pub mod Told

@@ -6,6 +6,7 @@ use Rattle.outside.specs.declared.parts.Part.{Part}
 use Rattle.outside.specs.declared.source.Failed.{Failed}
 use Rattle.proxy_service.specs.declared.ends.ServeEnd.{ServeEnd}
 use Rattle.proxy_service.specs.declared.ends.ServeEnd.TheVariants.{Stopped, NoMemory, ListenerFault, SpawnerFault}
+use Rattle.proxy_service.specs.Announced.{Announces, listens}
 use Rattle.proxy_service.specs.Parts.{handed_at, Client, accepts, connection, connections}
 use Rattle.proxy_service.specs.Serving.{Starts, Tends, Goes}
 
@@ -57,13 +58,14 @@ pub record IsTended {P H C : Type 0} (home_of : P → H) (home : H) (made made' 
   pub kept : faults ≤ faults'
   pub caused : end ≡ ListenerFault → Rose faults faults'
 
--- a server went, up to its end
+-- a server went, up to its end, and of its start this line was told
 pub record IsServed {P H C : Type 0} (home_of : P → H) (home : H) (address : List ℕ) (workers : ℕ) (made made' : Option (List (HostCall C))) (faults faults' : ℕ)
-    (handed handed' : Option (List (Handed (Part P C)))) (refusals refusals' : ℕ) (end : ServeEnd) : Type 0 where
+    (handed handed' : Option (List (Handed (Part P C)))) (refusals refusals' : ℕ) (line : List ℕ) (told told' : Option (List ℕ)) (tells tells' : ℕ) (end : ServeEnd) : Type 0 where
   pub calls : List (HostCall C)
   pub parts : List (Handed (Part H C))
   pub goes : Goes home address workers calls parts end
   pub asks : Adds made made' calls
   pub hands : Hands home_of handed handed' parts
+  pub announced : Announces line told told' tells tells' (listens calls)
   pub unheard : end ≡ ListenerFault → Rose faults faults'
   pub unstarted : end ≡ SpawnerFault → Rose refusals refusals'

@@ -14,7 +14,7 @@ pub(crate) const NUMBERED: u64 = 1 << 31;
 /// So many tickets a connection has.
 const TICKETS: u64 = 1 << 32;
 
-/// A further place at the same hub, with the same hosts and the same limit of a message.
+/// A further place at the same hub, with the same hosts, the same limit of a message and the same form of refusals.
 pub(crate) fn beside(place: &mut Place) -> Result<Place, NoMemory>
     ensures stays { home_of place.new ≡ home_of place.old }
     ensures home { IfOk result (λ further. home_of further ≡ home_of place.old) }
@@ -23,10 +23,12 @@ pub(crate) fn beside(place: &mut Place) -> Result<Place, NoMemory>
     let hosts = Arc::try_clone(&place.hosts)?;
     let pass = place.hub.split(&mut place.pass);
     let message_limit = place.message_limit;
+    let form = place.form;
     Ok(Place {
         hub,
         hosts,
         message_limit,
+        form,
         pass,
     })
 }

@@ -1,5 +1,6 @@
 use core_model::Settings;
 use etcd_types::{Bytes, List};
+use proxy_parts::RefusalForm;
 
 /// What a server is started with.
 #[derive(Debug, Drop)]
@@ -14,4 +15,6 @@ pub struct Service {
     pub workers: u32,
     /// How many bytes a message of a watch may have that a member sends.
     pub message_limit: usize,
+    /// How refusals are written.
+    pub form: RefusalForm,
 }

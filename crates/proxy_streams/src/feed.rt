@@ -4,12 +4,12 @@ ghost use Rattle.server_model.specs.StreamParts.{Feeds, IsCut, is_for_memory, en
 
 use core_model::{CoreEvent, Outcome, StepFault};
 use etcd_types::WatchItem;
-use outside::{AnswerEnd, Clock, ReadMark, Source};
+use outside::{Clock, ReadMark, Source};
 use proxy_server::Turn;
-use server_model::{StreamEnd, StreamStop, TurnFault};
+use server_model::{StreamEnd, TurnFault};
 
-/// How long a stream that brought no event lasts at the least, in milliseconds: a core opens a stream that was cut again, and
-/// one that always ends at once would turn for ever.
+/// How long a stream rests that couldn't be begun, or for which memory was wanting, in milliseconds: a core opens a stream that was cut again,
+/// and would turn for ever.
 const PAUSE: u64 = 1_000;
 
 /// Whether the turn makes no more steps.
@@ -36,16 +36,19 @@ fn end_of(fault: TurnFault) -> StreamEnd
     }
 }
 
-/// Lets some time pass where a stream brought no event.
-pub(crate) fn linger<C: Clock>(clock: &mut C, eventful: bool) {
-    if !eventful {
-        clock.pause(PAUSE);
-    }
+/// Lets some time pass before a stream is cut.
+pub(crate) fn linger<C: Clock>(clock: &mut C) {
+    clock.pause(PAUSE);
 }
 
-/// Lets some time pass where a stream stops that brought no event, or a line that is too long to be read.
-pub(crate) fn linger_behind<C: Clock>(clock: &mut C, eventful: bool, stop: StreamStop) {
-    linger(clock, eventful && stop.read != AnswerEnd::TooLong);
+/// Lets the source of a stream that is about to be cut rest, where it is to.
+pub(crate) fn rest_if<S: Source>(source: &mut S, rests: bool)
+    ensures bytes { S.left source.new ≡ S.left source.old }
+    ensures kept { S.faults source.new ≡ S.faults source.old }
+{
+    if rests {
+        source.mark(ReadMark::Rest);
+    }
 }
 
 /// Cuts the stream.
@@ -83,7 +86,7 @@ pub(crate) fn feed<T: Turn, C: Clock>(
         Err(fault) => fault,
     };
     if is_for_memory(fault) {
-        linger(clock, false);
+        linger(clock);
         Some(cut(turn, clock, stream, StreamEnd::NoMemory))
     } else {
         Some(end_of(fault))

@@ -2,11 +2,11 @@ ghost use Rattle.std.specs.Prelude.{◌≡◌, IsTrue};
 ghost use Rattle.server_model.specs.Following.{Following, is_cancel};
 ghost use Rattle.server_model.specs.StreamParts.{IsFollowed};
 
-use crate::feed::{cut, feed_from, linger, linger_behind};
+use crate::feed::{cut, feed_from, linger, rest_if};
 use crate::next::{cut_at, next, open};
 use etcd_types::WatchItem;
 use http_wire::Wire;
-use outside::{CallKind, Clock, Follow, Link, LinkFault, Source};
+use outside::{AnswerEnd, CallKind, Clock, Follow, Link, LinkFault, Source};
 use proxy_server::Turn;
 use server_model::{StreamEnd, StreamStop};
 use std::alloc::Global;
@@ -52,13 +52,13 @@ fn follow_on<R: Wait, T: Turn, S: Source, C: Clock>(
         (T.made turn.old) (T.made turn.new) result.read result.end }
 {
     let Ok(mut wire) = Wire::new(alloc) else {
-        linger(clock, false);
+        linger(clock);
         return cut_at(cut(turn, clock, stream, StreamEnd::NoMemory));
     };
     let mut framing = match open(&mut wire, source) {
         Ok(framing) => framing,
         Err(stop) => {
-            linger(clock, false);
+            rest_if(source, true);
             let end = cut(turn, clock, stream, stop.end);
             return StreamStop { end, ..stop };
         }
@@ -68,14 +68,12 @@ fn follow_on<R: Wait, T: Turn, S: Source, C: Clock>(
         let item = match next(alloc, &mut wire, source, &mut framing, most) {
             Ok(item) => item,
             Err(stop) => {
-                linger_behind(clock, eventful, stop);
+                rest_if(source, !eventful || stop.read == AnswerEnd::TooLong);
                 let end = cut(turn, clock, stream, stop.end);
                 return StreamStop { end, ..stop };
             }
         };
-        if is_refusal(&item) {
-            linger(clock, eventful);
-        }
+        rest_if(source, !eventful && is_refusal(&item));
         let more = has_events(&item);
         let is_last = is_cancel(&item);
         match feed_from(turn, clock, source, stream, item) {
@@ -113,11 +111,11 @@ pub fn follow_stream<R: Wait, T: Turn, L: Link, C: Clock>(
             stop.end
         }
         Err(LinkFault::Failed) => {
-            linger(clock, false);
+            linger(clock);
             cut(turn, clock, follow.stream, StreamEnd::Cut)
         }
         Err(LinkFault::NoMemory) => {
-            linger(clock, false);
+            linger(clock);
             cut(turn, clock, follow.stream, StreamEnd::NoMemory)
         }
     }

@@ -1,7 +1,7 @@
 ghost use Rattle.http_talk.specs.Probes.{GivesProbes};
 
 use etcd_types::NoMemory;
-use http_talk::{Answers, Ready, probe_of, probed};
+use http_talk::{Answers, Ready, RefusalForm, probe_of, probed};
 use http_wire::Head;
 use std::alloc::Global;
 
@@ -19,7 +19,12 @@ impl Answers for Healthy {
 
     ghost gives = { λ known head body given. GivesProbes head body given };
 
-    fn answer(&mut self, head: &Head, _body: &[u8]) -> Result<Option<Ready>, NoMemory> {
+    fn answer(
+        &mut self,
+        _form: RefusalForm,
+        head: &Head,
+        _body: &[u8],
+    ) -> Result<Option<Ready>, NoMemory> {
         match probe_of(head) {
             Some(probe) => Ok(Some(probed(self.alloc, probe, self.answers)?)),
             None => Ok(None),

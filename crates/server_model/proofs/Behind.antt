@@ -2,6 +2,7 @@
 use Rattle.std.proofs.Common.{◌≡◌, ℕ, List, [], ◌++◌, Option, Some, ap, ◌∙◌}
 use Rattle.core_model.specs.declared.event.CoreEvent.{CoreEvent}
 use Rattle.http_wire.specs.declared.message.Head.{Head}
+use Rattle.http_talk.specs.declared.form.RefusalForm.{RefusalForm}
 use Rattle.http_talk.specs.declared.ready.Ready.{Ready}
 use Rattle.server_model.specs.declared.ends.SessionEnd.{SessionEnd}
 use Rattle.server_model.specs.Steps.{Step, Adds}
@@ -14,9 +15,9 @@ module _ (a m b c : List Step) (none : m ≡ []) (parts : c ≡ a ++ b) where
   adds_behind : (steps : List Step) → Adds (Some m) (Some b) steps → Adds (Some a) (Some c) steps
   adds_behind steps p = parts ∙ ap (λ (l : List Step). a ++ l) (p ∙ ap (λ (l : List Step). l ++ steps) none)
 
-  pub dialog_behind : (gives : Head → List ℕ → Option Ready → Type 0) (rests : CoreEvent → Type 0) (worn : Type 0) (left written written' : Option (List ℕ)) (end : SessionEnd) → Dialog gives rests worn left (Some m) (Some b) written written' end
-      → Dialog gives rests worn left (Some a) (Some c) written written' end
-  dialog_behind gives rests worn left written written' end d = record {
+  pub dialog_behind : (form : RefusalForm) (gives : Head → List ℕ → Option Ready → Type 0) (rests : CoreEvent → Type 0) (worn : Type 0) (left written written' : Option (List ℕ)) (end : SessionEnd) → Dialog form gives rests worn left (Some m) (Some b) written written' end
+      → Dialog form gives rests worn left (Some a) (Some c) written written' end
+  dialog_behind form gives rests worn left written written' end d = record {
     whole = d.whole;
     last = d.last;
     read = d.read;

@@ -12,6 +12,7 @@ use Rattle.core_model.specs.declared.event.StepFault.TheVariants as step
 use Rattle.server_model.specs.declared.ends.SessionEnd.{SessionEnd}
 use Rattle.server_model.specs.declared.ends.SessionEnd.TheVariants as end
 use Rattle.server_model.specs.declared.fault.TurnFault.TheVariants as turn
+use Rattle.http_talk.specs.declared.form.RefusalForm.{RefusalForm}
 use Rattle.http_talk.specs.declared.ready.Ready.{Ready}
 use Rattle.http_talk.specs.Direct.{Direct, Refuses, Gives, Undecided}
 use Rattle.http_talk.specs.Requests.{AreWhole, AreRequests}
@@ -163,9 +164,9 @@ rises_to : (from to : ℕ) (pairs : List (ℕ × ℕ)) → Rises from to pairs �
 rises_to from to [] r = sym r ∙ omega arith
 rises_to from to (p ∷ ps) r = rises_to (from + 1) to ps r.1 ∙ omega arith
 
-module _ (gives : Head → List ℕ → Option Ready → Type 0) (rests : CoreEvent → Type 0) (worn : Type 0) where
+module _ (form : RefusalForm) (gives : Head → List ℕ → Option Ready → Type 0) (rests : CoreEvent → Type 0) (worn : Type 0) where
   ends_plain : (left : Option (List ℕ)) (made made' : Option (List Step)) (written written' : Option (List ℕ)) (last : SessionEnd) (limit from reads reads' writes writes' : ℕ)
-      → Dialog gives rests worn left made made' written written' last → IsUnhindered left made made' worn limit from reads reads' writes writes' → IsPlain last
+      → Dialog form gives rests worn left made made' written written' last → IsUnhindered left made made' worn limit from reads reads' writes writes' → IsPlain last
   ends_plain left made made' written written' last limit from reads reads' writes writes' d h =
       let P : Step → Type 0 = λ e. is_refused e.answer ≡ false in
       let all = flat_map (λ (x : Exchange). x.steps) d.whole in
@@ -173,7 +174,7 @@ module _ (gives : Head → List ℕ → Option Ready → Type 0) (rests : CoreEv
       last_plain gives worn h.not_worn last d.last d.suits (every_right P all (last_steps d.last) none)
 
   pub completes : (left : Option (List ℕ)) (made made' : Option (List Step)) (written written' given given' : Option (List ℕ)) (last : SessionEnd) (limit from reads reads' writes writes' : ℕ)
-      → Dialog gives rests worn left made made' written written' last → LastNumbered last limit from given given' made made' → (last ≡ end.ReadFault → Rose reads reads')
+      → Dialog form gives rests worn left made made' written written' last → LastNumbered last limit from given given' made made' → (last ≡ end.ReadFault → Rose reads reads')
       → (last ≡ end.WriteFault → Rose writes writes') → Completes left made made' worn limit from reads reads' writes writes' last
   completes left made made' written written' given given' end.Closed limit from reads reads' writes writes' d n r w h = inl refl
   completes left made made' written written' given given' end.NoMemory limit from reads reads' writes writes' d n r w h = inr refl

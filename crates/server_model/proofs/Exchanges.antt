@@ -9,6 +9,7 @@ use Rattle.http_wire.specs.declared.message.Head.{Head}
 use Rattle.http_wire.specs.Connections.{WireState, bytes_ahead}
 use Rattle.http_wire.specs.Written.{Writes}
 use Rattle.json_model.specs.declared.extra.Reading.TheVariants.{Client}
+use Rattle.http_talk.specs.declared.form.RefusalForm.{RefusalForm}
 use Rattle.http_talk.specs.declared.ready.Ready.{Ready}
 use Rattle.http_talk.specs.declared.refused.Refused.{Refused}
 use Rattle.http_talk.specs.Direct.{Refuses, Gives, Undecided, Decides, direct_said}
@@ -69,49 +70,38 @@ never_broken end.NoMemory x s = s
 
 -- ---- an answer that needs no step was written, or wasn't
 
-pub was_given : (gives : Option Ready → Type 0) (method : List ℕ) (refused : Refused) (ready : Ready) (v w : Option (List ℕ)) → gives (Some ready)
-    → Appends v w (reply_to method ready.status ready.body) → Directly gives method refused v w None
-was_given gives method refused ready v w g r = (Gives ready, ((refused, refl), g), tt, r)
+pub was_given : (form : RefusalForm) (gives : Option Ready → Type 0) (method : List ℕ) (refused : Refused) (ready : Ready) (v w : Option (List ℕ)) → gives (Some ready)
+    → Appends v w (reply_to method ready.status ready.body) → Directly form gives method refused v w None
+was_given form gives method refused ready v w g r = (Gives ready, ((refused, refl), g), tt, r)
 
-pub not_given : (gives : Option Ready → Type 0) (method : List ℕ) (refused : Refused) (ready : Ready) (v w : Option (List ℕ)) (fault : WireFault) (end : SessionEnd) → gives (Some ready)
-    → IsUntold end → Writes v w (reply_to method ready.status ready.body) (Err fault) → Directly gives method refused v w (Some end)
-not_given gives method refused ready v w fault end g u r = (Gives ready, ((refused, refl), g), u, front_by v w (reply_to method ready.status ready.body) (Err fault) r)
+pub not_given : (form : RefusalForm) (gives : Option Ready → Type 0) (method : List ℕ) (refused : Refused) (ready : Ready) (v w : Option (List ℕ)) (fault : WireFault) (end : SessionEnd) → gives (Some ready)
+    → IsUntold end → Writes v w (reply_to method ready.status ready.body) (Err fault) → Directly form gives method refused v w (Some end)
+not_given form gives method refused ready v w fault end g u r = (Gives ready, ((refused, refl), g), u, front_by v w (reply_to method ready.status ready.body) (Err fault) r)
 
-pub was_refused : (gives : Option Ready → Type 0) (method : List ℕ) (refused : Refused) (v w : Option (List ℕ)) → gives None
-    → Appends v w (refusal_to method refused) → Directly gives method refused v w None
-was_refused gives method refused v w g r = (Refuses refused, (refl, g), tt, r)
+pub was_refused : (form : RefusalForm) (gives : Option Ready → Type 0) (method : List ℕ) (refused : Refused) (v w : Option (List ℕ)) → gives None
+    → Appends v w (refusal_to form method refused) → Directly form gives method refused v w None
+was_refused form gives method refused v w g r = (Refuses refused, (refl, g), tt, r)
 
-pub not_refused : (gives : Option Ready → Type 0) (method : List ℕ) (refused : Refused) (v w : Option (List ℕ)) (fault : WireFault) (end : SessionEnd) → gives None
-    → IsUntold end → Writes v w (refusal_to method refused) (Err fault) → Directly gives method refused v w (Some end)
-not_refused gives method refused v w fault end g u r = (Refuses refused, (refl, g), u, front_by v w (refusal_to method refused) (Err fault) r)
+pub not_refused : (form : RefusalForm) (gives : Option Ready → Type 0) (method : List ℕ) (refused : Refused) (v w : Option (List ℕ)) (fault : WireFault) (end : SessionEnd) → gives None
+    → IsUntold end → Writes v w (refusal_to form method refused) (Err fault) → Directly form gives method refused v w (Some end)
+not_refused form gives method refused v w fault end g u r = (Refuses refused, (refl, g), u, front_by v w (refusal_to form method refused) (Err fault) r)
 
-pub not_known : (gives : Option Ready → Type 0) (method : List ℕ) (refused : Refused) (w : Option (List ℕ)) → Directly gives method refused w w (Some end.NoMemory)
-not_known gives method refused w = (Undecided, (refused, refl), refl, front_none w w [] (keeps_itself w))
+pub not_known : (form : RefusalForm) (gives : Option Ready → Type 0) (method : List ℕ) (refused : Refused) (w : Option (List ℕ)) → Directly form gives method refused w w (Some end.NoMemory)
+not_known form gives method refused w = (Undecided, (refused, refl), refl, front_none w w [] (keeps_itself w))
 
 -- what was given to a body, by other names of both
 pub gave : (gives : List ℕ → Option Ready → Type 0) (body body' : List ℕ) (x y : Option Ready) → body ≡ body' → x ≡ y → gives body x → gives body' y
 gave gives body body' x y e f g = subst (λ (b : List ℕ). gives b y) e (subst (gives body) f g)
 
 -- the same by what is known for good
-pub directly_as : {K : Type 0} (gives : K → Option Ready → Type 0) (method : List ℕ) (refused : Refused) (v w : Option (List ℕ)) (end : Option SessionEnd) (known known' : K) → known' ≡ known
-    → Directly (gives known') method refused v w end → Directly (gives known) method refused v w end
-directly_as gives method refused v w end known known' e d = subst (λ k. Directly (gives k) method refused v w end) e d
+pub directly_as : {K : Type 0} (form : RefusalForm) (gives : K → Option Ready → Type 0) (method : List ℕ) (refused : Refused) (v w : Option (List ℕ)) (end : Option SessionEnd) (known known' : K) → known' ≡ known
+    → Directly form (gives known') method refused v w end → Directly form (gives known) method refused v w end
+directly_as form gives method refused v w end known known' e d = subst (λ k. Directly form (gives k) method refused v w end) e d
 
 module _ (rests : CoreEvent → Type 0) where
-  -- ---- what was asked with tickets that were in use
-
-  used_says : (request : Request) (steps : List Step) → AreInUse request steps → said_from false steps ≡ []
-  used_says request [] u = refl
-  used_says request (e ∷ es) u = (λ i. said_at false (u.0.3 i) ++ said_from (false || begins (u.0.3 i)) es) ∙ used_says request es u.1
-
   used_begins : (request : Request) (steps : List Step) → AreInUse request steps → begun_by steps ≡ false
   used_begins request [] u = refl
   used_begins request (e ∷ es) u = (λ i. begins (u.0.3 i) || begun_by es) ∙ used_begins request es u.1
-
-  -- tickets that were in use say nothing
-  said_after_used : (request : Request) (tries steps : List Step) → AreInUse request tries → said_from false (tries ++ steps) ≡ said_from false steps
-  said_after_used request tries steps u =
-      said_append false tries steps ∙ (λ i. used_says request tries u i ++ said_from (used_begins request tries u i) steps)
 
   pub none_tried : (asked : Result Request Refused) (made : Option (List Step)) (w : Option (List ℕ)) → Tried rests asked made made w w
   none_tried (Ok request) made w = ([], tt, did_nothing rests made, refl)
@@ -120,17 +110,32 @@ module _ (rests : CoreEvent → Type 0) where
   pub tried_as : (x y : Result Request Refused) (a b : Option (List Step)) (u v : Option (List ℕ)) → x ≡ y → Tried rests x a b u v → Tried rests y a b u v
   tried_as x y a b u v e t = subst (λ (z : Result Request Refused). Tried rests z a b u v) e t
 
+  did_the_same : (a b : Option (List Step)) → b ≡ a → Did rests a b []
+  did_the_same a b e = subst (λ (x : Option (List Step)). Did rests a x []) (sym e) (did_nothing rests a)
+
+module _ (form : RefusalForm) (rests : CoreEvent → Type 0) where
+  -- ---- what was asked with tickets that were in use
+
+  used_says : (request : Request) (steps : List Step) → AreInUse request steps → said_from form false steps ≡ []
+  used_says request [] u = refl
+  used_says request (e ∷ es) u = (λ i. said_at form false (u.0.3 i) ++ said_from form (false || begins (u.0.3 i)) es) ∙ used_says request es u.1
+
+  -- tickets that were in use say nothing
+  said_after_used : (request : Request) (tries steps : List Step) → AreInUse request tries → said_from form false (tries ++ steps) ≡ said_from form false steps
+  said_after_used request tries steps u =
+      said_append form false tries steps ∙ (λ i. used_says request tries u i ++ said_from form (used_begins rests request tries u i) steps)
+
   pub one_more_try : (request : Request) (a b c : Option (List Step)) (u v w : Option (List ℕ)) → Tried rests (Ok request) a b u v
-      → AskedOnce rests request b c v w attempt.InUse → Tried rests (Ok request) a c u w
+      → AskedOnce form rests request b c v w attempt.InUse → Tried rests (Ok request) a c u w
   one_more_try request a b c u v w t m =
       let Uses : Step → Type 0 = λ e. (ticket : ℕ) × (word : ℕ) × (e.event ≡ Ask ticket request word) × (e.answer ≡ Err (step.TicketUsed ticket)) in
       (t.0 ++ m.0, every_append Uses t.0 m.0 t.1 m.1, did_then rests a b c t.0 m.0 t.2 m.2, m.3 ∙ t.3)
 
   -- of a request that the mapping knows
   pub was_told : (worn : Type 0) (gives : Option Ready → Type 0) (method : List ℕ) (wanted : Result Request Refused) (request : Request) (a b c : Option (List Step)) (u v w : Option (List ℕ)) → wanted ≡ Ok request
-      → Tried rests wanted a b u v → AskedOnce rests request b c v w attempt.Whole → Replies rests worn gives method wanted a c u w None
+      → Tried rests wanted a b u v → AskedOnce form rests request b c v w attempt.Whole → Replies form rests worn gives method wanted a c u w None
   was_told worn gives method wanted request a b c u v w e tried m =
-      let t = tried_as wanted (Ok request) a b u v e tried in
+      let t = tried_as rests wanted (Ok request) a b u v e tried in
       record {
         asked = Ok request;
         decided = e;
@@ -138,14 +143,14 @@ module _ (rests : CoreEvent → Type 0) where
           t.0 ++ m.0,
           record { tries = t.0; rest = m.0; in_use = t.1; parts = refl; last = m.1 },
           did_then rests a b c t.0 m.0 t.2 m.2,
-          subst (Appends u w) (sym (said_after_used request t.0 m.0 t.1)) (subst (λ (x : Option (List ℕ)). Appends x w (said_from false m.0)) t.3 m.3),
+          subst (Appends u w) (sym (said_after_used request t.0 m.0 t.1)) (subst (λ (x : Option (List ℕ)). Appends x w (said_from form false m.0)) t.3 m.3),
         );
       }
 
   pub not_told : (worn : Type 0) (gives : Option Ready → Type 0) (method : List ℕ) (wanted : Result Request Refused) (request : Request) (a b c : Option (List Step)) (u v w : Option (List ℕ)) (end : SessionEnd)
-      → wanted ≡ Ok request → Tried rests wanted a b u v → Asks rests worn request b c v w (Err end) → Replies rests worn gives method wanted a c u w (Some end)
+      → wanted ≡ Ok request → Tried rests wanted a b u v → Asks form rests worn request b c v w (Err end) → Replies form rests worn gives method wanted a c u w (Some end)
   not_told worn gives method wanted request a b c u v w end e tried m =
-      let t = tried_as wanted (Ok request) a b u v e tried in
+      let t = tried_as rests wanted (Ok request) a b u v e tried in
       record {
         asked = Ok request;
         decided = e;
@@ -153,42 +158,39 @@ module _ (rests : CoreEvent → Type 0) where
           t.0 ++ m.0,
           record { tries = t.0; rest = m.0; in_use = t.1; parts = refl; last = m.1 },
           did_then rests a b c t.0 m.0 t.2 m.2,
-          subst (WritesFront u w) (sym (said_after_used request t.0 m.0 t.1)) (subst (λ (x : Option (List ℕ)). WritesFront x w (said_from false m.0)) t.3 m.3),
+          subst (WritesFront u w) (sym (said_after_used request t.0 m.0 t.1)) (subst (λ (x : Option (List ℕ)). WritesFront x w (said_from form false m.0)) t.3 m.3),
         );
       }
 
   -- no ticket is left
-  pub out_of_tickets : (worn : Type 0) (request : Request) (made : Option (List Step)) (w : Option (List ℕ)) → Asks rests worn request made made w w (Err end.OutOfTickets)
+  pub out_of_tickets : (worn : Type 0) (request : Request) (made : Option (List Step)) (w : Option (List ℕ)) → Asks form rests worn request made made w w (Err end.OutOfTickets)
   out_of_tickets worn request made w = ([], Breaks.unasked end.OutOfTickets tt, did_nothing rests made, front_none w w [] (keeps_itself w))
 
   -- ---- an answer that needs no step, and a request that memory was wanting to decode
 
-  did_the_same : (a b : Option (List Step)) → b ≡ a → Did rests a b []
-  did_the_same a b e = subst (λ (x : Option (List Step)). Did rests a x []) (sym e) (did_nothing rests a)
-
   pub was_direct : (worn : Type 0) (gives : Option Ready → Type 0) (method : List ℕ) (wanted : Result Request Refused) (refused : Refused) (a b : Option (List Step)) (u v w : Option (List ℕ))
-      → wanted ≡ Err refused → Tried rests wanted a b u v → Directly gives method refused v w None → Replies rests worn gives method wanted a b u w None
+      → wanted ≡ Err refused → Tried rests wanted a b u v → Directly form gives method refused v w None → Replies form rests worn gives method wanted a b u w None
   was_direct worn gives method wanted refused a b u v w e tried r =
-      let t = tried_as wanted (Err refused) a b u v e tried in
+      let t = tried_as rests wanted (Err refused) a b u v e tried in
       record {
         asked = Err r.0;
         decided = subst (λ (x : Result Request Refused). Decides gives x (Err r.0)) (sym e) r.1;
-        does = ([], (refl, r.2), did_the_same a b t.0, subst (λ (x : Option (List ℕ)). Appends x w (direct_said method r.0)) t.1 r.3);
+        does = ([], (refl, r.2), did_the_same rests a b t.0, subst (λ (x : Option (List ℕ)). Appends x w (direct_said form method r.0)) t.1 r.3);
       }
 
   pub not_direct : (worn : Type 0) (gives : Option Ready → Type 0) (method : List ℕ) (wanted : Result Request Refused) (refused : Refused) (a b : Option (List Step)) (u v w : Option (List ℕ)) (end : SessionEnd)
-      → wanted ≡ Err refused → Tried rests wanted a b u v → Directly gives method refused v w (Some end) → Replies rests worn gives method wanted a b u w (Some end)
+      → wanted ≡ Err refused → Tried rests wanted a b u v → Directly form gives method refused v w (Some end) → Replies form rests worn gives method wanted a b u w (Some end)
   not_direct worn gives method wanted refused a b u v w end e tried r =
-      let t = tried_as wanted (Err refused) a b u v e tried in
+      let t = tried_as rests wanted (Err refused) a b u v e tried in
       record {
         asked = Err r.0;
         decided = subst (λ (x : Result Request Refused). Decides gives x (Err r.0)) (sym e) r.1;
-        does = ([], (refl, r.2), did_the_same a b t.0, subst (λ (x : Option (List ℕ)). WritesFront x w (direct_said method r.0)) t.1 r.3);
+        does = ([], (refl, r.2), did_the_same rests a b t.0, subst (λ (x : Option (List ℕ)). WritesFront x w (direct_said form method r.0)) t.1 r.3);
       }
 
   -- memory was wanting to decode the request, or for an answer that needs no step
   pub not_decoded : (worn : Type 0) (gives : Option Ready → Type 0) (method : List ℕ) (wanted : Result Request Refused) (a b : Option (List Step)) (u v : Option (List ℕ)) → Tried rests wanted a b u v
-      → Replies rests worn gives method wanted a b u v (Some end.NoMemory)
+      → Replies form rests worn gives method wanted a b u v (Some end.NoMemory)
   not_decoded worn gives method (Ok request) a b u v t = record {
     asked = Ok request;
     decided = refl;
@@ -196,7 +198,7 @@ module _ (rests : CoreEvent → Type 0) where
       t.0,
       record { tries = t.0; rest = []; in_use = t.1; parts = sym (append-nil t.0); last = Breaks.unasked end.NoMemory tt },
       t.2,
-      subst (λ (x : Option (List ℕ)). WritesFront u x (said_from false t.0)) (sym t.3) (front_none u u (said_from false t.0) (keeps_itself u)),
+      subst (λ (x : Option (List ℕ)). WritesFront u x (said_from form false t.0)) (sym t.3) (front_none u u (said_from form false t.0) (keeps_itself u)),
     );
   }
   not_decoded worn gives method (Err refused) a b u v t = record {
@@ -205,12 +207,12 @@ module _ (rests : CoreEvent → Type 0) where
     does = (
       [],
       (refl, refl),
-      did_the_same a b t.0,
+      did_the_same rests a b t.0,
       subst (λ (x : Option (List ℕ)). WritesFront u x []) (sym t.1) (front_none u u [] (keeps_itself u)),
     );
   }
 
-module _ (gives : Head → List ℕ → Option Ready → Type 0) (rests : CoreEvent → Type 0) where
+module _ (form : RefusalForm) (gives : Head → List ℕ → Option Ready → Type 0) (rests : CoreEvent → Type 0) where
   -- ---- the whole exchange
 
   suits_unread : (worn : Type 0) (end : SessionEnd) (last : Last) → SuitsUnread end last → Suits gives worn end last
@@ -223,7 +225,7 @@ module _ (gives : Head → List ℕ → Option Ready → Type 0) (rests : CoreEv
   suits_unread worn end (Last.Broken x) s = absurd (never_broken end x s)
 
   pub unasked : (worn : Type 0) (left : Option (List ℕ)) (made : Option (List Step)) (written written' : Option (List ℕ)) (end : SessionEnd)
-      → EndsUnasked left written written' end → Ends gives rests worn left made made written written' end
+      → EndsUnasked form left written written' end → Ends form gives rests worn left made made written written' end
   unasked worn left made written written' end u = record {
     last = u.last;
     suits = suits_unread worn end u.last u.suits;
@@ -249,7 +251,7 @@ module _ (gives : Head → List ℕ → Option Ready → Type 0) (rests : CoreEv
 
   pub broken_off : (worn : Type 0) (left rest : Option (List ℕ)) (made made' : Option (List Step)) (old mid new : Option (List ℕ)) (head : Head) (body : List ℕ) (end : SessionEnd)
       → Ahead (IsRequest head body) left rest → Appends old mid (go_on_of head) → Breaking end
-      → Replies rests worn (gives head body) head.method (asked_of Client head body) made made' mid new (Some end) → Ends gives rests worn left made made' old new end
+      → Replies form rests worn (gives head body) head.method (asked_of Client head body) made made' mid new (Some end) → Ends form gives rests worn left made made' old new end
   broken_off worn left rest made made' old mid new head body end a w b r =
       let x : Exchange = record { head = head; body = body; asked = r.asked; steps = r.does.0 } in
       record {
@@ -257,25 +259,25 @@ module _ (gives : Head → List ℕ → Option Ready → Type 0) (rests : CoreEv
         suits = (b, r.decided, r.does.1);
         is_last = at_request left rest head body a;
         did = r.does.2;
-        said = front_is_said end old new (said_in x) b (front_after old mid new (go_on_of head) (said_for head.method r.asked r.does.0) w r.does.3);
+        said = front_is_said end old new (said_in form x) b (front_after old mid new (go_on_of head) (said_for form head.method r.asked r.does.0) w r.does.3);
       }
 
   pub exchanged : (worn : Type 0) (left rest : Option (List ℕ)) (made made' : Option (List Step)) (old mid new : Option (List ℕ)) (head : Head) (body : List ℕ)
-      → Ahead (IsRequest head body) left rest → Appends old mid (go_on_of head) → Replies rests worn (gives head body) head.method (asked_of Client head body) made made' mid new None → head.close ≡ false
-      → GoesOn gives rests left rest made made' old new
+      → Ahead (IsRequest head body) left rest → Appends old mid (go_on_of head) → Replies form rests worn (gives head body) head.method (asked_of Client head body) made made' mid new None → head.close ≡ false
+      → GoesOn form gives rests left rest made made' old new
   exchanged worn left rest made made' old mid new head body a w r c = (
     record { head = head; body = body; asked = r.asked; steps = r.does.0 },
-    record { read = a; decided = r.decided; answers = r.does.1; did = r.does.2; said = Appends-trans old mid new (go_on_of head) (said_for head.method r.asked r.does.0) w r.does.3 },
+    record { read = a; decided = r.decided; answers = r.does.1; did = r.does.2; said = Appends-trans old mid new (go_on_of head) (said_for form head.method r.asked r.does.0) w r.does.3 },
     c,
   )
 
   pub closed : (worn : Type 0) (left rest : Option (List ℕ)) (made made' : Option (List Step)) (old mid new : Option (List ℕ)) (head : Head) (body : List ℕ)
-      → Ahead (IsRequest head body) left rest → Appends old mid (go_on_of head) → Replies rests worn (gives head body) head.method (asked_of Client head body) made made' mid new None → head.close ≡ true
-      → Ends gives rests worn left made made' old new end.Closed
+      → Ahead (IsRequest head body) left rest → Appends old mid (go_on_of head) → Replies form rests worn (gives head body) head.method (asked_of Client head body) made made' mid new None → head.close ≡ true
+      → Ends form gives rests worn left made made' old new end.Closed
   closed worn left rest made made' old mid new head body a w r c = record {
     last = Last.Closing (record { head = head; body = body; asked = r.asked; steps = r.does.0 });
     suits = (refl, r.decided, r.does.1, c);
     is_last = at_request left rest head body a;
     did = r.does.2;
-    said = Appends-trans old mid new (go_on_of head) (said_for head.method r.asked r.does.0) w r.does.3;
+    said = Appends-trans old mid new (go_on_of head) (said_for form head.method r.asked r.does.0) w r.does.3;
   }

@@ -5,6 +5,7 @@ use Rattle.http_wire.specs.declared.fault.WireFault.{WireFault}
 use Rattle.http_wire.specs.declared.fault.WireFault.TheVariants as wire
 use Rattle.http_wire.specs.declared.message.Head.{Head}
 use Rattle.http_wire.specs.Bodies.{is_of_bytes}
+use Rattle.http_talk.specs.declared.form.RefusalForm.{RefusalForm}
 use Rattle.http_talk.specs.declared.received.Received as received
 use Rattle.http_talk.specs.Receiving.{Cut, IsCut, CutBy, IsOfBytes, NotReceived, Receives, cut_said}
 use Rattle.http_talk.proofs.Said.{appends_nothing}
@@ -15,15 +16,15 @@ use Rattle.server_model.specs.Dialog.{Last, IsLast, Said, SuitsUnread, last_said
 use Rattle.server_model.specs.Exchanges.{EndsUnasked, Received, end_by}
 
 -- the same end by another name
-pub ends_as : (left old new : Option (List ℕ)) (x y : SessionEnd) → x ≡ y → EndsUnasked left old new y → EndsUnasked left old new x
-ends_as left old new x y e u = subst (EndsUnasked left old new) (sym e) u
+pub ends_as : (form : RefusalForm) (left old new : Option (List ℕ)) (x y : SessionEnd) → x ≡ y → EndsUnasked form left old new y → EndsUnasked form left old new x
+ends_as form left old new x y e u = subst (EndsUnasked form left old new) (sym e) u
 
 at_end : (left : Option (List ℕ)) → IfSome left (λ (all : List ℕ). all ≡ []) → IfSome left (IsLast Last.Ended)
 at_end None e = tt
 at_end (Some all) e = e
 
-none_came : (left old new : Option (List ℕ)) → IfSome left (λ (all : List ℕ). all ≡ []) → new ≡ old → EndsUnasked left old new end.Closed
-none_came left old new e w = record {
+none_came : (form : RefusalForm) (left old new : Option (List ℕ)) → IfSome left (λ (all : List ℕ). all ≡ []) → new ≡ old → EndsUnasked form left old new end.Closed
+none_came form left old new e w = record {
   last = Last.Ended;
   suits = tt;
   is_last = at_end left e;
@@ -95,11 +96,11 @@ no_steps_of (Cut.BadBody head fault) = refl
 no_steps_of Cut.Nothing = refl
 no_steps_of (Cut.Announced head) = refl
 
-said_of : (cut : Cut) → cut_said cut ≡ last_said (last_of cut)
-said_of (Cut.Unread fault) = refl
-said_of (Cut.BadBody head fault) = refl
-said_of Cut.Nothing = refl
-said_of (Cut.Announced head) = refl
+said_of : (form : RefusalForm) (cut : Cut) → cut_said form cut ≡ last_said form (last_of cut)
+said_of form (Cut.Unread fault) = refl
+said_of form (Cut.BadBody head fault) = refl
+said_of form Cut.Nothing = refl
+said_of form (Cut.Announced head) = refl
 
 -- a fault is never the input's end
 front_said : (fault : WireFault) (old new : Option (List ℕ)) (bytes : List ℕ) → WritesFront old new bytes → Said (end_by fault) old new bytes
@@ -112,22 +113,22 @@ front_said wire.ReadFault old new bytes w = w
 front_said wire.WriteFault old new bytes w = w
 front_said wire.NoMemory old new bytes w = w
 
-pub not_received : (left old new : Option (List ℕ)) (fault : WireFault) → NotReceived left old new fault → EndsUnasked left old new (end_by fault)
-not_received left old new fault r = record {
+pub not_received : (form : RefusalForm) (left old new : Option (List ℕ)) (fault : WireFault) → NotReceived form left old new fault → EndsUnasked form left old new (end_by fault)
+not_received form left old new fault r = record {
   last = last_of r.cut;
   suits = suits_of fault r.cut r.by;
   is_last = is_last_told left r.cut r.is_cut;
   no_steps = no_steps_of r.cut;
-  said = front_said fault old new (last_said (last_of r.cut)) (subst (WritesFront old new) (said_of r.cut) r.said);
+  said = front_said fault old new (last_said form (last_of r.cut)) (subst (WritesFront old new) (said_of form r.cut) r.said);
 }
 
 -- what was read of the next request, by the name of what came
-pub was_received : (left left' old new : Option (List ℕ)) (came : Option received.Received) (r : received.Received) → came ≡ Some r
-    → Receives left left' old new (Ok came) → Received left left' old new (Ok r)
-was_received left left' old new came r e g = subst (λ (o : Option received.Received). Receives left left' old new (Ok o)) e g
+pub was_received : (form : RefusalForm) (left left' old new : Option (List ℕ)) (came : Option received.Received) (r : received.Received) → came ≡ Some r
+    → Receives form left left' old new (Ok came) → Received form left left' old new (Ok r)
+was_received form left left' old new came r e g = subst (λ (o : Option received.Received). Receives form left left' old new (Ok o)) e g
 
-pub none_received : (left left' old new : Option (List ℕ)) (came : Option received.Received) → came ≡ None → Receives left left' old new (Ok came)
-    → Received left left' old new (Err end.Closed)
-none_received left left' old new came e g =
-    let none : Receives left left' old new (Ok None) = subst (λ (o : Option received.Received). Receives left left' old new (Ok o)) e g in
-    none_came left old new none.0 none.1
+pub none_received : (form : RefusalForm) (left left' old new : Option (List ℕ)) (came : Option received.Received) → came ≡ None → Receives form left left' old new (Ok came)
+    → Received form left left' old new (Err end.Closed)
+none_received form left left' old new came e g =
+    let none : Receives form left left' old new (Ok None) = subst (λ (o : Option received.Received). Receives form left left' old new (Ok o)) e g in
+    none_came form left old new none.0 none.1

@@ -6,6 +6,7 @@ use Rattle.std.proofs.KnownBytes.{Appends-nil, Appends-trans}
 use Rattle.std.specs.Io.KnownBytes.{Appends}
 use Rattle.http_wire.specs.Connections.{WireState, bytes_ahead}
 use Rattle.http_wire.specs.declared.message.Head.{Head}
+use Rattle.http_talk.specs.declared.form.RefusalForm.{RefusalForm}
 use Rattle.http_talk.specs.declared.ready.Ready.{Ready}
 use Rattle.core_model.specs.declared.event.CoreEvent.{CoreEvent}
 use Rattle.server_model.specs.declared.ends.SessionEnd.{SessionEnd}
@@ -34,13 +35,13 @@ said_after (end.TicketTaken ticket) a b c xs ys p q = front_after a b c xs ys p 
 said_after end.Worn a b c xs ys p q = front_after a b c xs ys p q
 said_after end.NoMemory a b c xs ys p q = front_after a b c xs ys p q
 
-module _ (gives : Head → List ℕ → Option Ready → Type 0) (rests : CoreEvent → Type 0) where
+module _ (form : RefusalForm) (gives : Head → List ℕ → Option Ready → Type 0) (rests : CoreEvent → Type 0) where
   none_yet : (left : Option (List ℕ)) → Ahead (Requests []) left left
   none_yet None = tt
   none_yet (Some all) = refl
 
   pub at_start : (left : Option (List ℕ)) (w : WireState) (made : Option (List Step)) (written : Option (List ℕ)) → w.held ≡ []
-      → Has gives rests left (bytes_ahead left w) made made written written
+      → Has form gives rests left (bytes_ahead left w) made made written written
   at_start left w made written e = record {
     whole = [];
     read = subst (Ahead (Requests []) left) (sym (held_none left w e)) (none_yet left);
@@ -63,7 +64,7 @@ module _ (gives : Head → List ℕ → Option Ready → Type 0) (rests : CoreEv
 
   -- the connection goes on
   pub goes_on : (left mid rest : Option (List ℕ)) (made made' made'' : Option (List Step)) (written written' written'' : Option (List ℕ))
-      → Has gives rests left mid made made' written written' → GoesOn gives rests mid rest made' made'' written' written'' → Has gives rests left rest made made'' written written''
+      → Has form gives rests left mid made made' written written' → GoesOn form gives rests mid rest made' made'' written' written'' → Has form gives rests left rest made made'' written written''
   goes_on left mid rest made made' made'' written written' written'' h t =
       let x = t.0 in
       record {
@@ -71,7 +72,7 @@ module _ (gives : Head → List ℕ → Option Ready → Type 0) (rests : CoreEv
         read = ahead_more h.whole x left mid rest h.read t.1.read;
         answered = every_append (λ (y : Exchange). IsDecided gives y × Answers y.asked y.steps × (y.head.close ≡ false)) h.whole (x ∷ []) h.answered ((t.1.decided, t.1.answers, t.2), tt);
         did = subst (Did rests made made'') (sym (one_more (λ (y : Exchange). y.steps) h.whole x)) (did_then rests made made' made'' _ _ h.did t.1.did);
-        said = subst (Appends written written'') (sym (one_more said_in h.whole x)) (Appends-trans written written' written'' _ _ h.said t.1.said);
+        said = subst (Appends written written'') (sym (one_more (said_in form) h.whole x)) (Appends-trans written written' written'' _ _ h.said t.1.said);
       }
 
   ends_at : (xs : List Exchange) (last : Last) (left mid : Option (List ℕ)) → Ahead (Requests xs) left mid → IfSome mid (IsLast last)
@@ -82,7 +83,7 @@ module _ (gives : Head → List ℕ → Option Ready → Type 0) (rests : CoreEv
 
   -- the connection ends
   pub ends : (worn : Type 0) (left mid : Option (List ℕ)) (made made' made'' : Option (List Step)) (written written' written'' : Option (List ℕ)) (end : SessionEnd)
-      → Has gives rests left mid made made' written written' → Ends gives rests worn mid made' made'' written' written'' end → Dialog gives rests worn left made made'' written written'' end
+      → Has form gives rests left mid made made' written written' → Ends form gives rests worn mid made' made'' written' written'' end → Dialog form gives rests worn left made made'' written written'' end
   ends worn left mid made made' made'' written written' written'' end h e = record {
     whole = h.whole;
     last = e.last;
@@ -97,7 +98,7 @@ module _ (gives : Head → List ℕ → Option Ready → Type 0) (rests : CoreEv
   not_begun None = tt
   not_begun (Some all) = (all, refl, tt)
 
-  pub no_wire : (worn : Type 0) (left : Option (List ℕ)) (made : Option (List Step)) (written : Option (List ℕ)) → Dialog gives rests worn left made made written written end.NoMemory
+  pub no_wire : (worn : Type 0) (left : Option (List ℕ)) (made : Option (List Step)) (written : Option (List ℕ)) → Dialog form gives rests worn left made made written written end.NoMemory
   no_wire worn left made written = record {
     whole = [];
     last = Last.Nothing;
@@ -109,8 +110,8 @@ module _ (gives : Head → List ℕ → Option Ready → Type 0) (rests : CoreEv
   }
 
 -- what is given for good is given whatever was asked before
-pub turned_as : {K : Type 0} (gives : K → Head → List ℕ → Option Ready → Type 0) (rests : CoreEvent → Type 0) (worn : Type 0) (left left' : Option (List ℕ)) (made made' : Option (List Step))
+pub turned_as : {K : Type 0} (form : RefusalForm) (gives : K → Head → List ℕ → Option Ready → Type 0) (rests : CoreEvent → Type 0) (worn : Type 0) (left left' : Option (List ℕ)) (made made' : Option (List Step))
     (written written' : Option (List ℕ)) (end : Option SessionEnd) (known known' : K) → known' ≡ known
-    → Turned (gives known') rests worn left left' made made' written written' end → Turned (gives known) rests worn left left' made made' written written' end
-turned_as gives rests worn left left' made made' written written' end known known' e t =
-    subst (λ k. Turned (gives k) rests worn left left' made made' written written' end) e t
+    → Turned form (gives known') rests worn left left' made made' written written' end → Turned form (gives known) rests worn left left' made made' written written' end
+turned_as form gives rests worn left left' made made' written written' end known known' e t =
+    subst (λ k. Turned form (gives k) rests worn left left' made made' written written' end) e t

@@ -11,6 +11,7 @@ use Rattle.http_wire.specs.declared.fault.WireFault.{WireFault}
 use Rattle.http_wire.specs.declared.message.Head.{Head}
 use Rattle.http_wire.specs.Bodies.{BodyRead, is_of_bytes}
 use Rattle.http_wire.specs.Heads.{HeadRead}
+use Rattle.http_talk.specs.declared.form.RefusalForm.{RefusalForm}
 use Rattle.http_talk.specs.declared.ready.Ready.{Ready}
 use Rattle.http_talk.specs.declared.refused.Refused.TheVariants as refused
 use Rattle.http_talk.specs.Direct.{Direct, Undecided, Decides, IsSaid, direct_said}
@@ -147,24 +148,26 @@ pub record AfterUsed (request : Request) (P : List Step → Type 0) (steps : Lis
 
 -- ---- what is written for it
 
+-- `form` says here how refusals are written.
+
 -- what a step says to the client, where the head of the chunks was written or wasn't
-abbrev pub said_at : Bool → Result Outcome StepFault → List ℕ
-said_at begun (Ok (Replied answer)) = said_as_reply begun answer
-said_at begun (Ok (Item item)) = said_in_chunk begun item
-said_at begun _ = []
+abbrev pub said_at : RefusalForm → Bool → Result Outcome StepFault → List ℕ
+said_at form begun (Ok (Replied answer)) = said_as_reply form begun answer
+said_at form begun (Ok (Item item)) = said_in_chunk begun item
+said_at form begun _ = []
 
 abbrev pub begins : Result Outcome StepFault → Bool
 begins (Ok (Item item)) = true
 begins _ = false
 
-abbrev pub said_from : Bool → List Step → List ℕ
-said_from begun [] = []
-said_from begun (e ∷ es) = said_at begun e.answer ++ said_from (begun || begins e.answer) es
+abbrev pub said_from : RefusalForm → Bool → List Step → List ℕ
+said_from form begun [] = []
+said_from form begun (e ∷ es) = said_at form begun e.answer ++ said_from form (begun || begins e.answer) es
 
 -- what is said for a request with this method
-abbrev pub said_for : List ℕ → Result Request Direct → List Step → List ℕ
-said_for method (Ok request) steps = said_from false steps
-said_for method (Err direct) steps = direct_said method direct
+abbrev pub said_for : RefusalForm → List ℕ → Result Request Direct → List Step → List ℕ
+said_for form method (Ok request) steps = said_from form false steps
+said_for form method (Err direct) steps = direct_said form method direct
 
 -- a request, how it was decided, and the steps that were made for it
 pub record Exchange : Type 0 where
@@ -173,8 +176,8 @@ pub record Exchange : Type 0 where
   pub asked : Result Request Direct
   pub steps : List Step
 
-abbrev pub said_in : Exchange → List ℕ
-said_in x = go_on_of x.head ++ said_for x.head.method x.asked x.steps
+abbrev pub said_in : RefusalForm → Exchange → List ℕ
+said_in form x = go_on_of x.head ++ said_for form x.head.method x.asked x.steps
 
 -- refusals and answers that need no step make none, and a request has its whole reply
 abbrev pub Answers : Result Request Direct → List Step → Type 0
@@ -209,13 +212,13 @@ last_steps (Closing x) = x.steps
 last_steps (Broken x) = x.steps
 last_steps _ = []
 
-abbrev pub last_said : Last → List ℕ
-last_said (Closing x) = said_in x
-last_said (Unread fault) = refusal refused.Bytes
-last_said (BadBody head fault) = go_on_of head ++ refusal refused.Bytes
-last_said (Announced head) = go_on_of head
-last_said (Broken x) = said_in x
-last_said _ = []
+abbrev pub last_said : RefusalForm → Last → List ℕ
+last_said form (Closing x) = said_in form x
+last_said form (Unread fault) = refusal form refused.Bytes
+last_said form (BadBody head fault) = go_on_of head ++ refusal form refused.Bytes
+last_said form (Announced head) = go_on_of head
+last_said form (Broken x) = said_in form x
+last_said form _ = []
 
 -- what it is among the bytes that were still ahead
 abbrev pub IsLast : Last → List ℕ → Type 0
@@ -268,14 +271,14 @@ module _ (gives : Head → List ℕ → Option Ready → Type 0) where
   abbrev pub AreAnswered : List Exchange → Type 0
   AreAnswered xs = Every (λ x. IsDecided gives x × Answers x.asked x.steps × (x.head.close ≡ false)) xs
 
-module _ (gives : Head → List ℕ → Option Ready → Type 0) (rests : CoreEvent → Type 0) where
+module _ (form : RefusalForm) (gives : Head → List ℕ → Option Ready → Type 0) (rests : CoreEvent → Type 0) where
   -- a request was read and answered whole
   pub record Exchanged (left left' : Option (List ℕ)) (made made' : Option (List Step)) (written written' : Option (List ℕ)) (x : Exchange) : Type 0 where
     pub read : Ahead (IsRequest x.head x.body) left left'
     pub decided : IsDecided gives x
     pub answers : Answers x.asked x.steps
     pub did : Did rests made made' x.steps
-    pub said : Appends written written' (said_in x)
+    pub said : Appends written written' (said_in form x)
 
   -- such a request, and the connection goes on
   abbrev pub GoesOn : Option (List ℕ) → Option (List ℕ) → Option (List Step) → Option (List Step) → Option (List ℕ) → Option (List ℕ) → Type 0
@@ -287,20 +290,20 @@ module _ (gives : Head → List ℕ → Option Ready → Type 0) (rests : CoreEv
     pub read : Ahead (Requests whole) left left'
     pub answered : AreAnswered gives whole
     pub did : Did rests made made' (flat_map (λ x. x.steps) whole)
-    pub said : Appends written written' (flat_map said_in whole)
+    pub said : Appends written written' (flat_map (said_in form) whole)
 
-module _ (gives : Head → List ℕ → Option Ready → Type 0) (rests : CoreEvent → Type 0) (worn : Type 0) where
+module _ (form : RefusalForm) (gives : Head → List ℕ → Option Ready → Type 0) (rests : CoreEvent → Type 0) (worn : Type 0) where
   -- the connection ended
   pub record Ends (left : Option (List ℕ)) (made made' : Option (List Step)) (written written' : Option (List ℕ)) (end : SessionEnd) : Type 0 where
     pub last : Last
     pub suits : Suits gives worn end last
     pub is_last : IfSome left (IsLast last)
     pub did : Did rests made made' (last_steps last)
-    pub said : Said end written written' (last_said last)
+    pub said : Said end written written' (last_said form last)
 
   -- one request, and how it goes on
   abbrev pub Turned : Option (List ℕ) → Option (List ℕ) → Option (List Step) → Option (List Step) → Option (List ℕ) → Option (List ℕ) → Option SessionEnd → Type 0
-  Turned left left' made made' written written' None = GoesOn gives rests left left' made made' written written'
+  Turned left left' made made' written written' None = GoesOn form gives rests left left' made made' written written'
   Turned left left' made made' written written' (Some end) = Ends left made made' written written' end
 
   -- A whole connection. `left` are the bytes that the source had to give.
@@ -311,4 +314,4 @@ module _ (gives : Head → List ℕ → Option Ready → Type 0) (rests : CoreEv
     pub answered : AreAnswered gives whole
     pub suits : Suits gives worn end last
     pub did : Did rests made made' (flat_map (λ x. x.steps) whole ++ last_steps last)
-    pub said : Said end written written' (flat_map said_in whole ++ last_said last)
+    pub said : Said end written written' (flat_map (said_in form) whole ++ last_said form last)

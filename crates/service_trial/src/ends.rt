@@ -3,9 +3,10 @@ ghost use Rattle.std.specs.Prelude.{None};
 use crate::board::Board;
 use crate::link::TrialLink;
 use crate::plan::Plan;
-use etcd_types::NoMemory;
+use etcd_types::{Bytes, Header, NoMemory};
+use http_talk::{OwnMember, Ready};
 use outside::{Failed, MemSource, SeededDraw, Sink, SystemClock, WriteMark};
-use part_threads::Ends;
+use part_threads::{Ends, Lookout};
 use std::alloc::Global;
 use std::random::RandomSource;
 use std::rt::Clock as Times;
@@ -110,7 +111,25 @@ impl<R: Times + Wait + RandomSource + Drop + Copy + Send + 'static> Ends for Tri
         true
     }
 
-    fn open(&self, client: u32) -> Result<(MemSource, TrialSink<R>), NoMemory> {
+    fn own(&self) -> Result<Arc<OwnMember, Global>, NoMemory> {
+        let name = Bytes::from_slice(self.alloc, b"trial")?;
+        let url = Bytes::from_slice(self.alloc, b"http://here:1")?;
+        Ok(Arc::new(self.alloc, OwnMember { name, url })?)
+    }
+
+    fn newest(&self) -> Option<Header> {
+        None
+    }
+
+    fn status(&self, _body: &[u8]) -> Result<Option<Ready>, NoMemory> {
+        Ok(None)
+    }
+
+    fn open(
+        &self,
+        client: u32,
+        _clock: &SystemClock<R>,
+    ) -> Result<(MemSource, TrialSink<R>), NoMemory> {
         let asked = Vec::from_slice(self.alloc, self.board.plan.asked())?;
         let mut failing = Vec::new(self.alloc);
         if let Plan::FailedRead(read) = self.board.plan {
@@ -129,4 +148,6 @@ impl<R: Times + Wait + RandomSource + Drop + Copy + Send + 'static> Ends for Tri
     fn close(&self, _source: MemSource, _sink: TrialSink<R>) {
         self.board.note_end();
     }
+
+    fn shown(&self, _lookout: Lookout) {}
 }

@@ -6,7 +6,7 @@ use crate::plan::Plan;
 use crate::settings::{clients, service};
 use crate::starts::{Fails, started};
 use etcd_types::NoMemory;
-use outside::{MemHost, Spawner};
+use outside::{MemHost, MemSink, Spawner};
 use proxy_parts::Place;
 use proxy_service::serve;
 use std::alloc::Global;
@@ -30,7 +30,16 @@ pub(crate) fn serve_clients<R: Wait + Times, P: Spawner<Pass = Place, Conn = u32
 ) -> Result<(), NoMemory> {
     let clients = clients(alloc, board.plan.clients())?;
     let mut host = MemHost::new(alloc, clients, Vec::new(alloc));
-    let _ = serve(rt, alloc, service(alloc)?, &mut host, spawner);
+    let mut errors = MemSink::new(alloc, usize::MAX, Vec::new(alloc));
+    let _ = serve(
+        rt,
+        alloc,
+        service(alloc)?,
+        &mut host,
+        spawner,
+        b"",
+        &mut errors,
+    );
     for _ in 0..LOOKS {
         if board.is_over(rt) {
             break;

@@ -2,6 +2,7 @@ ghost use Rattle.std.specs.Prelude.{◌≡◌, IfOk, length};
 
 use core_model::Settings;
 use etcd_types::{Bytes, List, NoMemory};
+use proxy_parts::RefusalForm;
 use proxy_service::Service;
 use std::alloc::Global;
 
@@ -23,6 +24,7 @@ pub(crate) fn service(alloc: Global) -> Result<Service, NoMemory>
         listen: Bytes::from_slice(alloc, b"here:1")?,
         workers: 2,
         message_limit: 8_388_608,
+        form: RefusalForm::Mapping,
     })
 }
 

@@ -1,6 +1,6 @@
 use crate::settings::{clients, service};
 use etcd_types::NoMemory;
-use outside::{MemHost, MemSpawner};
+use outside::{MemHost, MemSink, MemSpawner};
 use proxy_parts::Place;
 use proxy_service::{ServeEnd, serve};
 use std::alloc::Global;
@@ -35,6 +35,16 @@ pub(crate) fn started<R: Wait>(
         host = host.stopping();
     }
     let mut spawner: MemSpawner<Place, u32> = MemSpawner::new(alloc, starts);
-    let end = serve(rt, alloc, service(alloc)?, &mut host, &mut spawner);
+    let mut errors = MemSink::new(alloc, usize::MAX, Vec::new(alloc));
+    let line = b"serving\n";
+    let end = serve(
+        rt,
+        alloc,
+        service(alloc)?,
+        &mut host,
+        &mut spawner,
+        line,
+        &mut errors,
+    );
     Ok((end, spawner.parts().len()))
 }

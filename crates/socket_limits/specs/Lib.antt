@@ -1,3 +1,4 @@
 pub mod Limits
+pub mod Room
 pub mod Times
 pub mod Transfers

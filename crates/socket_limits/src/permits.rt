@@ -1,4 +1,5 @@
 ghost use Rattle.std.specs.Prelude.{◌≡◌};
+ghost use Rattle.socket_limits.specs.declared.uploads.TheConstants.{BYTES};
 
 use crate::times::Until;
 use crate::uploads::{BYTES, Uploads};
@@ -20,26 +21,26 @@ pub struct Permits {
     pub uploads: Uploads,
 }
 
-/// They are seen as how many there are in all.
+/// They are seen as how many there are in all, and how many bytes large requests may have in all.
 impl Model for Permits {
-    ghost use Rattle.std.specs.Prelude.{ℕ};
+    ghost use Rattle.socket_limits.specs.Room.{Room};
 
-    ghost Value = { ℕ };
+    ghost Value = { Room };
 
-    ghost view = { λ p. p.count };
+    ghost view = { λ p. record { permits = p.count; bytes = p.uploads } };
 }
 
 impl Permits {
     /// So many permits, all free.
     pub fn new(alloc: Global, count: u64) -> Permits
-        ensures { result ≡ count }
+        ensures { result ≡ record { permits = count; bytes = BYTES } }
     {
         Permits::of_bytes(alloc, count, BYTES)
     }
 
     /// So many permits, all free, where large requests may have so many bytes in all.
     pub fn of_bytes(alloc: Global, count: u64, bytes: u64) -> Permits
-        ensures { result ≡ count }
+        ensures { result ≡ record { permits = count; bytes = bytes } }
     {
         Permits {
             count,

@@ -17,8 +17,9 @@ use std::time::Duration;
 pub fn is_near(limit: Duration, left: Duration) -> bool
     ensures within { IsTrue result → as_nanos limit ≤ as_nanos left }
     ensures twice { IsTrue result → as_nanos left / 1_000_000 ≤ as_nanos limit / 1_000_000 * 2 }
+    ensures near { as_nanos limit ≤ as_nanos left → as_nanos left / 1_000_000 ≤ as_nanos limit / 1_000_000 * 2 → IsTrue result }
 {
-    limit <= left && left.as_millis() <= limit.as_millis().saturating_mul(2)
+    limit.as_nanos() <= left.as_nanos() && left.as_millis() <= limit.as_millis().saturating_mul(2)
 }
 
 /// Whether a transfer is to be tried again: it was interrupted, or the socket's limit is over, which may be shorter than what

@@ -18,3 +18,4 @@ IsWithin mark.Head = ⊥
 IsWithin mark.Body = ⊥
 IsWithin (mark.Request kind) = Unit {0}
 IsWithin mark.Message = Unit {0}
+IsWithin mark.Rest = Unit {0}

@@ -5,6 +5,8 @@ use crate::door::Client;
 use crate::phase::Phase;
 use crate::sink::SocketSink;
 use crate::source::SocketSource;
+use crate::tallies::Counted;
+use crate::tally::Tally;
 use etcd_types::NoMemory;
 use socket_limits::{ConnectionLimits, Permits, Until, Upload, receive};
 use std::alloc::Global;
@@ -34,6 +36,8 @@ pub(crate) struct Shared {
     permits: Arc<Permits, Global>,
     // where it counts as one of those that there may be
     place: Option<Place>,
+    // what is counted of it, where anything is
+    tallied: Option<Counted>,
 }
 
 impl Shared {
@@ -44,6 +48,14 @@ impl Shared {
             self.holds.store(true, SeqCst);
         }
         Ok(())
+    }
+
+    /// What is counted of the connection, where anything is.
+    pub(crate) fn tally(&self) -> Option<&Tally> {
+        match &self.tallied {
+            Some(counted) => Some(&counted.tally),
+            None => None,
+        }
     }
 
     /// Whether connections at rest are to make room soon.
@@ -104,6 +116,7 @@ impl Drop for Shared {
             counted: _,
             permits: _permits,
             place: _place,
+            tallied: _tallied,
         } = self;
     }
 }
@@ -144,6 +157,7 @@ pub fn ends_within<R: Drop>(
         counted: AtomicU64::new(0),
         permits,
         place: client.place,
+        tallied: client.counted,
     };
     let shared = Arc::new(alloc, shared)?;
     let other = Arc::try_clone(&shared)?;
@@ -159,6 +173,7 @@ pub fn ends_within<R: Drop>(
         limit: Duration::ZERO,
         halt: None,
         served: None,
+        heads: None,
         faults: 0,
     };
     let sink = SocketSink {

@@ -2,6 +2,7 @@ ghost use Rattle.std.specs.Prelude.{◌≡◌, ◌<◌, IsSome};
 ghost use Rattle.std.specs.Arc.{arc_value};
 
 use crate::budget::{Budget, Place};
+use crate::tallies::Counted;
 use etcd_types::Bytes;
 use std::alloc::Global;
 use std::io::Write;
@@ -15,6 +16,18 @@ pub struct Client {
     pub(crate) stream: TcpStream,
     /// Where it counts as one of those that there may be.
     pub(crate) place: Option<Place>,
+    /// What is counted of it, where anything is.
+    pub(crate) counted: Option<Counted>,
+}
+
+impl Client {
+    /// The same connection, of which this is counted.
+    pub fn counted(self, counted: Counted) -> Client {
+        Client {
+            counted: Some(counted),
+            ..self
+        }
+    }
 }
 
 impl From<TcpStream> for Client {
@@ -23,6 +36,7 @@ impl From<TcpStream> for Client {
         Client {
             stream,
             place: None,
+            counted: None,
         }
     }
 }
@@ -101,6 +115,7 @@ impl Door {
             Some(place) => Some(Client {
                 stream,
                 place: Some(place),
+                counted: None,
             }),
             None => {
                 self.refuse(rt, stream);

@@ -10,7 +10,7 @@ use state_file::Sessions;
 use std::alloc::Global;
 use std::io::ErrorKind;
 use std::marker::Model;
-use std::net::{Net, TcpListener, TcpStream};
+use std::net::{Ipv4Addr, Ipv6Addr, Net, TcpListener, TcpStream};
 use std::rt::Clock as Times;
 use std::sync::{Arc, Wait};
 use std::time::Duration;
@@ -111,6 +111,25 @@ fn passes(error: &io::Error) -> bool {
         error.raw_os_error(),
         Some(4 | 11 | 12 | 23 | 24 | 64 | 71 | 92 | 95 | 100 | 101 | 103 | 105 | 112 | 113)
     )
+}
+
+/// Listens on an address. At a port alone it does at all addresses of the machine: at those of IPv6, among which the system counts those of
+/// IPv4, or at these where it has no others.
+fn listener_at<R: Net<Listener = TcpListener, Stream = TcpStream>>(
+    rt: &R,
+    address: &str,
+) -> io::Result<TcpListener> {
+    let Some(port) = address.strip_prefix(':') else {
+        return TcpListener::bind(rt, address);
+    };
+    let Ok(port) = port.parse::<u16>() else {
+        return Err(io::Error::from(ErrorKind::InvalidInput));
+    };
+    match TcpListener::bind(rt, (Ipv6Addr::UNSPECIFIED, port)) {
+        Ok(listener) => Ok(listener),
+        Err(error) if error.kind() == ErrorKind::AddrInUse => Err(error),
+        Err(_) => TcpListener::bind(rt, (Ipv4Addr::UNSPECIFIED, port)),
+    }
 }
 
 /// The next connection. It waits while accepts fail in passing.
@@ -242,7 +261,7 @@ impl<R: Net<Listener = TcpListener, Stream = TcpStream> + Wait + Times + Eprint 
     fn hear(&mut self, address: &str) -> io::Result<()>
         ensures { self.new.faults ≡ self.old.faults }
     {
-        let listener = TcpListener::bind(&self.rt, address)?;
+        let listener = listener_at(&self.rt, address)?;
         if let Some(halt) = &self.halt {
             halt.listens(&self.rt, listener.local_addr().ok());
         }

@@ -34,7 +34,7 @@ impl Phase {
         match mark {
             ReadMark::Head => Phase::Due,
             ReadMark::Body => Phase::Between,
-            ReadMark::Request(_) | ReadMark::Message => self,
+            ReadMark::Request(_) | ReadMark::Message | ReadMark::Rest => self,
         }
     }
 }

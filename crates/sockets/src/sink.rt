@@ -99,10 +99,18 @@ impl<R: Times + Drop> Sink for SocketSink<R> {
         Err(Failed)
     }
 
-    /// A request that is replied to needs no permit any more.
+    /// A request that is replied to needs no permit any more. What is written is counted, where anything is.
     fn mark(&mut self, mark: WriteMark) {
         if let WriteMark::Reply(_) = mark {
             self.shared.release();
+        }
+        if let Some(tally) = self.shared.tally() {
+            match mark {
+                WriteMark::Continue => {}
+                WriteMark::Reply(status) => tally.replied(status),
+                WriteMark::Message => tally.told(),
+                WriteMark::Events(count) => tally.sent(count),
+            }
         }
     }
 }

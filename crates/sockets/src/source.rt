@@ -5,6 +5,7 @@ ghost use Rattle.sockets.specs.Phases.{is_between};
 
 use crate::connection::Shared;
 use crate::halt::{Halt, Served};
+use crate::heads::Heads;
 use crate::phase::Phase;
 use outside::{Failed, ReadMark, RequestKind, Source};
 use socket_limits::{TRIES, Until, Upload, glance};
@@ -47,6 +48,8 @@ pub struct SocketSource<R: Drop> {
     /// By what it is told to read no further request, where anybody may tell it so; and that one is being served.
     pub(crate) halt: Option<Arc<Halt, Global>>,
     pub(crate) served: Option<Served>,
+    /// What is told of the heads that come, where anything is.
+    pub(crate) heads: Option<Arc<Heads, Global>>,
     pub(crate) faults: u64,
 }
 
@@ -57,6 +60,16 @@ impl<R: Drop> SocketSource<R> {
     {
         SocketSource {
             halt: Some(halt),
+            ..self
+        }
+    }
+
+    /// The same source, of whose first request it is told what is told of heads.
+    pub fn telling(self, heads: Arc<Heads, Global>) -> SocketSource<R>
+        ensures { result ≡ self }
+    {
+        SocketSource {
+            heads: Some(heads),
             ..self
         }
     }
@@ -77,7 +90,7 @@ fn is_next_near(phase: Phase, began: u64, written: u64) -> bool
     phase.is_between() && began == written
 }
 
-impl<R: Wait + Times + Drop> SocketSource<R> {
+impl<R: Wait + Times + Eprint + Drop> SocketSource<R> {
     // How long the next read may wait. A body has its limit from its first read on.
     fn left(&mut self) -> io::Result<Duration>
         ensures some { IfOk result (λ left. 0 < as_nanos left) }
@@ -116,6 +129,13 @@ impl<R: Wait + Times + Drop> SocketSource<R> {
         self.began = until.end.saturating_sub(limit);
         self.phase = Phase::Head(until);
         Ok(until)
+    }
+
+    // Looks at the first piece of the first request.
+    fn look(&self, piece: &[u8]) {
+        if let (Some(heads), 0) = (&self.heads, self.began) {
+            heads.look(&self.rt, piece);
+        }
     }
 
     // Notes that so many bytes came, and waits for room for those of a large request.
@@ -164,6 +184,9 @@ impl<R: Wait + Times + Drop> SocketSource<R> {
         if !self.phase.is_between() {
             return false;
         }
+        if let Some(tally) = self.shared.tally() {
+            tally.rests();
+        }
         self.served = None;
         match &self.halt {
             Some(halt) => halt.stops(),
@@ -191,12 +214,13 @@ impl<R: Wait + Times + Drop> SocketSource<R> {
         }
         let mut stream = &*self.shared.stream;
         let count = stream.read(room)?;
+        self.look(&room[..count]);
         self.note(count)?;
         Ok(count)
     }
 }
 
-impl<R: Wait + Times + Drop> Source for SocketSource<R> {
+impl<R: Wait + Times + Eprint + Drop> Source for SocketSource<R> {
     ghost left = { λ s. None };
 
     ghost faults = { λ s. s.faults };
@@ -232,6 +256,9 @@ impl<R: Wait + Times + Drop> Source for SocketSource<R> {
 
     fn mark(&mut self, mark: ReadMark) {
         if let ReadMark::Request(kind) = mark {
+            if let Some(tally) = self.shared.tally() {
+                tally.asked(kind);
+            }
             self.watches = kind == RequestKind::Watch;
             if self.watches {
                 self.served = None;

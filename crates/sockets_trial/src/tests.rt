@@ -1,4 +1,5 @@
 mod calls;
+mod counted;
 mod ends;
 mod forgotten;
 mod health;

@@ -1,5 +1,5 @@
 -- What clap's refusal of the words is told as.
-use Rattle.std.proofs.Common.{◌≡◌, List, Result, Ok, Err, inl, inr, subst}
+use Rattle.std.proofs.Common.{List, Err, inl, inr, subst}
 use Rattle.clap.specs.Faults.{fault_of}
 use Rattle.clap.specs.Kinds.{HasKind, IsAmong}
 use Rattle.clap.specs.Values.{kind_of}

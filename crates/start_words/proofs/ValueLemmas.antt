@@ -1,5 +1,5 @@
 -- What was taken of a word with commas, and what is left of it.
-use Rattle.std.proofs.Common.{◌≡◌, ◌∙◌, ◌++◌, ℕ, List, [], ◌∷◌, Result, Ok, Err, ap, sym, refl, append_assoc, append-nil}
+use Rattle.std.proofs.Common.{◌≡◌, ◌∙◌, ◌+◌, ◌++◌, ℕ, List, [], ◌∷◌, length, Result, Ok, Err, ap, sym, refl, arith, append_assoc, append-nil, length-append}
 use Rattle.clap.specs.Walk.{Text, first_of, rows_of}
 use Rattle.clap.specs.Matches.{first_value}
 use Rattle.clap.specs.declared.parser.matches.Found.{Found}
@@ -29,6 +29,13 @@ pub goes_on : (front : List (List ℕ)) (word address : List ℕ) (more : List (
     → behind (front ++ address ∷ []) (each_endpoint more) ≡ behind front (each_endpoint (word ∷ more))
 goes_on front word address more is =
     sym (ap (λ r. behind front (and_then r (λ address. and_then (each_endpoint more) (λ addresses. Ok (address ∷ addresses))))) is ∙ behind_one front address (each_endpoint more))
+
+pub counted_on : (front new : List (List ℕ)) (address : List ℕ) (words more : List (List ℕ)) (word : List ℕ) (all : ℕ) → new ≡ front ++ address ∷ [] → words ≡ word ∷ more
+    → length front + length words ≡ all → length new + length more ≡ all
+counted_on front new address words more word all n w e =
+    let longer = ap (λ (l : List (List ℕ)). length l) n ∙ length-append front (address ∷ []) in
+    let shorter = ap (λ (l : List (List ℕ)). length l) w in
+    omega (arith, longer, shorter, e)
 
 pub ends : (front : List (List ℕ)) → behind front (each_endpoint []) ≡ Ok front
 ends front = ap Ok (append-nil front)

@@ -1,3 +1,4 @@
+pub mod Further
 pub mod Reads
 pub mod Start
 pub mod Texts

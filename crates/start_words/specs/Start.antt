@@ -1,22 +1,23 @@
--- What the words of `grpc-proxy start` name: nine options, each of them given at most once, with the value that follows it or that
--- is its own where it isn't given; one of them has no value. Words become options by the rules of clap; the options are those of etcd's
--- grpc-proxy manual, as far as they are served here, and six more: the leasing prefix, workers, the session's time to live, the limit of a
--- message of a watch, the file of the sessions' numbers, and whether the server stops at the end of its input.
-use Rattle.std.specs.Prelude.{◌≡◌, Bool, bytes_eq, ℕ, ◌≤◌, List, [], ◌∷◌, length, Option, Some, None, unwrap_or, Result, Ok, Err, codes, nat_lt, if◌then◌else◌, true, ⊤}
+-- What the words of `grpc-proxy start` name: twelve options, each of them given at most once, with the value that follows it or that
+-- is its own where it isn't given; two of them have no value. Words become options by the rules of clap; the options are those of etcd's
+-- grpc-proxy manual, as far as they are served here, and eight more: the leasing prefix, workers, the session's time to live, the limit of a
+-- message of a watch, the file of the sessions' numbers, whether the server stops at the end of its input, how refusals are written, and where
+-- figures are shown.
+use Rattle.std.specs.Prelude.{◌≡◌, ◌==◌, ◌||◌, Bool, bytes_eq, ℕ, ◌≤◌, List, [], ◌∷◌, length, Option, Some, None, unwrap_or, Result, Ok, Err, codes, nat_lt, if◌then◌else◌, true, ⊤}
 use Rattle.text_model.specs.Texts.{words}
 use Rattle.clap.specs.Walk.{Row, Rule, Text, first_of}
 use Rattle.clap.specs.Simple.{App, matches_of, new_app, new_rule, on_top, with_rule}
 use Rattle.clap.specs.Faults.{fault_of}
-use Rattle.clap.specs.Kinds.{IsAmong}
 use Rattle.clap.specs.declared.builder.action.ArgAction.TheVariants.{Set, SetTrue}
 use Rattle.start_words.specs.declared.fault.Cause.{Cause}
 use Rattle.start_words.specs.declared.fault.Cause.TheVariants.{NotAnAddress, NotANumber, TooMany}
 use Rattle.start_words.specs.declared.fault.StartOption.{StartOption}
-use Rattle.start_words.specs.declared.fault.StartOption.TheVariants.{Endpoints, ListenAddr, Workers, SessionTtl, MessageLimit}
+use Rattle.start_words.specs.declared.fault.StartOption.TheVariants.{Endpoints, ListenAddr, Workers, SessionTtl, MessageLimit, MetricsAddr}
 use Rattle.start_words.specs.declared.settings.StartSettings.{StartSettings}
 use Rattle.start_words.specs.declared.wrong.Wrong.{Wrong}
 use Rattle.start_words.specs.declared.wrong.ValueFault.{ValueFault}
 use Rattle.start_words.specs.declared.wrong.ValueFault.TheVariants as fault
+use Rattle.start_words.specs.Further.{is_further_listen, further_endpoint_of}
 use Rattle.start_words.specs.Values.{endpoint_of, is_address, number_in}
 
 -- ---- the options
@@ -60,12 +61,24 @@ end_rules =
     ∷ flag_rule (codes "stop-at-end")
     ∷ []
 
+-- the address that clients are told to come to, and whether refusals are written as etcd's own gateway has them
+abbrev pub client_rules : List Rule
+client_rules =
+    default_rule (codes "advertise-client-url") []
+    ∷ flag_rule (codes "etcd-errors")
+    ∷ []
+
+-- where nothing is given, figures are shown nowhere
+abbrev pub metrics_rules : List Rule
+metrics_rules = default_rule (codes "metrics-addr") [] ∷ []
+
 -- the words are those behind `start`
 abbrev pub bare_app : App
 bare_app = on_top (λ s. record s { no_binary_name = true }) (new_app (codes "start"))
 
 abbrev pub start_app : App
-start_app = with_rules (with_rules (with_rules bare_app place_rules) more_rules) end_rules
+start_app =
+    with_rules (with_rules (with_rules (with_rules (with_rules bare_app place_rules) more_rules) end_rules) client_rules) metrics_rules
 
 -- ---- their values
 
@@ -81,8 +94,13 @@ abbrev pub endpoint_by : List ℕ → Result (List ℕ) Cause → Result (List �
 endpoint_by word (Ok address) = Ok address
 endpoint_by word (Err cause) = Err (wrong Endpoints word cause)
 
+-- a word that isn't `host:port` may be an address of another form
+unfoldable pub endpoint_or_further : List ℕ → Result (List ℕ) Cause → Result (List ℕ) Cause
+endpoint_or_further word (Err NotAnAddress) = further_endpoint_of word
+endpoint_or_further word other = other
+
 abbrev pub endpoint : List ℕ → Result (List ℕ) Wrong
-endpoint word = endpoint_by word (endpoint_of word)
+endpoint word = endpoint_by word (endpoint_or_further word (endpoint_of word))
 
 abbrev pub each_endpoint : List (List ℕ) → Result (List (List ℕ)) Wrong
 each_endpoint [] = Ok []
@@ -95,7 +113,10 @@ endpoints_of word =
     if nat_lt 9 (length (words 44 word)) then Err (wrong Endpoints word TooMany) else each_endpoint (words 44 word)
 
 abbrev pub listen_of : List ℕ → Result (List ℕ) Wrong
-listen_of word = if is_address word then Ok word else Err (wrong ListenAddr word NotAnAddress)
+listen_of word = if is_address word || is_further_listen word then Ok word else Err (wrong ListenAddr word NotAnAddress)
+
+abbrev pub metrics_of : List ℕ → Result (List ℕ) Wrong
+metrics_of word = if (length word == 0) || is_address word then Ok word else Err (wrong MetricsAddr word NotAnAddress)
 
 abbrev pub number_by : StartOption → ℕ → ℕ → List ℕ → Option ℕ → Result ℕ Wrong
 number_by option low high word (Some number) = Ok number
@@ -119,6 +140,7 @@ settings_of rows =
     and_then (number_of Workers 1 64 (value_of (codes "workers") rows)) (λ workers.
     and_then (number_of SessionTtl 5 3600 (value_of (codes "session-ttl") rows)) (λ ttl.
     and_then (number_of MessageLimit 8 64 (value_of (codes "message-limit") rows)) (λ message.
+    and_then (metrics_of (value_of (codes "metrics-addr") rows)) (λ metrics.
     Ok (record {
       endpoints = endpoints;
       listen = listen;
@@ -129,7 +151,10 @@ settings_of rows =
       message_limit = message;
       state_file = value_of (codes "state-file") rows;
       stop_at_end = is_set (codes "stop-at-end") rows;
-    }))))))
+      advertise = value_of (codes "advertise-client-url") rows;
+      etcd_errors = is_set (codes "etcd-errors") rows;
+      metrics = metrics;
+    })))))))
 
 -- the counts that they have
 pub record Within (s : StartSettings) : Type 0 where

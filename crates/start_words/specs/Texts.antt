@@ -4,8 +4,7 @@ use Rattle.std.specs.Fmt.{decimal}
 use Rattle.start_words.specs.declared.fault.Cause.{Cause}
 use Rattle.start_words.specs.declared.fault.Cause.TheVariants.{NotAnAddress, IsSecure, TooMany, NotANumber}
 use Rattle.start_words.specs.declared.fault.StartOption.{StartOption}
-use Rattle.start_words.specs.declared.fault.StartOption.TheVariants.{Endpoints, ListenAddr, Workers, SessionTtl, MessageLimit}
-use Rattle.start_words.specs.declared.settings.StartSettings.{StartSettings}
+use Rattle.start_words.specs.declared.fault.StartOption.TheVariants.{Endpoints, ListenAddr, Workers, SessionTtl, MessageLimit, MetricsAddr}
 use Rattle.start_words.specs.declared.wrong.Wrong.{Wrong}
 
 abbrev pub option_text : StartOption → List ℕ
@@ -14,6 +13,7 @@ option_text ListenAddr = codes "--listen-addr"
 option_text Workers = codes "--workers"
 option_text SessionTtl = codes "--session-ttl"
 option_text MessageLimit = codes "--message-limit"
+option_text MetricsAddr = codes "--metrics-addr"
 
 abbrev pub cause_text : Cause → List ℕ
 cause_text NotAnAddress = codes "not HOST:PORT"

@@ -1,6 +1,6 @@
 -- The values of the options of `grpc-proxy start`: addresses as `host:port`, the endpoints of a cluster, and numbers in a range.
 -- The options are those of etcd's grpc-proxy manual, as far as they are served here.
-use Rattle.std.specs.Prelude.{ℕ, ◌+◌, ◌==◌, ◌&&◌, ◌||◌, not, Bool, false, List, [], ◌∷◌, length, take, drop, Option, Some, None, is_some, eqb, Result, Ok, Err, if◌then◌else◌, codes}
+use Rattle.std.specs.Prelude.{ℕ, ◌+◌, ◌==◌, ◌&&◌, ◌||◌, not, Bool, false, List, length, take, drop, Option, Some, None, is_some, eqb, Result, Ok, Err, if◌then◌else◌, codes}
 use Rattle.std.specs.List.{starts_with, position, list_all}
 use Rattle.std.specs.Fmt.{decimal}
 use Rattle.std.specs.Str.Parse.{digits_value}

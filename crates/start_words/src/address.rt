@@ -13,13 +13,13 @@ pub(crate) fn number_in(word: &[u8], low: u64, high: u64) -> Option<u64>
     number_of(word, low, high)
 }
 
-fn is_port(word: &[u8]) -> bool
+pub(crate) fn is_port(word: &[u8]) -> bool
     ensures { result ≡ spec.is_port word.now }
 {
     number_in(word, 1, 65_535).is_some()
 }
 
-fn is_host_byte(byte: u8) -> bool
+pub(crate) fn is_host_byte(byte: u8) -> bool
     ensures { result ≡ spec.is_host_byte byte }
 {
     byte.is_ascii_alphanumeric() || byte == b'-' || byte == b'.'
@@ -38,7 +38,7 @@ fn is_host(word: &[u8]) -> bool
 }
 
 /// Where the first colon of a word stands.
-fn colon(word: &[u8]) -> Option<usize>
+pub(crate) fn colon(word: &[u8]) -> Option<usize>
     ensures within { IfSome result (λ end. end < length word.now) }
     ensures place { result ≡ position (λ b. b == 58) word.now }
 {
@@ -56,7 +56,7 @@ pub(crate) fn is_address(word: &[u8]) -> bool
 }
 
 /// Whether a word begins with these bytes.
-fn begins(front: &[u8], word: &[u8]) -> bool
+pub(crate) fn begins(front: &[u8], word: &[u8]) -> bool
     ensures { result ≡ spec.begins front.now word.now }
 {
     word.starts_with(front)

@@ -8,6 +8,7 @@ pub enum StartOption {
     Workers,
     SessionTtl,
     MessageLimit,
+    MetricsAddr,
 }
 
 impl fmt::Display for StartOption {
@@ -23,6 +24,7 @@ impl fmt::Display for StartOption {
             StartOption::Workers => "--workers",
             StartOption::SessionTtl => "--session-ttl",
             StartOption::MessageLimit => "--message-limit",
+            StartOption::MetricsAddr => "--metrics-addr",
         })
     }
 }

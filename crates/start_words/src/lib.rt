@@ -3,6 +3,8 @@
 
 mod address;
 mod fault;
+mod further;
+mod metrics;
 mod options;
 mod read;
 mod settings;

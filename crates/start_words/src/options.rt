@@ -128,9 +128,9 @@ fn with_calls<'a>(alloc: Global) -> Result<Command<'a>, AllocError>
     Ok(with_option(command, message)?)
 }
 
-/// The command behind the word `start`.
-pub(crate) fn start_command<'a>(alloc: Global) -> Result<Command<'a>, AllocError>
-    ensures { IfOk result (λ command. app_of command ≡ spec.start_app) }
+/// The same, with how sessions and the server end.
+fn with_ends<'a>(alloc: Global) -> Result<Command<'a>, AllocError>
+    ensures { IfOk result (λ command. app_of command ≡ spec.with_rules (spec.with_rules (spec.with_rules spec.bare_app spec.place_rules) spec.more_rules) spec.end_rules) }
 {
     let state = option(
         alloc,
@@ -147,4 +147,40 @@ pub(crate) fn start_command<'a>(alloc: Global) -> Result<Command<'a>, AllocError
     let command = with_calls(alloc)?;
     let command = with_option(command, state)?;
     Ok(with_option(command, stop)?)
+}
+
+/// The same, with what clients are told.
+fn with_clients<'a>(alloc: Global) -> Result<Command<'a>, AllocError>
+    ensures { IfOk result (λ command. app_of command ≡ spec.with_rules (spec.with_rules (spec.with_rules (spec.with_rules spec.bare_app spec.place_rules) spec.more_rules) spec.end_rules) spec.client_rules) }
+{
+    let advertise = option(
+        alloc,
+        "advertise-client-url",
+        "URL",
+        "Where clients are told to come; none: where they are served",
+    );
+    let advertise = with_default(advertise, "");
+    let errors = flag(
+        alloc,
+        "etcd-errors",
+        "Writes refusals as etcd does, with a field `error`",
+    );
+    let command = with_ends(alloc)?;
+    let command = with_option(command, advertise)?;
+    Ok(with_option(command, errors)?)
+}
+
+/// The command behind the word `start`.
+pub(crate) fn start_command<'a>(alloc: Global) -> Result<Command<'a>, AllocError>
+    ensures { IfOk result (λ command. app_of command ≡ spec.start_app) }
+{
+    let metrics = option(
+        alloc,
+        "metrics-addr",
+        "HOST:PORT",
+        "Where figures of the proxy are shown; none: nowhere",
+    );
+    let metrics = with_default(metrics, "");
+    let command = with_clients(alloc)?;
+    Ok(with_option(command, metrics)?)
 }

@@ -9,6 +9,7 @@ ghost use Rattle.start_words.specs.Start.{Gives, Within, is_set, settings_of, st
 ghost use Rattle.start_words.specs.Reads.{Reads, IsRefusal};
 
 use crate::fault::StartOption;
+use crate::metrics::metrics_of;
 use crate::options::start_command;
 use crate::settings::StartSettings;
 use crate::start_fault::StartFault;
@@ -66,9 +67,11 @@ fn settings(alloc: Global, matches: &ArgMatches) -> Result<StartSettings, ValueF
         64,
         value(matches, "message-limit"),
     )?;
+    let metrics = metrics_of(alloc, value(matches, "metrics-addr"))?;
     let namespace = Bytes::from_slice(alloc, value(matches, "namespace"))?;
     let leasing = Bytes::from_slice(alloc, value(matches, "leasing-prefix"))?;
     let state_file = Bytes::from_slice(alloc, value(matches, "state-file"))?;
+    let advertise = Bytes::from_slice(alloc, value(matches, "advertise-client-url"))?;
     Ok(StartSettings {
         endpoints,
         listen,
@@ -79,6 +82,9 @@ fn settings(alloc: Global, matches: &ArgMatches) -> Result<StartSettings, ValueF
         message_limit,
         state_file,
         stop_at_end: is_set(matches, "stop-at-end"),
+        advertise,
+        etcd_errors: is_set(matches, "etcd-errors"),
+        metrics,
     })
 }
 

@@ -3,9 +3,9 @@ use etcd_types::{Bytes, List};
 /// What the words of `grpc-proxy start` name.
 #[derive(Debug, PartialEq, Eq, Drop)]
 pub struct StartSettings {
-    /// The addresses of the members, `host:port`, in the order of their numbers; 1 to 9.
+    /// The addresses of the members, `host:port` or of another form that is taken, in the order of their numbers; 1 to 9.
     pub endpoints: List<Bytes>,
-    /// The address on which clients are served, `host:port`.
+    /// The address on which clients are served, `host:port` or of another form that is taken.
     pub listen: Bytes,
     /// What stands before each client key in the cluster; empty for none.
     pub namespace: Bytes,
@@ -21,4 +21,10 @@ pub struct StartSettings {
     pub state_file: Bytes,
     /// Whether the server stops once the standard input has ended.
     pub stop_at_end: bool,
+    /// The address that clients are told to come to; empty for the one on which they are served.
+    pub advertise: Bytes,
+    /// Whether refusals are written as etcd's own gateway has them.
+    pub etcd_errors: bool,
+    /// The address on which figures are shown, `host:port`; empty for none.
+    pub metrics: Bytes,
 }

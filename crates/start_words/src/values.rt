@@ -1,8 +1,10 @@
-ghost use Rattle.std.specs.Prelude.{◌≡◌, ◌≤◌, IfOk, length};
+ghost use Rattle.std.specs.Prelude.{◌≡◌, ◌≤◌, IfOk, Ok, Err, MatchResult, length};
 ghost use Rattle.start_words.specs.Start as spec;
+ghost use Rattle.start_words.specs.Values.{endpoint_of};
 
 use crate::address::{endpoint_of, is_address, number_in};
 use crate::fault::{Cause, StartOption};
+use crate::further::{further_endpoint_of, is_further_listen};
 use crate::wrong::{ValueFault, Wrong};
 use etcd_types::{Bytes, List, NoMemory};
 use std::alloc::Global;
@@ -12,7 +14,7 @@ use text_words::Words;
 const MOST: usize = 9;
 
 /// The fault that the word of an option is.
-fn wrong(alloc: Global, option: StartOption, word: &[u8], cause: Cause) -> ValueFault
+pub(crate) fn wrong(alloc: Global, option: StartOption, word: &[u8], cause: Cause) -> ValueFault
     ensures { spec.IsFault (spec.wrong option word.now cause) result }
 {
     match Bytes::from_slice(alloc, word) {
@@ -25,11 +27,27 @@ fn wrong(alloc: Global, option: StartOption, word: &[u8], cause: Cause) -> Value
     }
 }
 
+/// The address of an endpoint, `host:port` or of another form that is taken.
+#[tactic(auto, unfolding(crate::specs::Start::endpoint_or_further))]
+fn address_of(word: &[u8]) -> Result<&[u8], Cause>
+    ensures { MatchResult result (λ address. spec.endpoint_or_further word.now (endpoint_of word.now) ≡ Ok address.now)
+        (λ cause. spec.endpoint_or_further word.now (endpoint_of word.now) ≡ Err cause) }
+{
+    match endpoint_of(word) {
+        Ok(address) => Ok(address),
+        Err(Cause::NotAnAddress) => match further_endpoint_of(word) {
+            Ok(address) => Ok(address),
+            Err(cause) => Err(cause),
+        },
+        Err(cause) => Err(cause),
+    }
+}
+
 /// The address of one endpoint.
 fn endpoint(alloc: Global, word: &[u8]) -> Result<Bytes, ValueFault>
     ensures { spec.Gives result (spec.endpoint word.now) }
 {
-    match endpoint_of(word) {
+    match address_of(word) {
         Ok(address) => Ok(Bytes::from_slice(alloc, address)?),
         Err(cause) => Err(wrong(alloc, StartOption::Endpoints, word, cause)),
     }
@@ -64,7 +82,7 @@ pub(crate) fn endpoints_of(alloc: Global, word: &[u8]) -> Result<List<Bytes>, Va
 pub(crate) fn listen_of(alloc: Global, word: &[u8]) -> Result<Bytes, ValueFault>
     ensures { spec.Gives result (spec.listen_of word.now) }
 {
-    if is_address(word) {
+    if is_address(word) || is_further_listen(word) {
         Ok(Bytes::from_slice(alloc, word)?)
     } else {
         Err(wrong(alloc, StartOption::ListenAddr, word, Cause::NotAnAddress))

@@ -1,5 +1,6 @@
 //! The numbers of the sessions that a process begins, in a file where one is named, so that the next process ends those that it left.
-ghost use Rattle.std.specs.Prelude.{◌≤◌, IfSome};
+ghost use Rattle.std.specs.Prelude.{◌≡◌, ◌≤◌, ◌++◌, [], true, false, IfSome, OnOk};
+ghost use Rattle.state_file.specs.Numbers.{IsKnown, IsAmong, with_room, with_begun, without};
 
 use socket_limits::TRIES;
 use std::alloc::Global;
@@ -111,6 +112,20 @@ fn opened<R: Files<File = File>>(
 }
 
 impl Known {
+    // None, and no file.
+    fn new(alloc: Global) -> Known
+        ensures none { (result.left.items ≡ []) × (result.begun.items ≡ []) × (result.is_closed ≡ false) }
+    {
+        Known {
+            alloc,
+            file: None,
+            fault: None,
+            left: Vec::new(alloc),
+            begun: Vec::new(alloc),
+            is_closed: false,
+        }
+    }
+
     // The lines of all numbers.
     fn text(&self) -> io::Result<Vec<u8>> {
         let mut text = Vec::new(self.alloc);
@@ -122,7 +137,9 @@ impl Known {
     }
 
     // Has the file hold what is known. Bytes are written over those of before, so that it always holds each number that is to stay.
-    fn save(&mut self) -> io::Result<()> {
+    fn save(&mut self) -> io::Result<()>
+        ensures stays { IsKnown self.old.left.items self.old.begun.items self.old.is_closed self.new }
+    {
         let text = self.text()?;
         let Some(file) = &mut self.file else {
             return Ok(());
@@ -133,8 +150,11 @@ impl Known {
         file.sync_data()
     }
 
-    // Leaves room for one number more.
-    fn make_room(&mut self) {
+    // Leaves room for one number more: the oldest is dropped where there are as many as are kept.
+    fn make_room(&mut self)
+        ensures stays { self.new.is_closed ≡ self.old.is_closed }
+        ensures room { self.new.left.items ++ self.new.begun.items ≡ with_room (self.old.left.items ++ self.old.begun.items) }
+    {
         if self.left.len().saturating_add(self.begun.len()) < MOST {
             return;
         }
@@ -144,20 +164,58 @@ impl Known {
             self.left.remove(0);
         }
     }
+
+    // A session of this number is about to be begun: the file holds its number behind this. It fails where none may be begun any more.
+    fn begin(&mut self, number: u64) -> io::Result<()>
+        ensures open { OnOk result (self.old.is_closed ≡ false) }
+        ensures kept { OnOk result (IsAmong number self.new.begun.items) }
+        ensures others { OnOk result (self.new.left.items ++ self.new.begun.items ≡ with_begun number self.old.left.items self.old.begun.items) }
+        ensures stays { self.new.is_closed ≡ self.old.is_closed }
+    {
+        if self.is_closed {
+            return Err(io::Error::from(ErrorKind::ConnectionAborted));
+        }
+        if self.begun.contains(&number) {
+            return Ok(());
+        }
+        self.make_room();
+        self.begun.push(number)?;
+        let saved = self.save();
+        if saved.is_err() {
+            self.begun.pop();
+        }
+        saved
+    }
+
+    // Lets no further one be begun, and has all ended.
+    fn close(&mut self)
+        ensures closed { self.new.is_closed ≡ true }
+        ensures begun { self.new.begun.items ≡ [] }
+    {
+        self.is_closed = true;
+        let none = Vec::new(self.alloc);
+        let begun = mem::replace(&mut self.begun, none);
+        for number in begun {
+            // one that finds no memory ends by itself
+            let _ = self.left.push(number);
+        }
+    }
+
+    // A session has ended.
+    fn end(&mut self, number: u64)
+        ensures stays { IsKnown (without number self.old.left.items) self.old.begun.items self.old.is_closed self.new }
+    {
+        self.left.retain(|other| *other != number);
+        // where it can't be written, the number is found again and its session ended once more
+        let _ = self.save();
+    }
 }
 
 impl Sessions {
     /// None, and no file.
     pub fn new(alloc: Global) -> Sessions {
         Sessions {
-            known: Mutex::new(Known {
-                alloc,
-                file: None,
-                fault: None,
-                left: Vec::new(alloc),
-                begun: Vec::new(alloc),
-                is_closed: false,
-            }),
+            known: Mutex::new(Known::new(alloc)),
         }
     }
 
@@ -183,32 +241,12 @@ impl Sessions {
 
     /// A session of this number is about to be begun: the file holds its number behind this.
     pub fn begin<R: Wait>(&self, rt: &R, number: u64) -> io::Result<()> {
-        let mut known = self.known.lock(rt);
-        if known.is_closed {
-            return Err(io::Error::from(ErrorKind::ConnectionAborted));
-        }
-        if known.begun.contains(&number) {
-            return Ok(());
-        }
-        known.make_room();
-        known.begun.push(number)?;
-        let saved = known.save();
-        if saved.is_err() {
-            known.begun.pop();
-        }
-        saved
+        self.known.lock(rt).begin(number)
     }
 
     /// Lets no further one be begun, and has all ended.
     pub fn close<R: Wait>(&self, rt: &R) {
-        let mut known = self.known.lock(rt);
-        known.is_closed = true;
-        let none = Vec::new(known.alloc);
-        let begun = mem::replace(&mut known.begun, none);
-        for number in begun {
-            // one that finds no memory ends by itself
-            let _ = known.left.push(number);
-        }
+        self.known.lock(rt).close();
     }
 
     /// The number of a session that is to be ended, the last one first.
@@ -218,9 +256,6 @@ impl Sessions {
 
     /// A session has ended.
     pub fn ended<R: Wait>(&self, rt: &R, number: u64) {
-        let mut known = self.known.lock(rt);
-        known.left.retain(|other| *other != number);
-        // where it can't be written, the number is found again and its session ended once more
-        let _ = known.save();
+        self.known.lock(rt).end(number);
     }
 }

@@ -118,6 +118,7 @@ fn came<
     R: Net<Listener = TcpListener, Stream = TcpStream>
         + Wait
         + Times
+        + Eprint
         + Threads
         + Drop
         + Copy
@@ -201,11 +202,9 @@ fn a_write_has_a_limit(rt: HostRuntime) -> Result<(), Fail> {
 const LARGE: usize = 65_537;
 
 /// Whether a large request that came on a connection of its own, which is let go of, is worked on at once.
-fn is_worked_on<R: Net<Listener = TcpListener, Stream = TcpStream> + Wait + Times + Drop + Copy>(
-    rt: R,
-    alloc: Global,
-    permits: &Arc<Permits, Global>,
-) -> Result<bool, Fail> {
+fn is_worked_on<
+    R: Net<Listener = TcpListener, Stream = TcpStream> + Wait + Times + Eprint + Drop + Copy,
+>(rt: R, alloc: Global, permits: &Arc<Permits, Global>) -> Result<bool, Fail> {
     let (client, mut source, _sink) = connected(rt, alloc, short(20_000, 20_000, 400), permits)?;
     if !is_read_from(alloc, &client, &mut source)? {
         return Ok(false);

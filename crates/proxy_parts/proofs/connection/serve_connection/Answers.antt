@@ -32,5 +32,5 @@ returns-clause-dialog g c =
     let hub = hub_of _ _ c.serve_on-end.ensures.home ∙ c.new-seated.ensures.hub ∙ ap (λ (k : Known (Opening Core) Step). k.hub) c.split-mine.ensures.new in
     let j = joins_as c.args.pass.now c.split-mine.new.pass c.split-mine.result c.new-seated.result.pass last.pass c.into_pass.result c.join.new.pass
     c.split-mine.ensures.pass c.split-mine.ensures.new c.new-seated.ensures.made grows hub c.into_pass.ensures c.join.ensures.pass c.join.ensures.seen c.join.ensures.made in
-    joined_dialog c.args.pass.now c.split-mine.result c.new-seated.result.pass last.pass c.join.new.pass j
+    joined_dialog c.args.pass.now c.split-mine.result c.new-seated.result.pass last.pass c.join.new.pass j c.args.form
     (g.A.Answers.gives (g.A.Answers.known c.args.answers.now)) _ _ _ c.serve_on-end.result c.serve_on-end.ensures.dialog

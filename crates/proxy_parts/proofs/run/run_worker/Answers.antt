@@ -23,7 +23,7 @@ returns-clause-spent g c =
     let after = c.keep_at_work-worked.new in
     let calls = g.L.Link.made after.link in
     let handed = g.P.Spawner.handed after.spawner in
-    subst (λ (k : Known (Opening Core) Step). IsSpent hosts (IsAt home_of (record k { seen = []; own = [] }, hosts, c.args.place.message_limit)) NoEvent (IsTrue (is_at_limit c.meet.new.a)) TURNS
+    subst (λ (k : Known (Opening Core) Step). IsSpent hosts (IsAt home_of (record k { seen = []; own = [] }, hosts, c.args.place.message_limit, c.args.place.form)) NoEvent (IsTrue (is_at_limit c.meet.new.a)) TURNS
     (ledger (Some (made k)) (g.L.Link.made c.args.link.now) (g.P.Spawner.handed c.args.spawner.now) (g.L.Link.faults c.args.link.now) (g.P.Spawner.faults c.args.spawner.now))
     (ledger (Some (made c.meet.new.a)) calls handed (g.L.Link.faults after.link) (g.P.Spawner.faults after.spawner))) c.split-before.ensures.pass
     (spent_met hosts _ TURNS _ calls handed (g.L.Link.faults after.link) (g.P.Spawner.faults after.spawner) c.keep_at_work-worked.result.pass c.meet.new.a

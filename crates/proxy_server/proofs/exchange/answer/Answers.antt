@@ -37,14 +37,14 @@ tries-preserved g c =
       ahead = keeps_then _ _ _ c.tries.invariant.ahead c.in-Ok-InUse.ensures.ahead;
       numbered = numbered_more _ _ _ _ _ _ _ _ _ _ _ c.tries.invariant.limit c.tries.invariant.numbered c.in-Ok-InUse.ensures.numbered;
       tried = tried_as g.T.Turn.rests (Ok c.in-Ok-Ok.request) wanted _ _ _ _ is
-          (one_more_try g.T.Turn.rests c.in-Ok-Ok.request _ _ _ _ _ _ (tried_as g.T.Turn.rests wanted (Ok c.in-Ok-Ok.request) _ _ _ _ (sym is) c.tries.invariant.tried)
-          (asked_as g.T.Turn.rests c.in-Ok-Ok.request _ _ _ _ _ attempt.InUse c.in-Ok-InUse.field-0-is c.in-Ok-InUse.ensures.asks));
+          (one_more_try c.args.form g.T.Turn.rests c.in-Ok-Ok.request _ _ _ _ _ _ (tried_as g.T.Turn.rests wanted (Ok c.in-Ok-Ok.request) _ _ _ _ (sym is) c.tries.invariant.tried)
+          (asked_as c.args.form g.T.Turn.rests c.in-Ok-Ok.request _ _ _ _ _ attempt.InUse c.in-Ok-InUse.field-0-is c.in-Ok-InUse.ensures.asks));
     }
 
 pub returns-in-Ok-Whole-clause-replies : goal.returns-in-Ok-Whole-clause-replies
 returns-in-Ok-Whole-clause-replies g c =
-    was_told g.T.Turn.rests _ (g.A.Answers.gives (g.A.Answers.known c.args.answers.now) c.args.received.now.head c.args.received.now.body) c.args.received.now.head.method (asked_of Client c.args.received.now.head c.args.received.now.body) c.in-Ok-Ok.request _ _ _ _ _ _ (sym c.in-Ok-Ok.ensures ∙ c.in-Ok-Ok.field-0-is) c.tries.invariant.tried
-    (asked_as g.T.Turn.rests c.in-Ok-Ok.request _ _ _ _ _ attempt.Whole c.in-Ok-Whole.field-0-is c.in-Ok-Whole.ensures.asks)
+    was_told c.args.form g.T.Turn.rests _ (g.A.Answers.gives (g.A.Answers.known c.args.answers.now) c.args.received.now.head c.args.received.now.body) c.args.received.now.head.method (asked_of Client c.args.received.now.head c.args.received.now.body) c.in-Ok-Ok.request _ _ _ _ _ _ (sym c.in-Ok-Ok.ensures ∙ c.in-Ok-Ok.field-0-is) c.tries.invariant.tried
+    (asked_as c.args.form g.T.Turn.rests c.in-Ok-Ok.request _ _ _ _ _ attempt.Whole c.in-Ok-Whole.field-0-is c.in-Ok-Whole.ensures.asks)
 
 pub returns-in-Ok-Whole-clause-numbered : goal.returns-in-Ok-Whole-clause-numbered
 returns-in-Ok-Whole-clause-numbered g c =
@@ -55,7 +55,7 @@ returns-in-Ok-Whole-clause-ahead g c = keeps_then _ _ _ c.tries.invariant.ahead 
 
 pub returns-in-Err-respond-clause-replies : goal.returns-in-Err-respond-clause-replies
 returns-in-Err-respond-clause-replies g c =
-    not_told g.T.Turn.rests _ (g.A.Answers.gives (g.A.Answers.known c.args.answers.now) c.args.received.now.head c.args.received.now.body) c.args.received.now.head.method (asked_of Client c.args.received.now.head c.args.received.now.body) c.in-Ok-Ok.request _ _ _ _ _ _ c.in-Err-respond.end (sym c.in-Ok-Ok.ensures ∙ c.in-Ok-Ok.field-0-is)
+    not_told c.args.form g.T.Turn.rests _ (g.A.Answers.gives (g.A.Answers.known c.args.answers.now) c.args.received.now.head c.args.received.now.body) c.args.received.now.head.method (asked_of Client c.args.received.now.head c.args.received.now.body) c.in-Ok-Ok.request _ _ _ _ _ _ c.in-Err-respond.end (sym c.in-Ok-Ok.ensures ∙ c.in-Ok-Ok.field-0-is)
     c.tries.invariant.tried c.in-Err-respond.ensures.asks
 
 pub returns-in-Err-respond-clause-numbered : goal.returns-in-Err-respond-clause-numbered
@@ -67,13 +67,13 @@ returns-in-Err-respond-clause-ahead g c = keeps_then _ _ _ c.tries.invariant.ahe
 
 pub returns-in-None-clause-replies : goal.returns-in-None-clause-replies
 returns-in-None-clause-replies g c =
-    was_direct g.T.Turn.rests _ (g.A.Answers.gives (g.A.Answers.known c.args.answers.now) c.args.received.now.head c.args.received.now.body) c.args.received.now.head.method (asked_of Client c.args.received.now.head c.args.received.now.body) c.in-Ok-Err.refused _ _ _ _ _ (sym c.in-Ok-Err.ensures ∙ c.in-Ok-Err.field-0-is) c.tries.invariant.tried
-    (directly_as (λ k. g.A.Answers.gives k c.args.received.now.head c.args.received.now.body) c.args.received.now.head.method c.in-Ok-Err.refused _ _ None _ _ c.tries.invariant.known c.in-None.ensures.directly)
+    was_direct c.args.form g.T.Turn.rests _ (g.A.Answers.gives (g.A.Answers.known c.args.answers.now) c.args.received.now.head c.args.received.now.body) c.args.received.now.head.method (asked_of Client c.args.received.now.head c.args.received.now.body) c.in-Ok-Err.refused _ _ _ _ _ (sym c.in-Ok-Err.ensures ∙ c.in-Ok-Err.field-0-is) c.tries.invariant.tried
+    (directly_as c.args.form (λ k. g.A.Answers.gives k c.args.received.now.head c.args.received.now.body) c.args.received.now.head.method c.in-Ok-Err.refused _ _ None _ _ c.tries.invariant.known c.in-None.ensures.directly)
 
 pub returns-in-Some-clause-replies : goal.returns-in-Some-clause-replies
 returns-in-Some-clause-replies g c =
-    not_direct g.T.Turn.rests _ (g.A.Answers.gives (g.A.Answers.known c.args.answers.now) c.args.received.now.head c.args.received.now.body) c.args.received.now.head.method (asked_of Client c.args.received.now.head c.args.received.now.body) c.in-Ok-Err.refused _ _ _ _ _ c.in-Some.end (sym c.in-Ok-Err.ensures ∙ c.in-Ok-Err.field-0-is) c.tries.invariant.tried
-    (directly_as (λ k. g.A.Answers.gives k c.args.received.now.head c.args.received.now.body) c.args.received.now.head.method c.in-Ok-Err.refused _ _ (Some c.in-Some.end) _ _ c.tries.invariant.known c.in-Some.ensures.directly)
+    not_direct c.args.form g.T.Turn.rests _ (g.A.Answers.gives (g.A.Answers.known c.args.answers.now) c.args.received.now.head c.args.received.now.body) c.args.received.now.head.method (asked_of Client c.args.received.now.head c.args.received.now.body) c.in-Ok-Err.refused _ _ _ _ _ c.in-Some.end (sym c.in-Ok-Err.ensures ∙ c.in-Ok-Err.field-0-is) c.tries.invariant.tried
+    (directly_as c.args.form (λ k. g.A.Answers.gives k c.args.received.now.head c.args.received.now.body) c.args.received.now.head.method c.in-Ok-Err.refused _ _ (Some c.in-Some.end) _ _ c.tries.invariant.known c.in-Some.ensures.directly)
 
 pub returns-in-Some-clause-read_cause : goal.returns-in-Some-clause-read_cause
 returns-in-Some-clause-read_cause g c e = absurd (c.in-Some.ensures.reading e)
@@ -82,7 +82,7 @@ pub returns-in-Some-clause-numbered : goal.returns-in-Some-clause-numbered
 returns-in-Some-clause-numbered g c = all_numbered c.in-Some.end _ _ _ _ _ _ _ c.in-Some.ensures.other c.tries.invariant.numbered
 
 pub returns-in-Err-clause-replies : goal.returns-in-Err-clause-replies
-returns-in-Err-clause-replies g c = not_decoded g.T.Turn.rests _ (g.A.Answers.gives (g.A.Answers.known c.args.answers.now) c.args.received.now.head c.args.received.now.body) c.args.received.now.head.method (asked_of Client c.args.received.now.head c.args.received.now.body) _ _ _ _ c.tries.invariant.tried
+returns-in-Err-clause-replies g c = not_decoded c.args.form g.T.Turn.rests _ (g.A.Answers.gives (g.A.Answers.known c.args.answers.now) c.args.received.now.head c.args.received.now.body) c.args.received.now.head.method (asked_of Client c.args.received.now.head c.args.received.now.body) _ _ _ _ c.tries.invariant.tried
 
 pub returns-in-Err-clause-numbered : goal.returns-in-Err-clause-numbered
 returns-in-Err-clause-numbered g c = all_numbered NoMemory _ _ _ _ _ _ _ tt c.tries.invariant.numbered

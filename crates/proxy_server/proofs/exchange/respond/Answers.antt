@@ -6,7 +6,7 @@ use Rattle.proxy_server.proofs.Causes.{asking_breaks, asking_else}
 use Rattle.proxy_server.proofs.exchange.respond.Goals as goal
 
 pub returns-then-tickets-clause-asks : goal.returns-then-tickets-clause-asks
-returns-then-tickets-clause-asks g c = out_of_tickets g.T.Turn.rests _ c.args.request _ _
+returns-then-tickets-clause-asks g c = out_of_tickets c.args.form g.T.Turn.rests _ c.args.request _ _
 
 pub returns-then-tickets-clause-numbered : goal.returns-then-tickets-clause-numbered
 returns-then-tickets-clause-numbered g c = none_last OutOfTickets _ _ _ _ (λ e. c.if-tickets.true)

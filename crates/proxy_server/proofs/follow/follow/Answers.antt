@@ -15,36 +15,36 @@ takes-init g c = record {
   ahead = keeps_itself _;
   quiet = asked_none _;
   allowed = λ a. a;
-  partly = nothing_yet g.T.Turn.rests c.args.ticket _ _;
+  partly = nothing_yet c.args.form g.T.Turn.rests c.args.ticket _ _;
 }
 
 pub returns-in-Err-clause-follows : goal.returns-in-Err-clause-follows
 returns-in-Err-clause-follows g c =
-    rest_failed g.T.Turn.rests _ c.args.ticket c.takes.begun _ _ _ _ _ c.in-Err.fault c.end_of.result c.end_of.ensures.is c.takes.invariant.partly c.rest.ensures.made c.in-Err.ensures.fault c.in-Err.ensures.worn
+    rest_failed c.args.form g.T.Turn.rests _ c.args.ticket c.takes.begun _ _ _ _ _ c.in-Err.fault c.end_of.result c.end_of.ensures.is c.takes.invariant.partly c.rest.ensures.made c.in-Err.ensures.fault c.in-Err.ensures.worn
 
 pub returns-in-Err-clause-quiet : goal.returns-in-Err-clause-quiet
 returns-in-Err-clause-quiet g c = quiet_rest g.T.Turn.rests _ _ _ c.takes.invariant.quiet c.rest.ensures.made
 
 pub returns-in-Err-check-clause-follows : goal.returns-in-Err-check-clause-follows
 returns-in-Err-check-clause-follows g c =
-    client_went g.T.Turn.rests _ c.args.ticket c.takes.begun _ _ _ _
-    (nothing_taken g.T.Turn.rests c.args.ticket c.takes.begun _ _ _ _ _ _ _ c.takes.invariant.partly c.rest.ensures.made
-    (taken_as g.T.Turn.rests c.args.ticket c.takes.begun _ _ _ _ _ taken.Nothing c.in-Ok-Nothing.field-0-is c.in-Ok-Nothing.ensures.takes))
+    client_went c.args.form g.T.Turn.rests _ c.args.ticket c.takes.begun _ _ _ _
+    (nothing_taken c.args.form g.T.Turn.rests c.args.ticket c.takes.begun _ _ _ _ _ _ _ c.takes.invariant.partly c.rest.ensures.made
+    (taken_as c.args.form g.T.Turn.rests c.args.ticket c.takes.begun _ _ _ _ _ taken.Nothing c.in-Ok-Nothing.field-0-is c.in-Ok-Nothing.ensures.takes))
 
 pub returns-in-Err-check-clause-quiet : goal.returns-in-Err-check-clause-quiet
 returns-in-Err-check-clause-quiet g c = asked_then _ _ _ [] [] (quiet_rest g.T.Turn.rests _ _ _ c.takes.invariant.quiet c.rest.ensures.made) c.in-Ok-Nothing.ensures.quiet
 
 pub returns-in-Ok-Last-clause-follows : goal.returns-in-Ok-Last-clause-follows
 returns-in-Ok-Last-clause-follows g c =
-    last_taken g.T.Turn.rests c.args.ticket c.takes.begun _ _ _ _ _ _ _ c.takes.invariant.partly c.rest.ensures.made
-    (taken_as g.T.Turn.rests c.args.ticket c.takes.begun _ _ _ _ _ taken.Last c.in-Ok-Last.field-0-is c.in-Ok-Last.ensures.takes)
+    last_taken c.args.form g.T.Turn.rests c.args.ticket c.takes.begun _ _ _ _ _ _ _ c.takes.invariant.partly c.rest.ensures.made
+    (taken_as c.args.form g.T.Turn.rests c.args.ticket c.takes.begun _ _ _ _ _ taken.Last c.in-Ok-Last.field-0-is c.in-Ok-Last.ensures.takes)
 
 pub returns-in-Ok-Last-clause-quiet : goal.returns-in-Ok-Last-clause-quiet
 returns-in-Ok-Last-clause-quiet g c = asked_then _ _ _ [] [] (quiet_rest g.T.Turn.rests _ _ _ c.takes.invariant.quiet c.rest.ensures.made) c.in-Ok-Last.ensures.quiet
 
 pub returns-in-Err-take-clause-follows : goal.returns-in-Err-take-clause-follows
 returns-in-Err-take-clause-follows g c =
-    stopped_then g.T.Turn.rests _ c.args.ticket c.takes.begun _ _ _ _ _ _ _ c.in-Err-take.why c.takes.invariant.partly c.rest.ensures.made c.in-Err-take.ensures.takes
+    stopped_then c.args.form g.T.Turn.rests _ c.args.ticket c.takes.begun _ _ _ _ _ _ _ c.in-Err-take.why c.takes.invariant.partly c.rest.ensures.made c.in-Err-take.ensures.takes
 
 pub returns-in-Err-take-clause-quiet : goal.returns-in-Err-take-clause-quiet
 returns-in-Err-take-clause-quiet g c = asked_then _ _ _ [] [] (quiet_rest g.T.Turn.rests _ _ _ c.takes.invariant.quiet c.rest.ensures.made) c.in-Err-take.ensures.quiet
@@ -57,8 +57,8 @@ takes-preserved-in-Ok-check g c = record {
   ahead = keeps_then _ _ _ c.takes.invariant.ahead c.check.ensures.bytes;
   quiet = asked_then _ _ _ [] [] (quiet_rest g.T.Turn.rests _ _ _ c.takes.invariant.quiet c.rest.ensures.made) c.in-Ok-Nothing.ensures.quiet;
   allowed = λ a. c.in-Ok-Nothing.ensures.allowed (c.rest.ensures.allowed (c.takes.invariant.allowed a));
-  partly = nothing_taken g.T.Turn.rests c.args.ticket c.takes.begun _ _ _ _ _ _ _ c.takes.invariant.partly c.rest.ensures.made
-      (taken_as g.T.Turn.rests c.args.ticket c.takes.begun _ _ _ _ _ taken.Nothing c.in-Ok-Nothing.field-0-is c.in-Ok-Nothing.ensures.takes);
+  partly = nothing_taken c.args.form g.T.Turn.rests c.args.ticket c.takes.begun _ _ _ _ _ _ _ c.takes.invariant.partly c.rest.ensures.made
+      (taken_as c.args.form g.T.Turn.rests c.args.ticket c.takes.begun _ _ _ _ _ taken.Nothing c.in-Ok-Nothing.field-0-is c.in-Ok-Nothing.ensures.takes);
 }
 
 pub takes-preserved : goal.takes-preserved
@@ -69,6 +69,6 @@ takes-preserved g c = record {
   ahead = c.takes.invariant.ahead;
   quiet = asked_then _ _ _ [] [] (quiet_rest g.T.Turn.rests _ _ _ c.takes.invariant.quiet c.rest.ensures.made) c.in-Ok-Part.ensures.quiet;
   allowed = λ a. c.in-Ok-Part.ensures.allowed (c.rest.ensures.allowed (c.takes.invariant.allowed a));
-  partly = part_taken g.T.Turn.rests c.args.ticket c.takes.begun _ _ _ _ _ _ _ c.takes.invariant.partly c.rest.ensures.made
-      (taken_as g.T.Turn.rests c.args.ticket c.takes.begun _ _ _ _ _ taken.Part c.in-Ok-Part.field-0-is c.in-Ok-Part.ensures.takes);
+  partly = part_taken c.args.form g.T.Turn.rests c.args.ticket c.takes.begun _ _ _ _ _ _ _ c.takes.invariant.partly c.rest.ensures.made
+      (taken_as c.args.form g.T.Turn.rests c.args.ticket c.takes.begun _ _ _ _ _ taken.Part c.in-Ok-Part.field-0-is c.in-Ok-Part.ensures.takes);
 }

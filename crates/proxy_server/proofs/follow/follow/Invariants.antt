@@ -13,5 +13,5 @@ invariant-takes g l = record {
   ahead : Keeps (g.S.Source.left l.fn.source) (g.S.Source.left l.source);
   quiet : Asked (g.T.Turn.made l.fn.turn) (g.T.Turn.made l.turn) [];
   allowed : g.T.Turn.allowed l.fn.turn → g.T.Turn.allowed l.turn;
-  partly : Partly g.T.Turn.rests l.ticket l.begun (g.T.Turn.made l.fn.turn) (g.T.Turn.made l.turn) (g.K.Sink.written l.fn.sink) (g.K.Sink.written l.sink);
+  partly : Partly l.form g.T.Turn.rests l.ticket l.begun (g.T.Turn.made l.fn.turn) (g.T.Turn.made l.turn) (g.K.Sink.written l.fn.sink) (g.K.Sink.written l.sink);
 }

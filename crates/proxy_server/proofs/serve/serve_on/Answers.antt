@@ -11,7 +11,7 @@ pub returns-in_default-clause-numbered : goal.returns-in_default-clause-numbered
 returns-in_default-clause-numbered g c = none_last NoMemory _ _ _ _ (has_tickets NoMemory _ _ tt)
 
 pub returns-in_default-clause-dialog : goal.returns-in_default-clause-dialog
-returns-in_default-clause-dialog g c = no_wire (g.A.Answers.gives (g.A.Answers.known c.args.answers.now)) g.T.Turn.rests _ _ _ _
+returns-in_default-clause-dialog g c = no_wire c.args.form (g.A.Answers.gives (g.A.Answers.known c.args.answers.now)) g.T.Turn.rests _ _ _ _
 
 pub requests-init : goal.requests-init
 requests-init g c = record {
@@ -23,7 +23,7 @@ requests-init g c = record {
   reads = omega arith;
   writes = omega arith;
   numbered = numbered_none _ _ _ _;
-  has = at_start (g.A.Answers.gives (g.A.Answers.known c.args.answers.now)) g.T.Turn.rests (g.S.Source.left c.args.source.now) c.in-Ok.wire _ _ c.in-Ok.ensures.held;
+  has = at_start c.args.form (g.A.Answers.gives (g.A.Answers.known c.args.answers.now)) g.T.Turn.rests (g.S.Source.left c.args.source.now) c.in-Ok.wire _ _ c.in-Ok.ensures.held;
 }
 
 pub requests-preserved : goal.requests-preserved
@@ -36,8 +36,8 @@ requests-preserved g c = record {
   reads = omega arith;
   writes = omega arith;
   numbered = numbered_more _ _ _ _ _ _ _ _ _ _ _ c.requests.invariant.limit c.requests.invariant.numbered c.in-None-exchange.ensures.numbered;
-  has = goes_on (g.A.Answers.gives (g.A.Answers.known c.args.answers.now)) g.T.Turn.rests _ _ _ _ _ _ _ _ _ c.requests.invariant.has
-      (turned_as g.A.Answers.gives g.T.Turn.rests (Unit {0}) _ _ _ _ _ _ None _ _ c.requests.invariant.known c.in-None-exchange.ensures.turned);
+  has = goes_on c.args.form (g.A.Answers.gives (g.A.Answers.known c.args.answers.now)) g.T.Turn.rests _ _ _ _ _ _ _ _ _ c.requests.invariant.has
+      (turned_as c.args.form g.A.Answers.gives g.T.Turn.rests (Unit {0}) _ _ _ _ _ _ None _ _ c.requests.invariant.known c.in-None-exchange.ensures.turned);
 }
 
 pub returns-in-Some-exchange-clause-numbered : goal.returns-in-Some-exchange-clause-numbered
@@ -46,17 +46,17 @@ returns-in-Some-exchange-clause-numbered g c =
 
 pub returns-in-Some-exchange-clause-dialog : goal.returns-in-Some-exchange-clause-dialog
 returns-in-Some-exchange-clause-dialog g c =
-    ends (g.A.Answers.gives (g.A.Answers.known c.args.answers.now)) g.T.Turn.rests _ _ _ _ _ _ _ _ _ c.in-Some-exchange.end c.requests.invariant.has
-    (turned_as g.A.Answers.gives g.T.Turn.rests _ _ None _ _ _ _ (Some c.in-Some-exchange.end) _ _ c.requests.invariant.known c.in-Some-exchange.ensures.turned)
+    ends c.args.form (g.A.Answers.gives (g.A.Answers.known c.args.answers.now)) g.T.Turn.rests _ _ _ _ _ _ _ _ _ c.in-Some-exchange.end c.requests.invariant.has
+    (turned_as c.args.form g.A.Answers.gives g.T.Turn.rests _ _ None _ _ _ _ (Some c.in-Some-exchange.end) _ _ c.requests.invariant.known c.in-Some-exchange.ensures.turned)
 
 pub returns-in_default-clause-complete : goal.returns-in_default-clause-complete
 returns-in_default-clause-complete g c h = inr refl
 
 pub returns-in-Some-exchange-clause-complete : goal.returns-in-Some-exchange-clause-complete
 returns-in-Some-exchange-clause-complete g c =
-    completes (g.A.Answers.gives (g.A.Answers.known c.args.answers.now)) g.T.Turn.rests _ _ _ _ _ _ _ _ c.in-Some-exchange.end _ _ _ _ _ _
-    (ends (g.A.Answers.gives (g.A.Answers.known c.args.answers.now)) g.T.Turn.rests _ _ _ _ _ _ _ _ _ c.in-Some-exchange.end c.requests.invariant.has
-    (turned_as g.A.Answers.gives g.T.Turn.rests _ _ None _ _ _ _ (Some c.in-Some-exchange.end) _ _ c.requests.invariant.known c.in-Some-exchange.ensures.turned))
+    completes c.args.form (g.A.Answers.gives (g.A.Answers.known c.args.answers.now)) g.T.Turn.rests _ _ _ _ _ _ _ _ c.in-Some-exchange.end _ _ _ _ _ _
+    (ends c.args.form (g.A.Answers.gives (g.A.Answers.known c.args.answers.now)) g.T.Turn.rests _ _ _ _ _ _ _ _ _ c.in-Some-exchange.end c.requests.invariant.has
+    (turned_as c.args.form g.A.Answers.gives g.T.Turn.rests _ _ None _ _ _ _ (Some c.in-Some-exchange.end) _ _ c.requests.invariant.known c.in-Some-exchange.ensures.turned))
     (numbered_end c.in-Some-exchange.end _ _ _ _ _ _ _ _ _ _ c.requests.invariant.limit c.requests.invariant.numbered c.in-Some-exchange.ensures.numbered)
     (λ e. rose_before _ _ _ c.requests.invariant.reads (c.in-Some-exchange.ensures.read_cause e))
     (λ e. rose_before _ _ _ c.requests.invariant.writes (c.in-Some-exchange.ensures.write_cause e))

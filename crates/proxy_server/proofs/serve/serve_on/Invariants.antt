@@ -15,5 +15,5 @@ invariant-requests g l = record {
   known : g.A.Answers.known l.answers ≡ g.A.Answers.known l.fn.answers;
   limit : l.tickets.end ≡ l.fn.tickets.end;
   numbered : Numbered l.fn.tickets.end l.fn.tickets.next l.tickets.next (g.D.Draw.given l.fn.draw) (g.D.Draw.given l.draw) (g.T.Turn.made l.fn.turn) (g.T.Turn.made l.turn);
-  has : Has (g.A.Answers.gives (g.A.Answers.known l.fn.answers)) g.T.Turn.rests (g.S.Source.left l.fn.source) (bytes_ahead (g.S.Source.left l.source) l.wire) (g.T.Turn.made l.fn.turn) (g.T.Turn.made l.turn) (g.K.Sink.written l.fn.sink) (g.K.Sink.written l.sink);
+  has : Has l.form (g.A.Answers.gives (g.A.Answers.known l.fn.answers)) g.T.Turn.rests (g.S.Source.left l.fn.source) (bytes_ahead (g.S.Source.left l.source) l.wire) (g.T.Turn.made l.fn.turn) (g.T.Turn.made l.turn) (g.K.Sink.written l.fn.sink) (g.K.Sink.written l.sink);
 }

@@ -1,0 +1,7 @@
+-- So many figures stand there.
+use Rattle.std.proofs.Common.{◌≡◌, ◌++◌, flat_map, take}
+use Rattle.metrics_text.specs.Page as spec
+use Rattle.metrics_text.proofs.page.push_reply_rows.Given as goal
+
+abbrev pub invariant-loop-figure : goal.invariant-loop-figure
+invariant-loop-figure l = l.text.items ≡ l.initial.text.items ++ flat_map spec.reply (take l.figure-index l.all)
