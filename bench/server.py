@@ -150,6 +150,26 @@ def reads(folder, cluster, proxy):
         server.wait()
 
 
+def counted(folder, plain, counting):
+    """What it costs a cached read that the proxy counts it, by the processor time of the proxy alone."""
+    for proxy in (plain, counting):
+        put(proxy, "bench/key", "v" * 32)
+        proxy.post("/v3/kv/range", {"key": KEY})
+
+    def load(proxy):
+        return Load(folder, proxy.port, 16, [proxy.process.pid], "/v3/kv/range", READ, False)
+
+    def share(pair):
+        return pair[1].server / pair[0].server
+
+    rounds, host = quietest(ROUNDS, lambda: (load(plain), load(counting)), lambda pair: max(one.stolen for one in pair))
+    rounds.sort(key=share)
+    uncounted, own = rounds[ROUNDS // 2]
+    print(f"cached reads that are counted, 16 connections\n  counted   {own.told()}\n  uncounted {uncounted.told()}\n"
+          f"  {share(rounds[0]):.3f} to {share(rounds[-1]):.3f} of one that isn't, {share((uncounted, own)):.3f} in the middle; {host}", flush=True)
+    mark("a cached read that is counted, beside one that isn't", share((uncounted, own)), "", most=1.03)
+
+
 def calls(folder, cluster, proxy):
     pids, members = [proxy.process.pid], [p.pid for p in cluster.processes]
     _, told = post(cluster.ports[0], "/v3/maintenance/status", {})
@@ -276,8 +296,10 @@ def main():
     try:
         proxies.append(Proxy(PROGRAM, cluster, folder, "leasing", "--leasing-prefix=L/", "--workers=64"))
         reads(folder, cluster, proxies[0])
+        proxies.append(Proxy(PROGRAM, cluster, folder, "counting", "--leasing-prefix=M/", "--workers=64", f"--metrics-addr=127.0.0.1:{free_port()}"))
+        counted(folder, *proxies)
         proxies.append(Proxy(PROGRAM, cluster, folder, "plain", "--workers=64"))
-        calls(folder, cluster, proxies[1])
+        calls(folder, cluster, proxies[-1])
         for name, measure in (("watches", lambda proxy: watches(cluster, proxy)), ("idle", idle)):
             proxies.append(Proxy(PROGRAM, cluster, folder, name))
             measure(proxies[-1])

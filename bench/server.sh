@@ -1,10 +1,10 @@
 #!/usr/bin/env bash
-# Measures a running proxy before three etcd members on loopback, side by side with nginx and with the cluster's own JSON gateway: cached
-# reads, reads passed on and puts, at 1, 16 and 64 connections; a thousand equal watches; and what an idle connection takes. Judge by the
-# processor time a request: requests a second move with what else the machine does. Each comparison is of nine rounds, ours and theirs in
-# turn, and the round in the middle counts. On a virtual machine, a round that its host disturbed is made again. The
-# members keep their data in memory where there is room for it, since a disk that is busy would be measured in place of them. It ends in its
-# marks, with status 1 where one is missed, after some six minutes on a quiet machine.
+# Measures a running proxy before three etcd members on loopback, side by side with nginx and with the cluster's own JSON gateway: cached reads,
+# reads passed on and puts, at 1, 16 and 64 connections; cached reads that are counted (`--metrics-addr`) beside some that aren't; a thousand equal
+# watches; and what an idle connection takes. Judge by the processor time a request: requests a second move with what else the machine does. Each
+# comparison is of nine rounds, ours and theirs in turn, and the round in the middle counts. On a virtual machine, a round that its host disturbed
+# is made again. The members keep their data in memory where there is room for it, since a disk that is busy would be measured in place of them. It
+# ends in its marks, with status 1 where one is missed, after some six minutes on a quiet machine.
 #
 # usage: bash bench/server.sh [PROGRAM] [SECONDS]
 #

@@ -48,6 +48,8 @@ vanished   watches whose clients vanish, without a word, end within two minutes
 lines      messages of members that are longer than 8 MiB: events of keys that are deleted at once, a watch from a revision long ago,
            and the end of a session with many ownership keys; and what is longer than the limit is asked for ever less often
 probes     what a server answers of itself, its version and whether some member answers, and other paths of the same requests
+metrics    what a server counts is what was done: replies by path and status, reads from memory, keys, watches, connections, calls and
+           members; its page and its health; and nothing listens there unless it is asked for
 real_clients
            curl, and what Debian has of fronts and clients, unchanged: nginx, haproxy and stunnel as docs/OPERATIONS.md has them, the tests
            of python3-etcd3gw, and patroni's classes; `tests/real_clients.py` says what each does
@@ -1180,10 +1182,6 @@ def halves(world):
     print(f"halves: {count} clients that closed their sending half behind a request had their replies")
 
 
-# so many clients a second may leave as soon as they watch: each has a thread for some 0.2 s and its stream one for 1.2 s
-PACE = 150
-
-
 def leavers(world):
     """Clients that went away leave nothing."""
     proxy = world.proxy("leavers")
@@ -1213,7 +1211,6 @@ def leavers(world):
           "nothing is left of clients that watched what nobody wrote")
     count, most, begun = 10_000, 0, time.monotonic()
     for number in range(count):
-        time.sleep(max(0, begun + number / PACE - time.monotonic()))
         one = Watch(proxy.port, {"key": text64(f"one/{number}")})
         watched([one], lambda: one.created, 10, "a watch is created")
         one.socket.close()
@@ -1497,7 +1494,7 @@ def quorum(world):
             keys = [f"q/{n}" for n in range(count)]
             owner, other = (beside.proxy(f"quorum{n}", f"--leasing-prefix={LEASING}", ttl=LONG) for n in range(2))
             read = lambda: owner.post("/v3/kv/range", {"key": text64("o/0")})
-            own(owner, "o/0")
+            own_key(owner, "o/0")
             watches = [Watch(owner.port, {"key": text64(key)}) for key in keys]
             watched(watches, lambda: all(w.created for w in watches), 30, "all watches are created")
             time.sleep(7)
@@ -1552,7 +1549,7 @@ def quiet_owner(world):
 
 # ---- ends of proxies, planned and not
 
-def own(proxy, key):
+def own_key(proxy, key):
     """Has a proxy own a key."""
     put(proxy, key, "v")
     read = lambda: proxy.post("/v3/kv/range", {"key": text64(key)})
@@ -1577,7 +1574,7 @@ def restart(world):
         other = beside.proxy("other", f"--leasing-prefix={LEASING}", ttl=LONG)
         for number in range(3):
             for key in ("s/0", "s/1"):
-                own(owner, key)
+                own_key(owner, key)
             second = subprocess.run([*owner.process.args[:-1], f"--state-file={state}"], stderr=subprocess.PIPE, timeout=10 * PATIENCE)
             check(second.returncode == 7 and b"another process has it" in second.stderr, f"a second process: {second}")
             owner.kill()
@@ -1596,7 +1593,7 @@ def restart(world):
         check(second.returncode == 7 and b"isn't a file of sessions" in second.stderr, f"with a file of other text: {second}")
         # a session that nobody ends lives on, and no longer
         left, ttl = beside.proxy("left", f"--leasing-prefix={LEASING}", ttl=12), 12
-        own(left, "s/2")
+        own_key(left, "s/2")
         left.kill()
         killed = time.monotonic()
         told = other.post("/v3/kv/put", {"key": text64("s/2"), "value": text64("w")})
@@ -1661,7 +1658,7 @@ def stop(world):
         options = lambda served: () if served else ("--stop-at-end",)
         for name, served, how in STOPS:
             owner = beside.proxy("owner", f"--leasing-prefix={LEASING}", *options(served), ttl=LONG, served=served)
-            own(owner, "s/0")
+            own_key(owner, "s/0")
             watch = Watch(owner.port, {"key": text64("s/1")})
             watched([watch], lambda: watch.created, 10, "a watch is created")
             took.append(stopped(owner, how, 6))
@@ -1678,7 +1675,7 @@ def stop(world):
         check(post(owner.port, "/v3/kv/range", {"key": text64("?")}, 1) is None, "a proxy that was stopped answers")
         slow.stop()
         owner = beside.proxy("down", f"--leasing-prefix={LEASING}", "--stop-at-end")
-        own(owner, "s/3")
+        own_key(owner, "s/3")
         for number in range(3):
             beside.cluster.kill(number)
         took.append(stopped(owner, STOPS[0][2], 6))
@@ -2062,10 +2059,246 @@ def probes(world):
     print("probes: the version, the health with members up and down, and four paths of each call on a lease were answered")
 
 
+def alone(proxy, url):
+    """The proxy is told as the one member of its cluster, with this address, also below /v3beta."""
+    for path in ("/v3/cluster/member/list", "/v3beta/cluster/member/list"):
+        status, told = proxy.post(path, {})
+        check(status == 200 and len(told["members"]) == 1, f"{path}: {told}")
+        check(told["members"][0] == {"name": socket.gethostname(), "peerURLs": [url], "clientURLs": [url]}, f"{path}: {told}")
+        check(told["header"]["cluster_id"] == str(proxy.cluster.ask("/v3/kv/range", {"key": text64("?")})["header"]["cluster_id"]), f"{path}: {told}")
+
+
+def own(world):
+    """What a server answers of its cluster: itself as the one member, and how a member is, with members up and with all down."""
+    proxy, cluster = world.proxy("own", ttl=60), world.cluster
+    other = world.proxy("other", "--advertise-client-url=https://front.example:443", "--etcd-errors", ttl=60)
+    put(proxy, "o/0", "v")
+    time.sleep(1)
+    alone(proxy, f"http://127.0.0.1:{proxy.port}")
+    alone(other, "https://front.example:443")
+    for path in ("/v3/maintenance/status", "/v3beta/maintenance/status"):
+        told, real = proxy.post(path, {}), post(cluster.ports[0], "/v3/maintenance/status", {})
+        check(told[0] == 200 and told[1]["version"] == real[1]["version"] and set(told[1]) == set(real[1]), f"{path}: {told}")
+    # what isn't passed on, or isn't of this method
+    before = cluster.ask("/v3/kv/range", {"key": text64("o/0")})["header"]["revision"]
+    for path in ("/v3/maintenance/defragment", "/v3/maintenance/alarm", "/v3/maintenance/statuses", "/v3/cluster/member/add", "/v3/auth/authenticate"):
+        check(proxy.post(path, {})[0] == 404, f"{path} isn't passed on")
+    check(exchanged(proxy.port, head(b"Connection: close", method=b"GET", path=b"/v3/maintenance/status"), False).startswith(b"HTTP/1.1 405 "), "a status by GET")
+    check(cluster.ask("/v3/kv/range", {"key": text64("o/0")})["header"]["revision"] == before, "nothing was written")
+    # the field `error`, of the store's refusals, of the proxy's own, and of those of bytes
+    for path, body in (("/v3/lease/revoke", {"ID": "77"}), ("/v3/nothing", {}), ("/v3/kv/range", {"limit": "x"})):
+        plain, told = proxy.post(path, body), other.post(path, body)
+        check(set(plain[1]) == {"code", "message"} and plain[0] == told[0], f"{path}: {plain}")
+        check(told[1] == {"error": plain[1]["message"], **plain[1]}, f"{path}: {told}")
+    check(other.post("/v3/lease/revoke", {"ID": "77"})[1] == post(cluster.ports[0], "/v3/lease/revoke", {"ID": "77"})[1], "a refusal is the member's")
+    check(exchanged(other.port, b"GET / HTTP/1.0\r\n\r\n").endswith(b'{"error":"proxy: bad request","message":"proxy: bad request","code":3}'), "bytes that are no request")
+    for number in range(3):
+        cluster.kill(number)
+    time.sleep(8)
+    begun = time.monotonic()
+    check(proxy.post("/v3/maintenance/status", {}) == (503, {"code": 14, "message": "proxy: no member answers"}), "no member answers")
+    check(time.monotonic() - begun < 2, "that is told soon")
+    alone_told = proxy.post("/v3/cluster/member/list", {})
+    check(alone_told[0] == 200 and alone_told[1]["header"]["cluster_id"], f"with all members down: {alone_told}")
+    for number in range(3):
+        cluster.start(number)
+    until(lambda: all(cluster.answers(n) for n in range(3)), 30, "the members answer")
+    # lines, of each kind one an hour
+    for _ in range(3):
+        exchanged(proxy.port, b"GET / HTTP/1.0\r\n\r\n")
+        exchanged(proxy.port, head(b"Connection: close", b"Authorization: token", b"Content-Length: 0"), False)
+    proxy.stop(), other.stop()
+    check(len(proxy.lines("isn't HTTP/1.1")) == 1 and len(proxy.lines("Authorization")) == 1, f"the proxy told: {proxy.lines()}")
+    print("own: a server told itself as the one member, passed the calls for a status on and no others, and wrote refusals in both forms")
+
+
+def addresses(world):
+    """Forms of addresses that are taken beside host:port, and an address that is in use."""
+    def tried(listen, endpoints, connect=None):
+        folder = tempfile.mkdtemp(prefix="addresses-")
+        try:
+            with open(f"{folder}/told", "w+") as told:
+                process = subprocess.Popen([world.program, "grpc-proxy", "start", f"--endpoints={endpoints}", f"--listen-addr={listen}"], stderr=told)
+                try:
+                    if connect:
+                        until(lambda: f"serving {listen} for" in open(told.name).read(), 10, f"{listen} is served")
+                        host, port = connect
+                        # it was told behind the start of listening
+                        socket.create_connection((host, port), timeout=5).close()
+                        connection = http.client.HTTPConnection(host, port, timeout=10)
+                        connection.request("POST", "/v3/kv/range", json.dumps({"key": text64("?")}))
+                        check(connection.getresponse().status == 200, f"{listen} for {endpoints}: a range")
+                    else:
+                        process.wait(10)
+                finally:
+                    process.kill(), process.wait()
+                return open(told.name).read()
+        finally:
+            shutil.rmtree(folder)
+    member = world.cluster.ports[0]
+    for listen, host in ((":{}", "127.0.0.1"), (":{}", "::1"), ("[::1]:{}", "::1"), ("localhost:{}", "localhost")):
+        port = free_port()
+        tried(listen.format(port), f"http://localhost:{member}/", (host, port))
+    taken = tried(f"127.0.0.1:{member}", f"127.0.0.1:{member}")
+    check("serving" not in taken and f"can't listen on 127.0.0.1:{member}: " in taken and "in use" in taken, f"an address in use: {taken}")
+    print("addresses: four forms of addresses were served, and one in use was told as such")
+
+
+def listening(process):
+    """How many sockets of a process listen."""
+    links = set()
+    for name in os.listdir(f"/proc/{process.pid}/fd"):
+        with contextlib.suppress(OSError):
+            links.add(os.readlink(f"/proc/{process.pid}/fd/{name}"))
+    with open("/proc/net/tcp") as table:
+        rows = [line.split() for line in table.readlines()[1:]]
+    return sum(row[3] == "0A" and f"socket:[{row[9]}]" in links for row in rows)
+
+
+def fetched(port, path, method="GET"):
+    """The status, the type and the body that the second listener answers with."""
+    connection = http.client.HTTPConnection("127.0.0.1", port, timeout=10)
+    try:
+        connection.request(method, path)
+        answer = connection.getresponse()
+        return answer.status, answer.getheader("Content-Type"), answer.read().decode()
+    finally:
+        connection.close()
+
+
+def figures(port):
+    """What is told at `/metrics`, by the names with their labels. Each sample stands behind the help and the type of its family."""
+    status, kind, text = fetched(port, "/metrics")
+    check(status == 200 and kind == "text/plain; version=0.0.4; charset=utf-8", f"/metrics: {status} {kind}")
+    told, family = {}, None
+    for line in text.splitlines():
+        if line.startswith("# HELP "):
+            family = [line.split()[2]]
+        elif line.startswith("# TYPE "):
+            _, _, name, type_of = line.split()
+            check(family == [name] and (type_of == "counter") == name.endswith("_total") and type_of in ("counter", "gauge"), line)
+            family.append(type_of)
+        else:
+            sample = re.fullmatch(r'([a-z_]+)(\{[a-z]+="[^"]*"(?:,[a-z]+="[^"]*")*\})? ([0-9]+(?:\.[0-9]+)?)', line)
+            check(sample and len(family) == 2 and sample[1] == family[0] and sample[1] + (sample[2] or "") not in told, line)
+            told[sample[1] + (sample[2] or "")] = float(sample[3])
+    return {name.removeprefix("etcd_proxy_"): value for name, value in told.items()}
+
+
+def metrics(world):
+    """What a server counts is what was done, and nothing listens for it unless it is asked for."""
+    with world.beside("metrics") as beside:
+        figures_of(beside)
+    print("metrics: replies, reads from memory, keys, watches, connections, calls and members were counted, and shown on the page")
+
+
+def figures_of(world):
+    port, cluster = free_port(), world.cluster
+    proxy = world.proxy("metrics", f"--leasing-prefix={LEASING}", f"--metrics-addr=127.0.0.1:{port}", "--workers=5", ttl=60)
+    read = lambda key: proxy.post("/v3/kv/range", {"key": text64(key)})
+    now = lambda: figures(port)
+    replied = lambda told, path, code: told.get(f'requests_total{{path="{path}",code="{code}"}}', 0)
+    until(lambda: now()["connections"] == 0, 10, "no connection is open")
+
+    # reads from memory, and statuses by path
+    put(proxy, "m/0", "v")
+    revision, owned = put(proxy, "m/0", "w"), now()["owned_keys"]
+    check(read("m/0")[0] == 200, "a read")
+    until(lambda: now()["owned_keys"] == owned + 1, 10, "a key is owned")
+    before = now()
+    for _ in range(25):
+        check(read("m/0")[0] == 200, "a read")
+    check(proxy.post("/v3/kv/range", {"key": text64("m/"), "range_end": text64("m0")})[0] == 200, "a range")
+    check(proxy.post("/v3/kv/put", "{")[0] == 400 and proxy.post("/v3/kv/nothing", {})[0] == 404, "refusals")
+    check(proxy.post("/v3/kv/deleterange", {"key": text64("n/0")})[0] == 200, "a deletion")
+    for _ in range(3):
+        revision = put(proxy, "n/1", "v")
+    after = now()
+    gained = lambda path, code: replied(after, path, code) - replied(before, path, code)
+    check(after["cached_reads_total"] - before["cached_reads_total"] == 25, f"reads from memory: {before} {after}")
+    for path, code, count in (("/v3/kv/range", 200, 26), ("/v3/kv/put", 200, 3), ("/v3/kv/deleterange", 200, 1), ("other", 400, 1), ("other", 404, 1)):
+        check(gained(path, code) == count, f"{path} {code}: {gained(path, code)} for {count}")
+    check(after["connections_opened_total"] - before["connections_opened_total"] == 32, f"connections that were opened: {before} {after}")
+    calls = lambda told: sum(told[f'member_calls_total{{member="{n}"}}'] for n in (1, 2, 3))
+    # a range of two keys, a deletion and three puts are passed on; keepalives may come beside them
+    check(5 <= calls(after) - calls(before) <= 7, f"calls: {before} {after}")
+    seconds = sum(after[f'member_call_seconds_total{{member="{n}"}}'] for n in (1, 2, 3))
+    check(0 < seconds < 60 and after["calls_untaken_total"] == 0, f"seconds of calls: {seconds}")
+    check(after["revision"] == revision and 30 <= after["session_remaining_seconds"] <= 60, f"revision and session: {after}")
+    check(after["workers"] == 5 and after["requests_waiting"] == 0, f"workers: {after}")
+    check(any(name.startswith("build_info") and value == 1 for name, value in after.items()), f"build: {after}")
+
+    # over one connection, and connections that rest
+    kept = http.client.HTTPConnection("127.0.0.1", proxy.port, timeout=10)
+    for _ in range(10):
+        kept.request("POST", "/v3/kv/range", json.dumps({"key": text64("m/0")}))
+        check(kept.getresponse().read() != b"", "a read")
+    check(now()["cached_reads_total"] - after["cached_reads_total"] == 10, "reads from memory over one connection")
+    resting = [socket.create_connection(("127.0.0.1", proxy.port)) for _ in range(4)]
+    until(lambda: now()["connections"] == 5, 10, "five connections are open")
+
+    # watches
+    watching = [Watch(proxy.port, {"key": text64("w/0")}) for _ in range(3)]
+    watched(watching, lambda: all(w.created for w in watching), 10, "three watches are created")
+    told = now()
+    check(told["watches"] == 3 and told["member_streams"] == 2 and told["connections"] == 8, f"three watches share a stream beside that of ownership: {told}")
+    put(proxy, "w/0", "v")
+    watched(watching, lambda: all(w.events for w in watching), 10, "three watches are told of a put")
+    check(now()["watch_messages_total"] - told["watch_messages_total"] == 3, "three messages")
+    check(now()["watch_events_total"] - told["watch_events_total"] == 3, "an event in each")
+    busiest = fetched(port, "/")[2].split("<h2>Busiest ranges</h2>")[1]
+    check('<tr><td>w/0</td><td class="t"></td>' in busiest, f"the stream of the watches is shown: {busiest}")
+    for one in [*watching, *resting]:
+        (one.socket if isinstance(one, Watch) else one).close()
+    kept.close()
+    until(lambda: (now()["connections"], now()["watches"]) == (0, 0), 15, "no connection and no watch is left")
+
+    # a put that waits for members that hang
+    for number in range(3):
+        cluster.signal(number, signal.SIGSTOP)
+    waiting = threading.Thread(target=put, args=(proxy, "n/1", "x"))
+    waiting.start()
+    until(lambda: (now()["requests_waiting"], now()["workers_busy"]) >= (1, 1), 4, "a put waits")
+    for number in range(3):
+        cluster.signal(number, signal.SIGCONT)
+    waiting.join()
+    until(lambda: now()["requests_waiting"] == 0, 10, "nothing waits")
+
+    # members
+    ups = lambda: [now()[f'member_up{{member="{n + 1}",endpoint="127.0.0.1:{cluster.ports[n]}"}}'] for n in range(3)]
+    until(lambda: ups() == [1, 1, 1], 20, "all members answer")
+    cluster.kill(1)
+    until(lambda: ups() == [1, 0, 1], 20, "one member doesn't answer")
+    page = fetched(port, "/")
+    check(page[0] == 200 and page[1] == "text/html; charset=utf-8", f"the page: {page}")
+    check('<meta http-equiv="refresh" content="2">' in page[2] and "<script" not in page[2] and "src=" not in page[2], "the page stands alone")
+    check(f"<b>{int(owned) + 1}</b>owned keys" in page[2] and '<td class="t down">down</td>' in page[2] and "<td>/v3/kv/range</td>" in page[2], f"the page: {page[2]}")
+    check(fetched(port, "/health") == (200, "application/json", '{"health":"true"}'), "the health")
+    cluster.kill(0)
+    until(lambda: fetched(port, "/health") == (503, "application/json", '{"health":"false"}'), 30, "no health without a quorum")
+    for number in (0, 1):
+        cluster.start(number)
+    until(lambda: fetched(port, "/health")[0] == 200, 30, "the server is healthy again")
+
+    # nothing else is answered there, and steps are made by nobody who looks
+    for path, method, status in (("/metric", "GET", 404), ("/v3/kv/range", "GET", 404), ("/v3/kv/range", "POST", 405), ("/metrics", "POST", 405)):
+        check(fetched(port, path, method)[0] == status, f"{method} {path}")
+    check(fetched(port, "/metrics", "HEAD")[2] == "" and fetched(port, "/metrics?x=1")[0] == 200, "a HEAD, and a query")
+    check(listening(proxy.process) == 2, "two sockets listen")
+    proxy.stop()
+    other = world.proxy("unmeasured", ttl=60)
+    check(listening(other.process) == 1, "one socket listens without the option")
+    taken = subprocess.run([world.program, "grpc-proxy", "start", f"--endpoints=127.0.0.1:{cluster.ports[2]}", f"--listen-addr=127.0.0.1:{free_port()}",
+                            f"--metrics-addr=127.0.0.1:{other.port}"], capture_output=True, timeout=20)
+    check(taken.returncode == 8 and b"can't listen on 127.0.0.1:%d" % other.port in taken.stderr, f"an address in use: {taken}")
+    other.stop()
+
+
 def real_clients(world):
     """Clients and fronts that others wrote, unchanged, before a cluster of its own."""
     with world.beside("real") as beside:
-        proxies = [beside.proxy(name, f"--leasing-prefix={LEASING}", "--workers=16", ttl=60) for name in ("first", "second")]
+        options = [f"--leasing-prefix={LEASING}", "--workers=16", "--etcd-errors"]
+        proxies = [beside.proxy(name, *options, ttl=60) for name in ("first", "second")]
         words = [os.path.join(os.path.dirname(os.path.abspath(__file__)), "real_clients.py"), world.program]
         told = subprocess.run([sys.executable, *words, *(str(p.port) for p in proxies), *(str(p.process.pid) for p in proxies)],
                               env={**os.environ, "PATIENCE": str(PATIENCE)})
@@ -2140,7 +2373,7 @@ class World:
 
 
 PARTS = [answers, truth, links, watches, rest, clients, halves, leavers, canceled, room, uploads, limit, descriptors, quiet, quiet_links, quorum,
-         quiet_owner, restart, full, stop, restored, auth, pauses, workers, scans, vanished, lines, probes, real_clients, down]
+         quiet_owner, restart, full, stop, restored, auth, pauses, workers, scans, vanished, lines, probes, own, addresses, metrics, real_clients, down]
 
 # what the gate runs; those that stand on clusters of their own beside the others
 SHORT = [[answers, truth, links, watches, clients], [quiet, quiet_links, quiet_owner]]

@@ -7,16 +7,11 @@ usage: debian_clients.py etcd3gw PORT
 etcd3gw    the tests that python3-etcd3gw comes with
 patroni    two nodes by the classes of Debian's patroni, each through a proxy of its own: they race for the leader's key, follow each other by
            watches, hand over, and lose a lease. PROCESS PROCESS are the proxies' numbers, of which it kills one
-
-What the program doesn't answer yet is left out, and each time the comment says what that is.
 """
 import functools, json, logging, os, signal, sys, threading, time, types, unittest
 from unittest import mock
 
 PATIENCE = float(os.environ.get("PATIENCE", 1))
-
-# Left out: the program answers neither /v3/cluster/member/list nor /v3/maintenance/status yet, but with 404.
-UNANSWERED = {"test_client_members", "test_client_status"}
 
 
 def stand_in(name, **has):
@@ -38,11 +33,11 @@ def try_etcd3gw(port):
         from etcd3gw.tests import test_etcd3gw as tests
     tests.Etcd3Client = functools.partial(tests.Etcd3Client, host="127.0.0.1", port=int(port), api_path="/v3/")
     cases = unittest.defaultTestLoader.loadTestsFromModule(tests)
-    wanted = [case for group in cases for case in group if case._testMethodName not in UNANSWERED]
+    wanted = [case for group in cases for case in group]
     told = unittest.TextTestRunner(sys.stderr, verbosity=0).run(unittest.TestSuite(wanted))
     if not told.wasSuccessful() or told.skipped:
         sys.exit(f"etcd3gw: {len(told.failures) + len(told.errors)} of {len(wanted)} tests failed, {len(told.skipped)} were skipped")
-    print(f"etcd3gw: {len(wanted)} tests that it comes with passed, all but {len(UNANSWERED)}")
+    print(f"etcd3gw: {len(wanted)} tests that it comes with passed, all of them")
 
 
 # how long a lease of a node lives, in seconds
@@ -86,12 +81,6 @@ def nodes_of(ports):
     """Two nodes, each with its own proxy first."""
     from patroni.dcs import etcd3
 
-    # Left out: the program doesn't answer /v3/cluster/member/list yet, by which a node asks for the addresses of all members even where
-    # `use_proxies` tells it not to go to them. So a node keeps to the addresses that it was given, once it asked /version as it always does.
-    def given(client, base_uri, **kwargs):
-        client._ensure_version_prefix(base_uri, **kwargs)
-        return list(client._config["hosts"])
-    etcd3.PatroniEtcd3Client._get_members = given
     scope = f"trial-{os.getpid()}-{time.time():.0f}"
     return [etcd3.Etcd3({"name": name, "scope": scope, "namespace": "/service", "hosts": [f"127.0.0.1:{port}" for port in order],
                          "use_proxies": True, "ttl": TTL, "loop_wait": 1, "retry_timeout": 5})
@@ -159,11 +148,10 @@ def lose(steps, leader, other):
         time.sleep(0.5)
     steps("the leader's key goes with its lease", not other.get_cluster().leader)
     steps("the other node has the key", other.attempt_to_acquire_leader())
-    # Left out: a put with a lease that is over, since the program's refusals have no field `error` yet, in which patroni looks for
-    # `etcdserver: requested lease not found`. It also hears that its lease is over where it wants to keep it alive.
+    # A put with a lease that is over is refused, and the refusal's field `error` says so: then the node has a new lease.
     old = leader._lease
-    steps("the node that led has a new lease", leader.refresh_lease() and leader._lease != old)
-    steps("it tells of itself again", leader.touch_member({"state": "again"}))
+    steps("it tells of itself again", any(leader.touch_member({"state": "again"}) for _ in range(3)))
+    steps("the node that led has a new lease", leader._lease and leader._lease != old)
     steps.seen("both see it, and the leader", lambda c: c.leader_name == other._name
                and {m.name: m.data["state"] for m in c.members} == {leader._name: "again", other._name: other._name})
     steps("it can't lead", not leader.attempt_to_acquire_leader())

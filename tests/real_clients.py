@@ -263,7 +263,8 @@ def sent_once(name, at, past, closing):
           f"{name}: {closing.taken} puts were taken and not answered, {version} were done: {told}")
 
 
-REFUSED = (400, {"code": 3, "message": "proxy: bad request"})
+# by the proxies with --etcd-errors
+REFUSED = (400, {"error": "proxy: bad request", "message": "proxy: bad request", "code": 3})
 
 
 def refused_for_its_version(name, at):

@@ -23,7 +23,7 @@ comes_to() {
     fi
 }
 
-usage='usage: etcd_proxy replay [--generate N] or grpc-proxy start OPTIONS\n'
+usage='usage: etcd_proxy replay [--generate N] or audit or grpc-proxy start OPTIONS\n'
 comes_to '' 'replay' 0 '' ''
 comes_to 'world 1 ~ ~\nstart 1' 'replay' 0 'world 1 ~ ~\nstarted 1\n' ''
 comes_to '' '--version' 0 'etcd_proxy 0.1.0\n' ''
@@ -75,10 +75,11 @@ got=0
 }
 exec 9>&-
 
-# An address that is none of this machine's can't be listened on. The system's cause, and what members answer, may stand beside the two lines.
+# An address that is none of this machine's can't be listened on. What is served is told only once it is; the system's cause, and what members
+# answer, may stand beside the last line.
 got=0
 "$program" grpc-proxy start --endpoints=127.0.0.1:2379 --listen-addr=192.0.2.1:9 > "$work/output" 2> "$work/errors" || got=$?
-[ "$got" -eq 7 ] && grep -qx 'serving 192.0.2.1:9 for 127.0.0.1:2379' "$work/errors" && grep -q '^listener fault$' "$work/errors" || {
+[ "$got" -eq 7 ] && ! grep -q '^serving' "$work/errors" && grep -q "can't listen on 192.0.2.1:9: " "$work/errors" && grep -q '^listener fault$' "$work/errors" || {
     echo "statuses: an address that can't be listened on: status $got" >&2
     failures=$((failures + 1))
 }
