@@ -4,6 +4,7 @@ rules.
 """
 from collections import defaultdict
 from dataclasses import dataclass, field
+from itertools import takewhile
 
 from plain_leasing import REVOKE, covers, is_session, lease_named, leasing_range, refusal_of, written_ranges
 from plain_namespace import Foreign, events_without, range_under
@@ -39,9 +40,22 @@ class Write:
 
 
 @dataclass
+class Asked:
+    """A write that is served, with its place; whether it began: a call names it, or its client left."""
+
+    place: int
+    ticket: int
+    since: int
+    request: object
+    ranges: list
+    begun: bool = False
+
+
+@dataclass
 class Owning:
     """How far the acquire of a key came that names a ticket: it is out, or the key is owned since a create revision, or all is over. The
-    proxy may write the key meanwhile: its writes go one after the other, once the key is won, and it isn't owned until they are done."""
+    proxy may write the key from the ticket's request on: its writes go one after the other, once the key is won, and it isn't owned until
+    they are done."""
 
     session: int
     call: int
@@ -69,9 +83,11 @@ class Owning:
             self.over |= not (is_settled and clock < first.since + REQUEST_TIME)
 
 
-def keeps(request):
-    """A write of one key that puts it without a lease, or deletes it."""
-    return isinstance(request, Put) and not request.lease or isinstance(request, Delete) and not request.end
+def keeps(request, key):
+    """A write of single keys that doesn't put this one with a lease, in a transaction in neither branch."""
+    ops = [*request.success, *request.failure] if isinstance(request, Txn) else [request]
+    is_leased = any(isinstance(op, Put) and op.key == key and op.lease for op in ops)
+    return not is_leased and not any(end for _, end in written_ranges(request))
 
 
 def puts_under(request, lease):
@@ -89,7 +105,8 @@ class Life:
     asked: dict = field(default_factory=dict)  # each ticket's place and request
     ranges: set = field(default_factory=set)  # of several keys, that were read or written
     keys: set = field(default_factory=set)  # that were read or written, or of whose ownership keys an event came
-    writes: list = field(default_factory=list)  # the places of the writes that are served, with their ranges
+    writes: list = field(default_factory=list)  # that are served
+    unbegun: dict = field(default_factory=dict)  # those that didn't begin, by ticket
     revoked: dict = field(default_factory=dict)  # the place at which the revoking word came for a key
     compacted: int = -1  # the place at which the leasing stream was cancelled for a compaction
     owning: dict = field(default_factory=lambda: defaultdict(dict))  # by key and ticket
@@ -136,22 +153,24 @@ class Proxy:
         life.ranges |= {r for r in ranges if r[1]}
         life.keys |= {key for key, end in ranges if not end}
         if not isinstance(request, Range) and ranges and refusal_of(self.leasing, request) is None:
-            life.writes.append((place, ranges))
+            life.unbegun[ticket] = Asked(place, ticket, self.clock, request, ranges)
+            life.writes.append(life.unbegun[ticket])
             self.write_owned(ticket, request, ranges)
         else:
             self.leave(ticket)
 
     def write_owned(self, ticket, request, ranges):
-        """A write is asked: its keys aren't owned until it was done, nor after it where it writes others too or one wasn't done."""
+        """A write is asked: its keys aren't owned until it was done, nor after it where it deletes a range too or one wasn't done."""
         for key, of_tickets in self.life.owning.items():
             for owning in of_tickets.values():
                 owning.over |= owning.names(ticket)
                 if covers(ranges, key):
-                    owning.over |= not (keeps(request) and ticket)
+                    owning.over |= not (keeps(request, key) and ticket)
                     owning.writes.append(Write(ticket, self.clock))
 
     def leave(self, ticket):
         """What was asked under this ticket is over."""
+        self.begin(ticket)
         for of_tickets in self.life.owning.values():
             for owning in of_tickets.values():
                 owning.over |= owning.names(ticket)
@@ -174,23 +193,31 @@ class Proxy:
         for owner in puts_under(request, self.life.session.number):
             key = owner[len(prefix) :]
             of_tickets = self.life.owning[key]
-            if owner.startswith(prefix) and ticket not in of_tickets and self.is_untouched(key, self.life.asked[ticket][0]):
-                of_tickets[ticket] = Owning(self.life.session.number, call)
+            writes = self.writes_since(key, self.life.asked[ticket][0])
+            if owner.startswith(prefix) and ticket not in of_tickets and writes is not None:
+                of_tickets[ticket] = Owning(self.life.session.number, call, writes=writes)
                 self.life.acquires[call].append(key)
 
+    def begin(self, ticket):
+        write = self.life.unbegun.pop(ticket, None)
+        if write:
+            write.begun = True
+
     def send_write(self, call, ticket):
+        self.begin(ticket)
         for of_tickets in self.life.owning.values():
             for owning in of_tickets.values():
                 owning.send(call, ticket)
 
-    def is_untouched(self, key, since):
-        """Whether no write of the key was served since then, and the key wasn't to be given up."""
-        for place, ranges in reversed(self.life.writes):
-            if place < since:
-                break
-            if covers(ranges, key):
-                return False
-        return max(self.life.revoked.get(key, -1), self.life.compacted) < since
+    def writes_since(self, key, since):
+        """The writes of the key that were served since then; none are known where one began, or the key was to be given up."""
+        later = takewhile(lambda write: write.place > since, reversed(self.life.writes))
+        writes = [write for write in later if covers(write.ranges, key)][::-1]
+        if max(self.life.revoked.get(key, -1), self.life.compacted) > since:
+            return None
+        if not all(keeps(write.request, key) and write.ticket and not write.begun for write in writes):
+            return None
+        return [Write(write.ticket, write.since) for write in writes]
 
     def end_call(self, call, won_at, was_live, is_settled):
         """A call was answered or lost; where it is the acquire of a key, that says at which revision the key was won, or 0. Where it is

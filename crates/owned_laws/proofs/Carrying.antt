@@ -72,7 +72,7 @@ less_later a b c h k = omega (arith, h, k)
 
 -- where the core stays, and its clock doesn't go back
 pub kept_on : (before after : List SentCall) (bound next p life now later : ℕ) (k : List ℕ) (t : ℕ) (o : Owning) (c : Core) → Carry before after → bound ≤ next → now ≤ later → Kept before bound p life now k t o c → Kept after next p life later k t o c
-kept_on before after bound next p life now later k t asks c g l u h = h
+kept_on before after bound next p life now later k t (asks vs) c g l u h = record { clients = h.clients; so = λ e. h.so (all_before now later vs u e) }
 kept_on before after bound next p life now later k t (sends number n vs) c g l u h = record {
   own = h.own;
   call = call_on before after p life number h.own g h.call;
@@ -135,12 +135,12 @@ outs_more namespace leasing items more p xs h =
 
 -- watched for nothing but the rescinds that are out
 pub plain_so : (T : OfRescind) (c : Core) → EachOf (CallSo T) c.own.waits.out → CoreSo (plain [] T) c
-plain_so T c h = λ s i. (record { outs = h; over = λ y. no_true y; mark = λ y. no_true y; entry = λ y. no_true y }, tt)
+plain_so T c h = λ s i. (record { case = tt; outs = h; there = tt; over = λ y. no_true y; mark = λ y. no_true y; entry = λ y. no_true y }, tt)
 
-pub unwatched : (leasing : List ℕ) (es : List Rattle.etcd_types.specs.declared.watch.Event.Event) → AllSpare [] false false 0 leasing es
-unwatched leasing [] = tt
-unwatched leasing (e ∷ es) = (by e.change, unwatched leasing es)
+pub unwatched : (k leasing : List ℕ) (es : List Rattle.etcd_types.specs.declared.watch.Event.Event) → AllSpare k false false 0 leasing es
+unwatched k leasing [] = tt
+unwatched k leasing (e ∷ es) = (by e.change, unwatched k leasing es)
   where
-    by : (x : Rattle.etcd_types.specs.declared.watch.Change.Change) → Rattle.owned_laws.specs.Watched.Spares [] false false 0 leasing x
+    by : (x : Rattle.etcd_types.specs.declared.watch.Change.Change) → Rattle.owned_laws.specs.Watched.Spares k false false 0 leasing x
     by (Rattle.etcd_types.specs.declared.watch.Change.TheVariants.Put kv) = λ y. no_true y
     by (Rattle.etcd_types.specs.declared.watch.Change.TheVariants.Delete j revision) = λ y. no_true y

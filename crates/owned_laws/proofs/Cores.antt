@@ -60,9 +60,10 @@ use Rattle.core_model.specs.Takes as takes
 use Rattle.core_model.specs.Takes.{item_taken, taken, on_take, watcher_left, left, on_leave}
 use Rattle.core_model.specs.Watching as watching
 use Rattle.core_model.specs.Watching.{stream_message, stream_item, stream_job, stream_sent, taken_item}
+use Rattle.owned_laws.specs.OwnWrites.{OwnWrite}
 use Rattle.owned_laws.specs.Watched.{AllSpare, seat_is}
 use Rattle.owned_laws.proofs.Modes.{Mode, Seated}
-use Rattle.owned_laws.proofs.Own.{Misses as MissesBy, no_own, OwnSo, pass_so, message_so as own_message_so, resync_so, compaction_so, submitted_so, SentSo, job_sent_so}
+use Rattle.owned_laws.proofs.Own.{Misses as MissesBy, ThereMisses, no_own, OwnSo, pass_so, message_so as own_message_so, resync_so, compaction_so, submitted_so, SentSo, job_sent_so}
 use Rattle.core_fits.specs.Fits.{EachOf}
 use Rattle.core_laws.proofs.Steps.Lists.{same_number}
 use Rattle.read_model.specs.TakingOff.{is_writes}
@@ -153,7 +154,7 @@ module _ (M : Mode) where
   pub clock_by : (now : ℕ) (c : Core) → OnTime now c → CoreSo c → CoreSo (clock_work now c)
   unfolding clock_work
   clock_by now c l t =
-      let b : CoreSo (begun c) = with_own c (step_begun c.steps c.own) (λ r. record { outs = r.outs; over = r.over; mark = r.mark; entry = r.entry }) t in
+      let b : CoreSo (begun c) = with_own c (step_begun c.steps c.own) (λ r. record { case = r.case; outs = r.outs; there = r.there; over = r.over; mark = r.mark; entry = r.entry }) t in
       let d = deadline_passed now (begun c) in
       let e : CoreSo d = either CoreSo (seat_is_over c.seat now) (without_session now (begun c)) (begun c) (ended_so now (begun c) b) b in
       go_on (requests_timed_out now d) (λ s. taken_off_so M (moment d now) (times_out now) (map (timed_out_ask now) d.asks) (reads_of d) l (e s))
@@ -163,10 +164,13 @@ module _ (M : Mode) where
   all_spared p (a ∷ xs) n = ((λ e. n (writes.has_ticket a.ticket)), all_spared p xs n)
 
   -- where no write is the owner's own
-  pub none_late : M.mine ≡ [] → (now : ℕ) (c : Core) → OnTime now c
-  none_late n now c = all_spared (times_out now) (deadline_passed now (begun c)).asks (λ q. no_own M.mine q n)
+  abbrev pub HasNone : Type 0
+  HasNone = ((c : M.Case) → M.mine c ≡ []) × (M.there ≡ [])
 
-  pub clock_so : M.mine ≡ [] → (now : ℕ) (c : Core) → CoreSo c → CoreSo (clock_work now c)
+  pub none_late : HasNone → (now : ℕ) (c : Core) → OnTime now c
+  none_late n now c = all_spared (times_out now) (deadline_passed now (begun c)).asks (λ q. ((λ i. no_own (M.mine i) q (n.0 i)), subst (λ (vs : List OwnWrite). ThereMisses k vs q) (sym n.1) tt))
+
+  pub clock_so : HasNone → (now : ℕ) (c : Core) → CoreSo c → CoreSo (clock_work now c)
   clock_so n now c t = clock_by now c (none_late n now c) t
 
   -- ---- calls end

@@ -5,7 +5,6 @@ use Rattle.etcd_types.specs.declared.answer.Answer.{Answer}
 use Rattle.etcd_types.proofs.Bools.{and_second, and_both}
 use Rattle.etcd_types.proofs.KeyOrder.{same-equal}
 use Rattle.wait_model.specs.declared.write.Write.{Write}
-use Rattle.wait_model.specs.Fits.{Fits}
 use Rattle.wait_model.specs.Writes.{sends as sends_own, stage_sends}
 use Rattle.core_model.specs.declared.event.CoreEvent.{CoreEvent}
 use Rattle.core_model.specs.declared.event.CoreEvent.TheVariants as event
@@ -16,8 +15,6 @@ use Rattle.core_model.specs.Lookups.{live_number, out_at}
 use Rattle.core_model.specs.State.{Seat, Core}
 use Rattle.core_model.specs.Step.{happened, stepped}
 use Rattle.core_model.specs.Stepped.{Stepped}
-use Rattle.core_laws.proofs.Steps.Middle.{clock_whole}
-use Rattle.core_laws.proofs.Steps.Whole.{of_ok}
 use Rattle.core_laws.proofs.Steps.Lists.{same_number, number_itself, number_turned}
 use Rattle.script_text.specs.declared.item.Item.{Item}
 use Rattle.script_text.specs.declared.item.Item.TheVariants as item
@@ -35,15 +32,14 @@ use Rattle.owned_laws.specs.Owned.{Owning, asks, sends, owns, write_asked, write
 use Rattle.owned_laws.proofs.Carrying.{no_true, some_number, some_call, carry_changed, less_later, each_map, plain_so}
 use Rattle.owned_laws.proofs.Standing.{Before, later, mine, core_ok, agrees, owners, prefix_is, named, Lets, keep}
 use Rattle.owned_laws.proofs.Cores as cores
-use Rattle.owned_laws.proofs.Cores.{CoreSo}
 use Rattle.owned_laws.proofs.Kept.{HasCall, IsSendingIn, Kept, kept_behind, KeysOk, Rescinded}
 use Rattle.owned_laws.proofs.Late.{AsksOther, all_other, all_in_time, all_stay, on_time, waits_on_time}
 use Rattle.owned_laws.proofs.Modes.{IsMine, first_as, Mode}
 use Rattle.owned_laws.proofs.OwnSteps.{own_step_answered}
 use Rattle.owned_laws.proofs.Ready.{IsKeptIn, counted_kept}
-use Rattle.owned_laws.proofs.Steps.{Leaves, EndsSo, asking_ends, sending_ends, holding_ends, writing_ends, Wins, acquire_won}
+use Rattle.owned_laws.proofs.Steps.{Leaves, EndsSo, asking_ends, present_ends, sending_ends, holding_ends, writing_ends, Wins, acquire_won}
 use Rattle.owned_laws.proofs.Told.{IsWon, IsDone, AnsweredAs, wins_it, settles_it, answers_other, told_answered, told_lost}
-use Rattle.owned_laws.proofs.Ways.{NotOf, plain, asking, sending_as, holds, writes_own}
+use Rattle.owned_laws.proofs.Ways.{NotOf, plain, present, asking, sending_as, holds, writes_own}
 
 module _ {namespace : List ℕ} {items : List Item} {w : World} {p : ℕ} {x : Place} (known : Before namespace items w p x) where
   abbrev next : ℕ
@@ -57,9 +53,6 @@ module _ {namespace : List ℕ} {items : List Item} {w : World} {p : ℕ} {x : P
 
   abbrev d : Core
   d = clock_work x.clock x.core
-
-  fits : Fits d.own
-  fits = (clock_whole 0 x.clock x.core (of_ok x.core (core_ok known)).mid).mid.reads.ground.keys
 
   -- ---- ends of calls
 
@@ -81,11 +74,12 @@ module _ {namespace : List ℕ} {items : List Item} {w : World} {p : ℕ} {x : P
       by false f = refl
 
   -- a call that is answered isn't the first write's own
-  due_apart : (v : OwnWrite) (call : ℕ) (y : Write) → IsMine (first_as v None) y → sends_own call y ≡ false
-  due_apart v call y i = ap (stage_sends call) i.stage.1
+  due_apart : (v : OwnWrite) (call : ℕ) (c : Bool) (y : Write) → IsMine (first_as v None c) y → sends_own call y ≡ false
+  due_apart v call true y i = ap (stage_sends call) i.stage.1
+  due_apart v call false y i = ap (stage_sends call) i.stage
 
-  out_apart : (v : OwnWrite) (own call : ℕ) (y : Write) → (own == call) ≡ false → IsMine (first_as v (Some own)) y → sends_own call y ≡ false
-  out_apart v own call y n i = ap (stage_sends call) i.stage ∙ n
+  out_apart : (v : OwnWrite) (own call : ℕ) (c : Bool) (y : Write) → (own == call) ≡ false → IsMine (first_as v (Some own) c) y → sends_own call y ≡ false
+  out_apart v own call c y n i = ap (stage_sends call) i.stage ∙ n
 
   out_number : (call : ℕ) (out : List OutCall) (o : OutCall) → out_at call out ≡ Some o → o.call ≡ call
   out_number call [] o e = absurd (cc)
@@ -100,18 +94,18 @@ module _ {namespace : List ℕ} {items : List Item} {w : World} {p : ℕ} {x : P
 
   ends_lets : (e : CoreEvent) (number : ℕ) (call : SentCall) (k : List ℕ) (t : ℕ) (o : Owning) → ((i : ℕ) → AsksOther e i) → ((M : Mode) → EndsSo M d call.own → Leaves M d e) → nth w.calls number ≡ Some call → call.proxy ≡ p → call.life ≡ x.life → awaits_call number o ≡ false
       → Lets known e k t o
-  ends_lets e number call k t asks u l i its lived n = λ s. l (asking k t) (asking_ends k t d call.own)
+  ends_lets e number call k t (asks vs) u l i its lived n = (all_other e u vs, ((λ a s. l (asking k t vs a) (asking_ends k t vs a d call.own)), (λ s. l (present k vs) (present_ends k vs d call.own))))
   ends_lets e number call k t (sends c m vs) u l i its lived n =
       (all_other e u vs, λ j v a s. l (sending_as k j m vs a) (sending_ends k j m vs a d call.own (owners known) (own_apart number c call j i its lived v n) s))
   ends_lets e number call k t (owns m create) u l i its lived n = λ y f c z s. l (holds k m y f) (holding_ends k m y f d call.own (owners known) s)
   ends_lets e number call k t (write_asked m create v vs) u l i its lived n =
-      (all_other e u (v ∷ vs), λ b a y f c s. l (writes_own k m v vs None a y f) (writing_ends k m v vs None a y f d call.own (owners known) (λ o g z j. due_apart v o.call z j) s))
+      (all_other e u (v ∷ vs), λ b a y c s. l (writes_own k m v vs None a y) (writing_ends k m v vs None a y d call.own (owners known) (λ o g i z j. due_apart v o.call i z j) s))
   ends_lets e number call k t (write_sent m create v vs c) u l i its lived n = (
     all_other e u (v ∷ vs),
-    λ j h b a y f g s.
-        l (writes_own k m v vs (Some j) a y f)
-        (writing_ends k m v vs (Some j) a y f d call.own (owners known)
-        (λ o g' z q. out_apart v j o.call z (ap (λ (m : ℕ). j == m) (out_number call.own d.out o g') ∙ number_turned call.own j (own_apart number c call j i its lived h n)) q) s),
+    λ j h b a y g s.
+        l (writes_own k m v vs (Some j) a y)
+        (writing_ends k m v vs (Some j) a y d call.own (owners known)
+        (λ o g' i' z q. out_apart v j o.call i' z (ap (λ (m : ℕ). j == m) (out_number call.own d.out o g') ∙ number_turned call.own j (own_apart number c call j i its lived h n)) q) s),
   )
 
   pub lost_keys : (number : ℕ) (call : SentCall) → nth w.calls number ≡ Some call → call.proxy ≡ p → call.life ≡ x.life
@@ -165,7 +159,7 @@ module _ {namespace : List ℕ} {items : List Item} {w : World} {p : ℕ} {x : P
         agrees = agrees known;
         live = seated_number v.n d.seat (seated_behind v.n x.clock x.core sits);
         claim = ap (λ (l : List ℕ). claim_in l d.own.waits.prefix k (Some a)) (named known) ∙ ap (λ (l : List ℕ). claim_in nsp l k (Some a)) (prefix_is known) ∙ ap (claim_in nsp lea k) (sym ((known.beside.sessions.calls number).ran ∙ ap ran_to e ∙ ran)) ∙ v.claim;
-        outs = each_map T (NotOf k v.create) (not_of k v.create v.kept) d.own.waits.out (cores.clock_so (plain [] T) refl x.clock x.core (plain_so T x.core (mine known).outs) tt tt).0.outs;
+        outs = each_map T (NotOf k v.create) (not_of k v.create v.kept) d.own.waits.out (cores.clock_so (plain [] T) ((λ c. refl), refl) x.clock x.core (plain_so T x.core (mine known).outs) tt tt).0.outs;
       } in (
         subst (λ (z : Stepped). IsKeptIn k v.n v.create v.writes z.core) (sym (stepped_is x.core ev x.clock gave'.0)) (counted_kept k v.n v.create v.writes (happened x.clock ev d) (acquire_won k v.n call.own x.clock v.writes v.create d a wins)),
         all_stay v.writes x.core ev x.clock (core_ok known) (all_other ev (λ i. tt) v.writes) u.asked,
@@ -192,7 +186,7 @@ module _ {namespace : List ℕ} {items : List Item} {w : World} {p : ℕ} {x : P
       let early = and_both (is_in_time x.clock v) (all_in_time x.clock vs) soon rest in
       let h = s.so early in
       let g = h.begun in
-      let r = own_step_answered k u.n v vs s.own g.alone g.entry g.writing x.clock call.own a x.core o gave'.0 (on_time x.clock k u.n v vs (Some s.own) g.alone g.entry g.writing early x.core h.asked) m (agrees known) fits gave'.1 settled g.so in (
+      let r = own_step_answered k u.n v vs s.own g.alone g.entry x.clock call.own a x.core o gave'.0 (on_time x.clock k u.n v vs (Some s.own) g.alone g.entry early x.core h.asked) m (agrees known) gave'.1 settled g.so in (
         subst (λ (c : ℕ). IsKeptIn k u.n c vs (stepped x.core ev x.clock).core) g.created r,
         all_stay vs x.core ev x.clock (core_ok known) (all_other ev (λ i. tt) vs) h.asked.1,
       )))

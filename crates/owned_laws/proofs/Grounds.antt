@@ -32,8 +32,9 @@ use Rattle.read_model.specs.State.{Reads, Moment, Ground, ground_of, on}
 use Rattle.read_model.specs.TakingOff.{is_writes, forgotten_all, falls, taken_off}
 use Rattle.read_model.specs.WriteAnswers.{ending, answered_by, wait_answered, wait_lost}
 use Rattle.core_fits.specs.Fits.{EachOf}
+use Rattle.owned_laws.specs.OwnWrites.{OwnWrite}
 use Rattle.owned_laws.specs.Watched.{NoneOver}
-use Rattle.owned_laws.proofs.Modes.{Mine, Mode}
+use Rattle.owned_laws.proofs.Modes.{Mine, ThereOf, Mode}
 use Rattle.owned_laws.proofs.Own.{OverOf, Misses, OwnSo, EndSo, at_other, answered_so, lost_so, forgotten_so, over_so}
 
 either : {A : Type 0} (P : A → Type 0) (b : Bool) (x y : A) → P x → P y → P (cond b x y)
@@ -86,7 +87,7 @@ module _ (M : Mode) where
   begun_other : (ticket : ℕ) (j : List ℕ) (n : ℕ) (g : Ground) → same j k ≡ false → GroundSo g → GroundSo (begun_under ticket j (Some n) g)
   begun_other ticket j n g o t =
       as_before g (acquire_begun j g.own) (with_at g.acquires j (Some (record { ticket = ticket; session = n; sending = sending.Due g.own.waits.step }))) (at_other k j (Some (record { ticket = ticket; session = n; sending = sending.Due g.own.waits.step })) g.acquires o)
-      (λ s. record { outs = s.outs; over = s.over; mark = λ y. at_other k j (Some false) g.own.waits.spoiled o ∙ s.mark y; entry = s.entry }) t
+      (λ s. record { case = s.case; outs = s.outs; there = s.there; over = s.over; mark = λ y. at_other k j (Some false) g.own.waits.spoiled o ∙ s.mark y; entry = s.entry }) t
 
   begun_itself : (ticket n : ℕ) (g : Ground) → IsFree g k → GroundSo g → GroundSo (begun_under ticket k (Some n) g)
   begun_itself ticket n g f t = λ i. by (M.began new refl (subst M.If is i))
@@ -103,15 +104,22 @@ module _ (M : Mode) where
       none : {A : Type 0} (x : Entry) → ◌≡◌ {A = Option Entry} (Some x) None → A
       none x e = absurd (cc)
 
-      by : (M.If None × (M.Then None → (M.hold ≡ true → ⊥) → M.Then (Some new))) ⊎ (((xs : List _) → M.Outs xs) × (M.Then (Some new) × ((M.hold ≡ true → ⊥) × (M.mine ≡ [])))) → OwnSo M (acquire_begun k g.own) × M.Then (at (with_at g.acquires k (Some new)) k)
+      by : (M.If None × (M.Then None → (M.hold ≡ true → ⊥) → M.Then (Some new))) ⊎ (((xs : List _) → M.Outs xs) × (M.Then (Some new) × ((M.hold ≡ true → ⊥) × ((M.there ≡ []) × ((c : M.Case) × (M.mine c ≡ [])))))) → OwnSo M (acquire_begun k g.own) × M.Then (at (with_at g.acquires k (Some new)) k)
       by (inl c) =
           let r = t (subst M.If (sym f.acquire) c.0) in
-          let unheld : M.hold ≡ true → ⊥ = λ y. none M.entry (sym (r.0.entry y) ∙ f.entry) in (
-            record { outs = r.0.outs; over = r.0.over; mark = λ y. mark; entry = r.0.entry },
+          let unheld : M.hold ≡ true → ⊥ = λ y. none (record M.entry { phase = M.phase r.0.case }) (sym (r.0.entry y) ∙ f.entry) in (
+            record { case = r.0.case; outs = r.0.outs; there = r.0.there; over = r.0.over; mark = λ y. mark; entry = r.0.entry },
             subst M.Then (sym is) (c.1 (subst M.Then f.acquire r.1) unheld),
           )
       by (inr c) = (
-        record { outs = c.0 g.own.waits.out; over = λ y. subst (λ (ms : List Mine). OverOf k ms g.own.waits.writes) (sym c.1.1.1) f.unwritten; mark = λ y. mark; entry = λ y. absurd (c.1.1.0 y) },
+        record {
+          case = c.1.1.1.1.0;
+          outs = c.0 g.own.waits.out;
+          there = subst (λ (vs : List OwnWrite). ThereOf k vs g.own.waits.writes) (sym c.1.1.1.0) tt;
+          over = λ y. subst (λ (ms : List Mine). OverOf k ms g.own.waits.writes) (sym c.1.1.1.1.1) f.unwritten;
+          mark = λ y. mark;
+          entry = λ y. absurd (c.1.1.0 y);
+        },
         subst M.Then (sym is) c.1.0,
       )
 
@@ -156,9 +164,9 @@ module _ (M : Mode) where
           let f = M.fell (at g.acquires k) (d e) (subst M.If (acquires true e) i) in
           let r = t f.0 in
           let n = f.1 r.1 in
-          (record { outs = r.0.outs; over = r.0.over; mark = λ y. absurd (n.1 y); entry = r.0.entry }, subst M.Then (sym (acquires true e)) n.0)
+          (record { case = r.0.case; outs = r.0.outs; there = r.0.there; over = r.0.over; mark = λ y. absurd (n.1 y); entry = r.0.entry }, subst M.Then (sym (acquires true e)) n.0)
       by false e =
-          as_before g (dropped p g).own (without p g.acquires) (acquires false e) (λ s. record { outs = s.outs; over = s.over; mark = λ y. marks false e ∙ s.mark y; entry = s.entry }) t
+          as_before g (dropped p g).own (without p g.acquires) (acquires false e) (λ s. record { case = s.case; outs = s.outs; there = s.there; over = s.over; mark = λ y. marks false e ∙ s.mark y; entry = s.entry }) t
 
   pub over_reads : (m : Moment) (r : Reads) → (M.hold ≡ true → ⊥) → ReadsSo r → ReadsSo (session_over m r)
   over_reads m r n t =
@@ -197,7 +205,7 @@ module _ (M : Mode) where
   gone_other : (j : List ℕ) (g : Ground) → same j k ≡ false → GroundSo g → GroundSo (acquire_gone j g)
   gone_other j g n t =
       as_before g (Rattle.wait_model.specs.Asked.acquire_ended j g.own) (with_at g.acquires j None) (at_other k j None g.acquires n)
-      (λ s. record { outs = s.outs; over = s.over; mark = λ y. at_other k j None g.own.waits.spoiled n ∙ s.mark y; entry = s.entry }) t
+      (λ s. record { case = s.case; outs = s.outs; there = s.there; over = s.over; mark = λ y. at_other k j None g.own.waits.spoiled n ∙ s.mark y; entry = s.entry }) t
 
   none_at : (j : List ℕ) (xs : Keyed Acquire) → same j k ≡ true → at (with_at xs j None) k ≡ None
   none_at j xs e = at-with_at xs j k None ∙ ap (λ (b : Bool). cond b None (at xs k)) e
@@ -206,7 +214,7 @@ module _ (M : Mode) where
   gone_itself j g es e f t = λ i.
       let o = M.gone f (subst M.If (none_at j g.acquires e) i) (at g.acquires k) in
       let r = t o.0 in
-      (record { outs = r.0.outs; over = r.0.over; mark = λ y. absurd (o.1.1.0 y); entry = λ y. absurd (o.1.1.1 y) }, subst M.Then (sym (none_at j g.acquires e)) (o.1.0 r.1))
+      (record { case = r.0.case; outs = r.0.outs; there = r.0.there; over = r.0.over; mark = λ y. absurd (o.1.1.0 y); entry = λ y. absurd (o.1.1.1 y) }, subst M.Then (sym (none_at j g.acquires e)) (o.1.0 r.1))
 
   gone_so : (j : List ℕ) (g : Ground) → MayEnd j → GroundSo g → GroundSo (acquire_gone j g)
   gone_so j g f t = by (same j k) refl
@@ -222,7 +230,7 @@ module _ (M : Mode) where
       by true y = gone_itself j g (with_at g.own.entries j e) y (f y) t
       by false n =
           as_before (acquire_gone j g) (with_entry j e (acquire_gone j g)).own (with_at g.acquires j None) refl
-          (λ s. record { outs = s.outs; over = s.over; mark = s.mark; entry = λ y. at_other k j e g.own.entries n ∙ s.entry y }) (gone_other j g n t)
+          (λ s. record { case = s.case; outs = s.outs; there = s.there; over = s.over; mark = s.mark; entry = λ y. at_other k j e g.own.entries n ∙ s.entry y }) (gone_other j g n t)
 
   claim_so : (m : Moment) (j : List ℕ) (held : Bool) (h : Header) (c : Claim) (r : Reads) → MayEnd j → ReadsSo r → ReadsSo (acquire_done m j held h c r)
   claim_so m j held h (Acquired create kv) r f t = released_so held m (acquired m j held h create kv r) (entry_so j (Some (won held create kv)) (ground_of r) f t)

@@ -38,11 +38,11 @@ use Rattle.owned_laws.proofs.Standing.{Before, here, mine, agrees, due, prefix_i
 use Rattle.owned_laws.proofs.Cores.{CoreSo, PassesIn, Passes}
 use Rattle.owned_laws.proofs.Modes.{Mode}
 use Rattle.owned_laws.proofs.Steps.{happened_so, counted_so, unasked_so}
-use Rattle.owned_laws.proofs.Kept.{Kept, KeysOk}
+use Rattle.owned_laws.proofs.Kept.{IsAsking, Kept, KeysOk}
 use Rattle.owned_laws.proofs.Late.{AllOther, all_other}
 use Rattle.owned_laws.proofs.OwnKept.{unknown_gives, joined_kept}
 use Rattle.owned_laws.proofs.Told.{AskedAs, begins_it, writes_it, asks_other, told_asked, told_delivered, all_spare}
-use Rattle.owned_laws.proofs.Ways.{OfRescind, plain, asking, sending_as, holds, writes_own}
+use Rattle.owned_laws.proofs.Ways.{OfRescind, plain, present, asking, sending_as, holds, writes_own}
 
 or_none : (a b : Bool) → a || b ≡ false → (a ≡ false) × (b ≡ false)
 or_none true b h = absurd (cc)
@@ -84,11 +84,11 @@ module _ {namespace : List ℕ} {items : List Item} {w : World} {p : ℕ} {x : P
           by false f = refl
 
   pub tick_lets : (k : List ℕ) (t : ℕ) (o : Owning) → Lets known (event.Tick (word w)) k t o
-  tick_lets k t asks = λ s. tt
+  tick_lets k t (asks vs) = (all_other (event.Tick (word w)) (λ i. tt) vs, ((λ a s. tt), (λ s. tt)))
   tick_lets k t (sends number n vs) = (all_other (event.Tick (word w)) (λ i. tt) vs, λ m c a s. tt)
   tick_lets k t (owns n create) = λ e f c l s. drawn n l
-  tick_lets k t (write_asked n create v vs) = (all_other (event.Tick (word w)) (λ i. tt) (v ∷ vs), λ l a e f c s. drawn n l)
-  tick_lets k t (write_sent n create v vs number) = (all_other (event.Tick (word w)) (λ i. tt) (v ∷ vs), λ m c l a e f g s. drawn n l)
+  tick_lets k t (write_asked n create v vs) = (all_other (event.Tick (word w)) (λ i. tt) (v ∷ vs), λ l a e c s. drawn n l)
+  tick_lets k t (write_sent n create v vs number) = (all_other (event.Tick (word w)) (λ i. tt) (v ∷ vs), λ m c l a e g s. drawn n l)
 
   -- ---- requests
 
@@ -104,19 +104,28 @@ module _ {namespace : List ℕ} {items : List Item} {w : World} {p : ℕ} {x : P
   others ticket draw q (v ∷ vs) n = let r = or_none (ticket == v.ticket) (list_any (λ v. ticket == v.ticket) vs) n in (r.0, others ticket draw q vs r.1)
 
   ask_lets : (k : List ℕ) (t : ℕ) (o : Owning) (ticket draw : ℕ) (q : Request) → writes_over lea k q ≡ false → has_write ticket o ≡ false → Lets known (event.Ask ticket q draw) k t o
-  ask_lets k t asks ticket draw q n h = λ s. misses k true q n
+  ask_lets k t (asks vs) ticket draw q n h = (others ticket draw q vs h, ((λ a s. misses k true q n), (λ s. misses k false q n)))
   ask_lets k t (sends number m vs) ticket draw q n h = (others ticket draw q vs h, λ i c a s. misses k true q n)
   ask_lets k t (owns m create) ticket draw q n h = λ e f c l s. misses k true q n
-  ask_lets k t (write_asked m create v vs) ticket draw q n h = (others ticket draw q (v ∷ vs) h, λ l a e f c s. misses k true q n)
-  ask_lets k t (write_sent m create v vs number) ticket draw q n h = (others ticket draw q (v ∷ vs) h, λ i j l a e f c s. misses k true q n)
+  ask_lets k t (write_asked m create v vs) ticket draw q n h = (others ticket draw q (v ∷ vs) h, λ l a e c s. misses k true q n)
+  ask_lets k t (write_sent m create v vs number) ticket draw q n h = (others ticket draw q (v ∷ vs) h, λ i j l a e c s. misses k true q n)
 
   -- the ticket is asked here
-  begun_so : (k : List ℕ) (ticket draw : ℕ) (q : Request) (o : Outcome) → writes_over lea k q ≡ false → (stepped x.core (event.Ask ticket q draw) x.clock).outcome ≡ Ok o → CoreSo (asking k ticket) (stepped x.core (event.Ask ticket q draw) x.clock).core
+  begun_so : (k : List ℕ) (ticket draw : ℕ) (q : Request) (o : Outcome) → writes_over lea k q ≡ false → (stepped x.core (event.Ask ticket q draw) x.clock).outcome ≡ Ok o → IsAsking k x.clock ticket [] (stepped x.core (event.Ask ticket q draw) x.clock).core
   begun_so k ticket draw q o n is =
       let e = event.Ask ticket q draw in
       let gave' = gave x.core e x.clock o is in
-      subst (λ (s : Stepped). CoreSo (asking k ticket) s.core) (sym (stepped_is x.core e x.clock gave'.0))
-      (counted_so (asking k ticket) (happened x.clock e d) (happened_so (asking k ticket) x.clock e d (due known) (misses k true q n) (unasked_so k ticket d (agrees known) (unknown_gives d x.clock ticket draw q o gave'.1))))
+      let M = asking k ticket [] tt in
+      record {
+        clients = refl;
+        so = λ early. record {
+          alone = tt;
+          asked = tt;
+          so = subst (λ (s : Stepped). CoreSo M s.core) (sym (stepped_is x.core e x.clock gave'.0))
+              (counted_so M (happened x.clock e d) (happened_so M x.clock e d (due known) (misses k true q n) (unasked_so k ticket d (agrees known) (unknown_gives d x.clock ticket draw q o gave'.1))));
+          there = λ s i. (record { case = tt; outs = tt; there = tt; over = λ y. no_true y; mark = λ y. no_true y; entry = λ y. no_true y }, tt);
+        };
+      }
 
   pub ask_keys : (before : List Item) (ticket draw : ℕ) (q : Request) (o : Outcome) → ((k : List ℕ) (t : ℕ) → owned nsp lea k p t before ≡ owned nsp lea k p t items) → clock_of p before ≡ clock_of p items → (stepped x.core (event.Ask ticket q draw) x.clock).outcome ≡ Ok o
       → KeysOk nsp lea next w.calls (before ++ item.Asked p ticket q ∷ []) p x.life x.clock (stepped x.core (event.Ask ticket q draw) x.clock).core
@@ -125,7 +134,7 @@ module _ {namespace : List ℕ} {items : List Item} {w : World} {p : ℕ} {x : P
       by : AskedAs nsp lea k p t before ticket q own → Kept w.calls next p x.life x.clock k t own (stepped x.core (event.Ask ticket q draw) x.clock).core
       by (begins_it n i j) =
           subst (λ (y : Owning). Kept w.calls next p x.life x.clock k t y (stepped x.core (event.Ask ticket q draw) x.clock).core) (sym j)
-          (subst (λ (m : ℕ). CoreSo (asking k m) (stepped x.core (event.Ask ticket q draw) x.clock).core) i (begun_so k ticket draw q o n is))
+          (subst (λ (m : ℕ). IsAsking k x.clock m [] (stepped x.core (event.Ask ticket q draw) x.clock).core) i (begun_so k ticket draw q o n is))
       by (writes_it y u over may j) =
           let parts = and_first (keeps_over lea k q && not (ticket == 0)) (not (has_write ticket y)) may in
           joined_kept known k t draw (record { ticket = ticket; request = q; since = clock_of p before }) o over (and_first (keeps_over lea k q) (not (ticket == 0)) parts) (off_it (ticket == 0) (and_second (keeps_over lea k q) (not (ticket == 0)) parts))
@@ -173,17 +182,22 @@ module _ {namespace : List ℕ} {items : List Item} {w : World} {p : ℕ} {x : P
     no_some : (a c : ℕ) → a ≡ c → Some c ≡ Some a
     no_some a c e = ap (λ (m : ℕ). Some m) (sym e)
 
+    present_passes : (k : List ℕ) (vs : List OwnWrite) → PassesIn (present k vs) d s.own i
+    present_passes k vs o (watch.Created hd) a c e = tt
+    present_passes k vs o (watch.Events hd es) a c e = λ r. unwatched k d.own.waits.prefix es
+    present_passes k vs o (watch.Canceled hd compaction) a c e = λ n y. no_true y
+
     item_lets : (k : List ℕ) (t : ℕ) (o : Owning) → is_stream number (leasing_of nsp lea p items) && told_revokes nsp lea k (create_of o) (next_message number items) ≡ false → Lets known (event.Item s.own i) k t o
-    item_lets k t asks n = λ u. passes_in k None (asking k t) refl (λ y. no_true y) n
+    item_lets k t (asks vs) n = (all_other (event.Item s.own i) (λ j. tt) vs, ((λ a u. passes_in k None (asking k t vs a) refl (λ y. no_true y) n), (λ u. present_passes k vs)))
     item_lets k t (sends c m vs) n = (all_other (event.Item s.own i) (λ j. tt) vs, λ j v a u. passes_in k None (sending_as k j m vs a) refl (λ y. no_true y) n)
     item_lets k t (owns m create) n = λ e f c l u. passes_in k (Some create) (holds k m e f) refl (λ y. no_some e.create create c) n
-    item_lets k t (write_asked m create v vs) n = (all_other (event.Item s.own i) (λ j. tt) (v ∷ vs), λ l a e f c u. passes_in k (Some create) (writes_own k m v vs None a e f) refl (λ y. no_some e.create create c) n)
-    item_lets k t (write_sent m create v vs sent) n = (all_other (event.Item s.own i) (λ j. tt) (v ∷ vs), λ j g l a e f c u. passes_in k (Some create) (writes_own k m v vs (Some j) a e f) refl (λ y. no_some e.create create c) n)
+    item_lets k t (write_asked m create v vs) n = (all_other (event.Item s.own i) (λ j. tt) (v ∷ vs), λ l a e c u. passes_in k (Some create) (writes_own k m v vs None a e) refl (λ y. no_some e.create create c) n)
+    item_lets k t (write_sent m create v vs sent) n = (all_other (event.Item s.own i) (λ j. tt) (v ∷ vs), λ j g l a e c u. passes_in k (Some create) (writes_own k m v vs (Some j) a e) refl (λ y. no_some e.create create c) n)
 
     pub item_keys : KeysOk nsp lea next w.calls (items ++ item.Delivered number ∷ []) p x.life x.clock (stepped x.core (event.Item s.own i) x.clock).core
     item_keys k t o f = let u = told_delivered nsp lea k p t items number o f in keep known (event.Item s.own i) k t o w.calls (carry_itself w.calls) (item_lets k t o u.1) ((mine known).keys k t o u.0)
 
     pub plain_passes : (T : OfRescind) → PassesIn (plain [] T) d s.own i
     plain_passes T o (watch.Created hd) a c e = tt
-    plain_passes T o (watch.Events hd es) a c e = λ r. unwatched d.own.waits.prefix es
+    plain_passes T o (watch.Events hd es) a c e = λ r. unwatched [] d.own.waits.prefix es
     plain_passes T o (watch.Canceled hd compaction) a c e = λ n y. no_true y

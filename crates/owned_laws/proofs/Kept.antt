@@ -1,8 +1,7 @@
 -- What is so of a proxy where items tell how far an acquire, or a write, of a key came.
-use Rattle.std.proofs.Common.{◌≡◌, ℕ, ◌==◌, ◌<◌, Bool, true, false, not, List, [], ◌∷◌, Option, None, Some, refl}
+use Rattle.std.proofs.Common.{◌≡◌, ℕ, ◌==◌, ◌<◌, Bool, true, not, List, [], ◌∷◌, Option, None, Some, refl}
 use Rattle.std.specs.List.{list_all}
 use Rattle.proxy_model.specs.declared.lease.Entry.{Entry}
-use Rattle.proxy_model.specs.declared.lease.Phase.TheVariants.{Writing}
 use Rattle.core_model.specs.declared.event.CoreEvent.{CoreEvent}
 use Rattle.core_model.specs.ClockWork.{clock_work}
 use Rattle.core_model.specs.DueJobs.{first_job}
@@ -16,11 +15,11 @@ use Rattle.world_model.specs.Places.{nth}
 use Rattle.owned_laws.specs.OwnWrites.{OwnWrite}
 use Rattle.owned_laws.specs.Owned.{Owning, asks, sends, owns, write_asked, write_sent, owned_behind, owner_key, gave_up, owned}
 use Rattle.owned_laws.proofs.Cores.{CoreSo, Stands}
-use Rattle.owned_laws.proofs.Late.{AllAskedAt, AllOther, all_in_time, all_stay, on_time, waits_on_time}
-use Rattle.owned_laws.proofs.Modes.{AllAlone, first_as, behind_as}
+use Rattle.owned_laws.proofs.Late.{AllAskedAt, AllOther, all_in_time, all_stay, on_time, waits_on_time, asking_on_time, present_on_time}
+use Rattle.owned_laws.proofs.Modes.{AllAlone, behind_as}
 use Rattle.owned_laws.proofs.Ready.{IsHeldIn, IsBegunIn, IsKeptIn}
 use Rattle.owned_laws.proofs.Steps.{Leaves, steps_by}
-use Rattle.owned_laws.proofs.Ways.{OfRescind, CallSo, asking, sending_as, writes_own}
+use Rattle.owned_laws.proofs.Ways.{OfRescind, CallSo, present, asking, sending_as, writes_own}
 
 -- this call of the proxy's life, by its own number
 pub record HasCall (calls : List SentCall) (p life number own : ℕ) : Type 0 where
@@ -30,18 +29,33 @@ pub record HasCall (calls : List SentCall) (p life number own : ℕ) : Type 0 wh
   pub mine : call.proxy ≡ p
   pub lives : call.life ≡ life
 
+-- These writes are over the key, and aren't sent; and where an acquire of the key is due for the ticket, those of them wait for it that were
+-- asked since it is.
+pub record IsAskingIn (k : List ℕ) (t : ℕ) (vs : List OwnWrite) (c : Core) : Type 0 where
+  pub alone : AllAlone k (behind_as vs)
+  pub asked : AllAskedAt vs c.asks
+  pub so : CoreSo (asking k t vs alone) c
+  pub there : CoreSo (present k vs) c
+
+-- at this reading of the clock: as long as their requests aren't late
+abbrev pub Asks : List ℕ → ℕ → ℕ → List OwnWrite → Core → Type 0
+Asks k now t vs c = all_in_time now vs ≡ true → IsAskingIn k t vs c
+
 -- the acquire is out under its own number, and these writes wait for it
 pub record IsSendingIn (k : List ℕ) (own n : ℕ) (vs : List OwnWrite) (c : Core) : Type 0 where
   pub alone : AllAlone k (behind_as vs)
   pub asked : AllAskedAt vs c.asks
   pub so : CoreSo (sending_as k own n vs alone) c
 
--- at this reading of the clock: as long as their requests aren't late
 abbrev pub Sends : List ℕ → ℕ → ℕ → ℕ → List OwnWrite → Core → Type 0
 Sends k now own n vs c = all_in_time now vs ≡ true → IsSendingIn k own n vs c
 
 abbrev pub are_clients : List OwnWrite → Bool
 are_clients vs = list_all (λ v. not (v.ticket == 0)) vs
+
+pub record IsAsking (k : List ℕ) (now t : ℕ) (vs : List OwnWrite) (c : Core) : Type 0 where
+  pub clients : are_clients vs ≡ true
+  pub so : Asks k now t vs c
 
 pub record IsSending (calls : List SentCall) (bound p life : ℕ) (k : List ℕ) (now number n : ℕ) (vs : List OwnWrite) (c : Core) : Type 0 where
   pub own : ℕ
@@ -71,7 +85,7 @@ pub record IsOut (calls : List SentCall) (bound p life : ℕ) (k : List ℕ) (no
   pub so : Writes k now n create v vs (Some own) c
 
 abbrev pub Kept : List SentCall → ℕ → ℕ → ℕ → ℕ → List ℕ → ℕ → Owning → Core → Type 0
-Kept calls bound p life now k t asks c = CoreSo (asking k t) c
+Kept calls bound p life now k t (asks vs) c = IsAsking k now t vs c
 Kept calls bound p life now k t (sends number n vs) c = IsSending calls bound p life k now number n vs c
 Kept calls bound p life now k t (owns n create) c = (n < bound) × IsHeldIn k n create c
 Kept calls bound p life now k t (write_asked n create v vs) c = IsAsked bound k now n create v vs c
@@ -95,6 +109,17 @@ OutsOk namespace leasing items p c = EachOf (CallSo (Rescinded namespace leasing
 
 -- ---- the writes of the owner, through a step that lets them be
 
+pub asking_steps : (k : List ℕ) (t : ℕ) (vs : List OwnWrite) (c : Core) (e : CoreEvent) (now : ℕ) → CoreOk c → Stands (clock_work now c) (first_job (clock_work now c)) → AllOther e vs
+    → ((alone : AllAlone k (behind_as vs)) → CoreSo (asking k t vs alone) (clock_work now c) → Leaves (asking k t vs alone) (clock_work now c) e) → (CoreSo (present k vs) (clock_work now c) → Leaves (present k vs) (clock_work now c) e) → Asks k now t vs c → Asks k now t vs (stepped c e now).core
+asking_steps k t vs c e now ok due other l m s early =
+    let u = s early in
+    record {
+      alone = u.alone;
+      asked = all_stay vs c e now ok other u.asked;
+      so = steps_by (asking k t vs u.alone) c e now (asking_on_time now k t vs u.alone early c u.asked) due (l u.alone) u.so;
+      there = steps_by (present k vs) c e now (present_on_time now k vs early c u.asked) due m u.there;
+    }
+
 pub sending_steps : (k : List ℕ) (own n : ℕ) (vs : List OwnWrite) (c : Core) (e : CoreEvent) (now : ℕ) → CoreOk c → Stands (clock_work now c) (first_job (clock_work now c)) → AllOther e vs
     → ((alone : AllAlone k (behind_as vs)) → CoreSo (sending_as k own n vs alone) (clock_work now c) → Leaves (sending_as k own n vs alone) (clock_work now c) e) → Sends k now own n vs c → Sends k now own n vs (stepped c e now).core
 sending_steps k own n vs c e now ok due other l s early =
@@ -102,19 +127,13 @@ sending_steps k own n vs c e now ok due other l s early =
     record { alone = u.alone; asked = all_stay vs c e now ok other u.asked; so = steps_by (sending_as k own n vs u.alone) c e now (waits_on_time now k own n vs u.alone early c u.asked) due (l u.alone) u.so }
 
 pub writing_steps : (k : List ℕ) (n create : ℕ) (v : OwnWrite) (vs : List OwnWrite) (own : Option ℕ) (c : Core) (e : CoreEvent) (now : ℕ) → CoreOk c → Stands (clock_work now c) (first_job (clock_work now c)) → AllOther e (v ∷ vs)
-    → ((alone : AllAlone k (first_as v own ∷ behind_as vs)) (entry : Entry) (writing : entry.phase ≡ Writing false) → entry.create ≡ create → CoreSo (writes_own k n v vs own alone entry writing) (clock_work now c) → Leaves (writes_own k n v vs own alone entry writing) (clock_work now c) e)
-    → Writes k now n create v vs own c → Writes k now n create v vs own (stepped c e now).core
+    → ((alone : AllAlone k (behind_as (v ∷ vs))) (entry : Entry) → entry.create ≡ create → CoreSo (writes_own k n v vs own alone entry) (clock_work now c) → Leaves (writes_own k n v vs own alone entry) (clock_work now c) e) → Writes k now n create v vs own c
+    → Writes k now n create v vs own (stepped c e now).core
 writing_steps k n create v vs own c e now ok due other l s early =
     let u = s early in
     let b = u.begun in
-    let M = writes_own k n v vs own b.alone b.entry b.writing in
+    let M = writes_own k n v vs own b.alone b.entry in
     record {
-      begun = record {
-        entry = b.entry;
-        writing = b.writing;
-        created = b.created;
-        alone = b.alone;
-        so = steps_by M c e now (on_time now k n v vs own b.alone b.entry b.writing early c u.asked) due (l b.alone b.entry b.writing b.created) b.so;
-      };
+      begun = record { entry = b.entry; created = b.created; alone = b.alone; so = steps_by M c e now (on_time now k n v vs own b.alone b.entry early c u.asked) due (l b.alone b.entry b.created) b.so };
       asked = all_stay (v ∷ vs) c e now ok other u.asked;
     }

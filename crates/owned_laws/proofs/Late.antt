@@ -5,7 +5,6 @@ use Rattle.etcd_types.specs.declared.request.Request.{Request}
 use Rattle.std.specs.List.{list_all, list_any}
 use Rattle.etcd_types.proofs.Bools.{and_first, and_second, and_both}
 use Rattle.proxy_model.specs.declared.lease.Entry.{Entry}
-use Rattle.proxy_model.specs.declared.lease.Phase.TheVariants.{Writing}
 use Rattle.wait_model.specs.declared.write.Write.{Write}
 use Rattle.wait_model.specs.Writes.{has_ticket}
 use Rattle.read_model.specs.declared.asked.Asked.{Asked}
@@ -35,9 +34,9 @@ use Rattle.cause_laws.proofs.Steps.{Keeps, ask_walk, step_walk}
 use Rattle.owned_laws.specs.OwnWrites.{OwnWrite, is_in_time}
 use Rattle.owned_laws.proofs.Cores as cores
 use Rattle.owned_laws.proofs.Grounds.{Spared}
-use Rattle.owned_laws.proofs.Modes.{Mine, IsMine, AllAlone, first_as, waits_as, behind_as, Mode}
-use Rattle.owned_laws.proofs.Own.{MissesOf, Misses}
-use Rattle.owned_laws.proofs.Ways.{sending_as, writes_own}
+use Rattle.owned_laws.proofs.Modes.{AllAlone, first_as, behind_as, Parts, Mode}
+use Rattle.owned_laws.proofs.Own.{MissesOf, ThereMisses, Misses, rest_misses}
+use Rattle.owned_laws.proofs.Ways.{present, asking, sending_as, writes_own}
 
 -- one of this ticket was asked at this reading of the clock
 abbrev pub IsAt : ℕ → ℕ → Asked → Type 0
@@ -147,8 +146,8 @@ all_joined (w ∷ ws) v xs h i = (h.0, all_joined ws v xs h.1 i)
 
 -- another ticket is none of theirs
 
-other_ticket : (ticket : ℕ) (v : OwnWrite) (m : Mine) → m.ticket ≡ v.ticket → (ticket == v.ticket) ≡ false → (x : Write) → IsMine m x → has_ticket ticket x ≡ false
-other_ticket ticket v m same n x i = ap (λ (j : ℕ). j == ticket) (i.ticket ∙ same) ∙ number_turned ticket v.ticket n
+other_ticket : (ticket : ℕ) (v : OwnWrite) → (ticket == v.ticket) ≡ false → (x : Write) → x.ticket ≡ v.ticket → has_ticket ticket x ≡ false
+other_ticket ticket v n x i = ap (λ (j : ℕ). j == ticket) i ∙ number_turned ticket v.ticket n
 
 or_none : (a b : Bool) → a || b ≡ false → (a ≡ false) × (b ≡ false)
 or_none true b h = absurd (cc)
@@ -156,10 +155,17 @@ or_none false b h = (refl, h)
 
 pub behind_apart : (ticket : ℕ) (vs : List OwnWrite) → list_any (λ v. ticket == v.ticket) vs ≡ false → MissesOf (behind_as vs) (has_ticket ticket)
 behind_apart ticket [] n = tt
-behind_apart ticket (v ∷ vs) n = let r = or_none (ticket == v.ticket) (list_any (λ v. ticket == v.ticket) vs) n in (other_ticket ticket v (waits_as v) refl r.0, behind_apart ticket vs r.1)
+behind_apart ticket (v ∷ vs) n = let r = or_none (ticket == v.ticket) (list_any (λ v. ticket == v.ticket) vs) n in ((λ x i. other_ticket ticket v r.0 x i.ticket), behind_apart ticket vs r.1)
 
-pub all_apart : (ticket : ℕ) (v : OwnWrite) (vs : List OwnWrite) (own : Option ℕ) → list_any (λ v. ticket == v.ticket) (v ∷ vs) ≡ false → MissesOf (first_as v own ∷ behind_as vs) (has_ticket ticket)
-all_apart ticket v vs own n = let r = or_none (ticket == v.ticket) (list_any (λ v. ticket == v.ticket) vs) n in (other_ticket ticket v (first_as v own) refl r.0, behind_apart ticket vs r.1)
+pub there_apart : (k : List ℕ) (ticket : ℕ) (vs : List OwnWrite) → list_any (λ v. ticket == v.ticket) vs ≡ false → ThereMisses k vs (has_ticket ticket)
+there_apart k ticket [] n = tt
+there_apart k ticket (v ∷ vs) n = let r = or_none (ticket == v.ticket) (list_any (λ v. ticket == v.ticket) vs) n in ((λ x i. other_ticket ticket v r.0 x i.ticket), there_apart k ticket vs r.1)
+
+pub part_misses : (p : Write → Bool) (vs : List OwnWrite) (c : Parts vs) → MissesOf (behind_as vs) p → MissesOf (behind_as c.rest) p
+part_misses p vs c n = rest_misses p c.front c.rest (subst (λ (ws : List OwnWrite). MissesOf (behind_as ws) p) c.is n)
+
+pub all_apart : (ticket : ℕ) (v : OwnWrite) (vs : List OwnWrite) (own : Option ℕ) → list_any (λ v. ticket == v.ticket) (v ∷ vs) ≡ false → (c : Bool) → MissesOf (first_as v own c ∷ behind_as vs) (has_ticket ticket)
+all_apart ticket v vs own n c = let r = or_none (ticket == v.ticket) (list_any (λ v. ticket == v.ticket) vs) n in ((λ x i. other_ticket ticket v r.0 x i.ticket), behind_apart ticket vs r.1)
 
 -- ---- they aren't late
 
@@ -182,12 +188,12 @@ module _ (now : ℕ) where
   abbrev IsLate : Asked → Type 0
   IsLate a = times_out now a && is_writes a.stage ≡ true
 
-  missed : (v : OwnWrite) (m : Mine) → m.ticket ≡ v.ticket → is_in_time now v ≡ true → (a : Asked) → IsAt v.ticket v.since a → IsLate a → (x : Write) → IsMine m x → has_ticket a.ticket x ≡ false
-  missed v m same early a h late x i = by (x.ticket == a.ticket) refl
+  missed : (v : OwnWrite) → is_in_time now v ≡ true → (a : Asked) → IsAt v.ticket v.since a → IsLate a → (x : Write) → x.ticket ≡ v.ticket → has_ticket a.ticket x ≡ false
+  missed v early a h late x i = by (x.ticket == a.ticket) refl
     where
       by : (b : Bool) → (x.ticket == a.ticket) ≡ b → b ≡ false
       by true f =
-          let one : a.ticket ≡ v.ticket = sym (same_number x.ticket a.ticket f) ∙ i.ticket ∙ same in
+          let one : a.ticket ≡ v.ticket = sym (same_number x.ticket a.ticket f) ∙ i in
           let at : a.asked ≡ v.since = h (ap (λ (j : ℕ). j == v.ticket) one ∙ number_itself v.ticket) in
           absurd
           (let z : true ≡ false = sym (and_second (not (is_replied a.stage)) (nat_le request_time (now - a.asked)) (and_first (times_out now a) (is_writes a.stage) late)) ∙ ap (λ (j : ℕ). nat_le request_time (now - j)) at ∙ not_late v.since early in cc)
@@ -196,7 +202,12 @@ module _ (now : ℕ) where
   behind_missed : (vs : List OwnWrite) → all_in_time now vs ≡ true → (a : Asked) → AllAt vs a → IsLate a → MissesOf (behind_as vs) (has_ticket a.ticket)
   behind_missed [] e a h late = tt
   behind_missed (v ∷ vs) e a h late =
-      (missed v (waits_as v) refl (and_first (is_in_time now v) (all_in_time now vs) e) a h.0 late, behind_missed vs (and_second (is_in_time now v) (all_in_time now vs) e) a h.1 late)
+      ((λ x i. missed v (and_first (is_in_time now v) (all_in_time now vs) e) a h.0 late x i.ticket), behind_missed vs (and_second (is_in_time now v) (all_in_time now vs) e) a h.1 late)
+
+  there_missed : (k : List ℕ) (vs : List OwnWrite) → all_in_time now vs ≡ true → (a : Asked) → AllAt vs a → IsLate a → ThereMisses k vs (has_ticket a.ticket)
+  there_missed k [] e a h late = tt
+  there_missed k (v ∷ vs) e a h late =
+      ((λ x i. missed v (and_first (is_in_time now v) (all_in_time now vs) e) a h.0 late x i.ticket), there_missed k vs (and_second (is_in_time now v) (all_in_time now vs) e) a h.1 late)
 
   each_spared : (M : Mode) (vs : List OwnWrite) → ((a : Asked) → AllAt vs a → IsLate a → Misses M (has_ticket a.ticket)) → (xs : List Asked) → AllAskedAt vs xs → EachOf (Spared M (times_out now)) xs
   each_spared M vs f [] h = tt
@@ -209,12 +220,19 @@ module _ (now : ℕ) where
     passed_asks vs c h.1,
   )
 
-  pub on_time : (k : List ℕ) (n : ℕ) (v : OwnWrite) (vs : List OwnWrite) (own : Option ℕ) (alone : AllAlone k (first_as v own ∷ behind_as vs)) (e : Entry) (writing : e.phase ≡ Writing false) → all_in_time now (v ∷ vs) ≡ true → (c : Core) → AllAskedAt (v ∷ vs) c.asks
-      → cores.OnTime (writes_own k n v vs own alone e writing) now c
-  on_time k n v vs own alone e writing early c h =
-      each_spared (writes_own k n v vs own alone e writing) (v ∷ vs)
-      (λ a i late. (missed v (first_as v own) refl (and_first (is_in_time now v) (all_in_time now vs) early) a i.0 late, behind_missed vs (and_second (is_in_time now v) (all_in_time now vs) early) a i.1 late)) (deadline_passed now (begun c)).asks
+  pub on_time : (k : List ℕ) (n : ℕ) (v : OwnWrite) (vs : List OwnWrite) (own : Option ℕ) (alone : AllAlone k (behind_as (v ∷ vs))) (e : Entry) → all_in_time now (v ∷ vs) ≡ true → (c : Core) → AllAskedAt (v ∷ vs) c.asks → cores.OnTime (writes_own k n v vs own alone e) now c
+  on_time k n v vs own alone e early c h =
+      each_spared (writes_own k n v vs own alone e) (v ∷ vs)
+      (λ a i late.
+      ((λ z. ((λ x j. missed v (and_first (is_in_time now v) (all_in_time now vs) early) a i.0 late x j.ticket), behind_missed vs (and_second (is_in_time now v) (all_in_time now vs) early) a i.1 late)), tt)) (deadline_passed now (begun c)).asks
       (passed_asks (v ∷ vs) c h)
 
   pub waits_on_time : (k : List ℕ) (m n : ℕ) (vs : List OwnWrite) (alone : AllAlone k (behind_as vs)) → all_in_time now vs ≡ true → (c : Core) → AllAskedAt vs c.asks → cores.OnTime (sending_as k m n vs alone) now c
-  waits_on_time k m n vs alone early c h = each_spared (sending_as k m n vs alone) vs (λ a i late. behind_missed vs early a i late) (deadline_passed now (begun c)).asks (passed_asks vs c h)
+  waits_on_time k m n vs alone early c h = each_spared (sending_as k m n vs alone) vs (λ a i late. ((λ z. behind_missed vs early a i late), tt)) (deadline_passed now (begun c)).asks (passed_asks vs c h)
+
+  pub asking_on_time : (k : List ℕ) (t : ℕ) (vs : List OwnWrite) (alone : AllAlone k (behind_as vs)) → all_in_time now vs ≡ true → (c : Core) → AllAskedAt vs c.asks → cores.OnTime (asking k t vs alone) now c
+  asking_on_time k t vs alone early c h =
+      each_spared (asking k t vs alone) vs (λ a i late. ((λ z. part_misses (has_ticket a.ticket) vs z (behind_missed vs early a i late)), tt)) (deadline_passed now (begun c)).asks (passed_asks vs c h)
+
+  pub present_on_time : (k : List ℕ) (vs : List OwnWrite) → all_in_time now vs ≡ true → (c : Core) → AllAskedAt vs c.asks → cores.OnTime (present k vs) now c
+  present_on_time k vs early c h = each_spared (present k vs) vs (λ a i late. ((λ z. tt), there_missed k vs early a i late)) (deadline_passed now (begun c)).asks (passed_asks vs c h)

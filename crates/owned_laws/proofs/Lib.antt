@@ -3,7 +3,6 @@ pub mod Own
 pub mod Grounds
 pub mod Cores
 pub mod Ways
-pub mod Beginning
 pub mod Joining
 pub mod Ready
 pub mod Steps

@@ -3,7 +3,6 @@ use Rattle.std.proofs.Common.{◌≡◌, ℕ, ◌==◌, Bool, true, false, not, 
 use Rattle.std.specs.List.{list_all, list_any}
 use Rattle.etcd_types.specs.declared.request.Request.{Request}
 use Rattle.proxy_model.specs.declared.lease.Entry.{Entry}
-use Rattle.proxy_model.specs.declared.lease.Phase.TheVariants.{Writing}
 use Rattle.proxy_model.specs.Keyed.{is_in_order}
 use Rattle.proxy_model.specs.Wrapped.{request_under}
 use Rattle.wait_model.specs.declared.sending.Sending.{Sending}
@@ -37,7 +36,7 @@ use Rattle.owned_laws.specs.OwnWrites.{OwnWrite}
 use Rattle.owned_laws.specs.Watched.{seat_is}
 use Rattle.owned_laws.proofs.Cores as cores
 use Rattle.owned_laws.proofs.Cores.{CoreSo, Stands}
-use Rattle.owned_laws.proofs.Modes.{AllAlone, first_as, behind_as}
+use Rattle.owned_laws.proofs.Modes.{AllAlone, behind_as}
 use Rattle.owned_laws.proofs.OwnSends.{has_it}
 use Rattle.owned_laws.proofs.OwnWork.{own_sent}
 use Rattle.owned_laws.proofs.Ways.{absent, writes_own}
@@ -142,14 +141,14 @@ module _ (t : ℕ) (d : Core) (agrees : Agrees d) (rising : is_in_order d.acquir
     is_writes_job e = by_job (first_job d) refl (first_stands t d rising) e
 
 -- the first of the owner's own writes goes out with a call that names its ticket
-module _ (k : List ℕ) (v : OwnWrite) (vs : List OwnWrite) (n : ℕ) (alone : AllAlone k (first_as v None ∷ behind_as vs)) (e : Entry) (still : e.phase ≡ Writing false) (d : Core) (order : is_in_order d.own.entries ≡ true) (agrees : Agrees d) (rising : is_in_order d.acquires ≡ true) (client : (v.ticket == 0) ≡ false) where
-  pub own_goes : (now own member : ℕ) (q : Request) → Stands d (first_job d) → Gives (on_work now d).outcome own member v.ticket q → CoreSo (writes_own k n v vs None alone e still) d → CoreSo (writes_own k n v vs (Some own) alone e still) (on_work now d).core
+module _ (k : List ℕ) (v : OwnWrite) (vs : List OwnWrite) (n : ℕ) (alone : AllAlone k (behind_as (v ∷ vs))) (e : Entry) (d : Core) (order : is_in_order d.own.entries ≡ true) (agrees : Agrees d) (rising : is_in_order d.acquires ≡ true) (client : (v.ticket == 0) ≡ false) where
+  pub own_goes : (now own member : ℕ) (q : Request) → Stands d (first_job d) → Gives (on_work now d).outcome own member v.ticket q → CoreSo (writes_own k n v vs None alone e) d → CoreSo (writes_own k n v vs (Some own) alone e) (on_work now d).core
   own_goes now own member q stands gives so = by (seat_is n d.seat) refl
     where
-      by : (b : Bool) → seat_is n d.seat ≡ b → CoreSo (writes_own k n v vs (Some own) alone e still) (on_work now d).core
+      by : (b : Bool) → seat_is n d.seat ≡ b → CoreSo (writes_own k n v vs (Some own) alone e) (on_work now d).core
       by true y =
-          let its = has_it k v vs d.own.waits.writes ((so y tt).0.over refl) in
+          let its = has_it k v vs (so y tt).0.case d.own.waits.writes ((so y tt).0.over refl) in
           let w = is_writes_job v.ticket d agrees rising client its now own member q gives in
-          subst (λ (i : ℕ). CoreSo (writes_own k n v vs (Some i) alone e still) (on_work now d).core) w.call
-          (own_sent k v vs n alone e still d order (once_writing d.asks d.own.waits.writes agrees.asks) (number_turned v.ticket 0 client) now w.job w.first w.is w.ticket so)
-      by false y = λ z i. absurd ((cores.work_so (absent k n) now d stands (λ f s j u. (tt, tt)) (λ u. clash (seat_is n d.seat) u y) z tt).1)
+          subst (λ (i : ℕ). CoreSo (writes_own k n v vs (Some i) alone e) (on_work now d).core) w.call
+          (own_sent k v vs n alone e d order (once_writing d.asks d.own.waits.writes agrees.asks) (number_turned v.ticket 0 client) now w.job w.first w.is w.ticket so)
+      by false y = λ z i. absurd ((cores.work_so (absent k n) now d stands (λ f s j u. (tt, ((λ c. tt), tt))) (λ u. clash (seat_is n d.seat) u y) z tt).1)

@@ -1,27 +1,23 @@
 -- The owner's own writes at a proxy: where a write of a held key by itself is asked its call is due; and where the call of the first is
 -- answered as done or refused the key is held again, or the next one begins.
-use Rattle.std.proofs.Common.{◌≡◌, inl, inr, ℕ, ◌==◌, Bool, true, false, cond, not, ◌||◌, List, [], ◌∷◌, ◌++◌, map, filter, Option, None, Some, is_some, Ok, refl, sym, ◌∙◌, ap, subst}
+use Rattle.std.proofs.Common.{◌≡◌, inl, inr, ℕ, ◌==◌, Bool, true, false, cond, not, ◌||◌, List, [], ◌∷◌, ◌++◌, map, filter, Option, None, Some, Ok, refl, sym, ◌∙◌, ap, subst}
 use Rattle.etcd_types.specs.declared.answer.Answer.{Answer}
 use Rattle.etcd_types.specs.declared.answer.Answer.TheVariants.{Done, Refused}
 use Rattle.etcd_types.specs.declared.answer.Refusal.{Refusal}
 use Rattle.etcd_types.specs.declared.request.Request.{Request}
 use Rattle.etcd_types.specs.declared.request.Request.TheVariants as request
 use Rattle.etcd_types.proofs.Bools.{and_first, and_second, not_true}
-use Rattle.etcd_types.proofs.KeyOrder.{same-equal}
 use Rattle.proxy_model.specs.declared.lease.Entry.{Entry}
-use Rattle.proxy_model.specs.declared.lease.Phase.TheVariants.{Held, Writing}
+use Rattle.proxy_model.specs.declared.lease.Phase.TheVariants.{Held}
 use Rattle.proxy_model.specs.Keyed.{at}
-use Rattle.proxy_model.specs.SeveralKeys.{written_ranges}
 use Rattle.wait_model.specs.declared.wait.WaitCall.{WaitCall}
 use Rattle.wait_model.specs.declared.wait.WaitJob.{WaitJob}
 use Rattle.wait_model.specs.declared.wait.WaitJob.TheVariants as wait
 use Rattle.wait_model.specs.declared.write.Write.{Write}
 use Rattle.wait_model.specs.Asked.{submitted}
-use Rattle.wait_model.specs.Covers.{covered, covers, is_single, leased}
+use Rattle.wait_model.specs.Covers.{covers}
 use Rattle.wait_model.specs.Endings.{answered}
-use Rattle.wait_model.specs.Fits.{Fits}
 use Rattle.wait_model.specs.GuardedAnswers.{Ending}
-use Rattle.wait_model.specs.Phases.{begun, phase_begun}
 use Rattle.wait_model.specs.State.{Ownership}
 use Rattle.wait_model.specs.Writes.{first_by, stage_sends, sends, job_of}
 use Rattle.read_model.specs.declared.asked.Stage.TheVariants as stage
@@ -36,6 +32,7 @@ use Rattle.core_model.specs.ClockWork.{clock_work, writes_go_on}
 use Rattle.core_model.specs.Ends.{reads_if, answered_job, or_lost, heard_call, answered_call, call_gone, answer_of, on_answer}
 use Rattle.core_model.specs.Fits.{Agrees, at_most_one, calls_of, has_number, is_wait, is_write_job, is_write_out, numbers_of, once, passes, wait_numbers, WritesOk}
 use Rattle.core_model.specs.Heard.{heard, answer_taken}
+use Rattle.core_model.specs.Kinds.{writes_keys}
 use Rattle.core_model.specs.Lookups.{leases, is_known, moment, reads_of, with_reads, out_at}
 use Rattle.core_model.specs.Refusals.{refusal_of}
 use Rattle.core_model.specs.State.{Core}
@@ -44,18 +41,17 @@ use Rattle.core_laws.proofs.Steps.Lists.{same_number, number_itself}
 use Rattle.owner_fits.proofs.Hearing.{first_has}
 use Rattle.owned_laws.specs.OwnWrites.{OwnWrite, settles, settles_as}
 use Rattle.owned_laws.specs.Watched.{seat_is}
-use Rattle.owned_laws.proofs.Beginning.{one_contains, own_begins}
-use Rattle.owned_laws.proofs.Joining.{joins_over, sending_joins, writing_joins}
+use Rattle.owned_laws.proofs.Joining.{joins_over, sending_joins, asking_joins, present_joins, writing_joins}
 use Rattle.owned_laws.proofs.Cores as cores
 use Rattle.owned_laws.proofs.Cores.{CoreSo}
-use Rattle.owned_laws.proofs.Modes.{IsAlone, Mine, IsMine, AllAlone, first_as, behind_as}
+use Rattle.owned_laws.proofs.Modes.{IsAlone, Mine, IsMine, AllAlone, behind_as, first_as}
 use Rattle.owned_laws.proofs.Own.{OverOf, sends_misses, OwnSo}
 use Rattle.owned_laws.proofs.OwnWrites.{After, own_answered, one_found}
 use Rattle.owned_laws.proofs.Ready.{released_ready, IsBegunIn, IsKeptIn, ready_goes_on, unseated_kept, counted_kept}
 use Rattle.cached_laws.proofs.Steps.{stepped_is}
 use Rattle.core_model.specs.declared.event.CoreEvent.TheVariants as event
 use Rattle.core_model.specs.Step.{happened, is_worn, stepped}
-use Rattle.owned_laws.proofs.Ways.{absent, holds, sending_as, writes_own}
+use Rattle.owned_laws.proofs.Ways.{absent, present, asking, holds, sending_as, writes_own}
 
 no_true : {A : Type 0} → false ≡ true → A
 no_true e = absurd (cc)
@@ -64,42 +60,11 @@ first_of : {A : Type 0} (P : A → Type 0) (b : Bool) (x y : A) → b ≡ true �
 first_of P true x y e h = h
 first_of P false x y e h = no_true e
 
-second_of : {A : Type 0} (P : A → Type 0) (b : Bool) (x y : A) → b ≡ false → P y → P (cond b x y)
-second_of P true x y e h = absurd (cc)
-second_of P false x y e h = h
-
 or_parts : (a b : Bool) → a || b ≡ false → (a ≡ false) × (b ≡ false)
 or_parts true b h = absurd (cc)
 or_parts false b h = (refl, h)
 
-or_false : (b : Bool) → b || false ≡ true → b ≡ true
-or_false true e = refl
-or_false false e = no_true e
-
 -- ---- a write is asked
-
-pub alone_of : (k : List ℕ) (q : Request) → is_single q ≡ true → covered (written_ranges q) k ≡ true → leased q k ≡ false → IsAlone k q
-alone_of k (request.Put ask) s c l =
-    let r = Rattle.proxy_model.specs.Prefixes.only ask.key in
-    record { range = r; ranges = refl; one = refl; key = sym (same-equal k ask.key (sym (one_contains r k refl) ∙ or_false _ c)); unleased = l }
-alone_of k (request.Delete ask) s c l = record { range = ask.range; ranges = refl; one = s; key = sym (same-equal k ask.range.key (sym (one_contains ask.range k s) ∙ or_false _ c)); unleased = l }
-alone_of k (request.Range ask) s c l = no_true s
-alone_of k (request.Txn t) s c l = no_true s
-alone_of k (request.Compact revision physical) s c l = no_true s
-alone_of k (request.Grant ttl lease) s c l = no_true s
-alone_of k (request.Revoke lease) s c l = no_true s
-alone_of k (request.KeepAlive lease) s c l = no_true s
-alone_of k (request.TimeToLive lease keys) s c l = no_true s
-alone_of k request.Leases s c l = no_true s
-alone_of k (request.Watch ask) s c l = no_true s
-
--- beside an entry no acquire is due or out
-pub no_mark : (k : List ℕ) (e : Entry) (own : Ownership) → Fits own → at own.entries k ≡ Some e → at own.waits.spoiled k ≡ None
-no_mark k e own f here = by (at own.waits.spoiled k) ((f k).ok.apart)
-  where
-    by : (o : Option Bool) → (is_some o ≡ true → is_some (at own.entries k) ≡ false) → o ≡ None
-    by None g = refl
-    by (Some b) g = absurd (let z : true ≡ false = sym (ap is_some here) ∙ g refl in cc)
 
 -- handed in, before writes go on
 abbrev write_handed : ℕ → ℕ → OwnWrite → Core → Core
@@ -107,13 +72,13 @@ write_handed now word v c = record c { own = submitted v.ticket v.request c.own;
 
 -- what holds where it is taken in as a write
 module _ (now ticket word : ℕ) (q : Request) (P : Stepped → Type 0) (c : Core) (l : leases c ≡ true) (h : P (write_is_asked (asked_at now ticket q word) c)) where
-  taken : (r : Request) → r ≡ q → is_single r ≡ true → P (Rattle.core_model.specs.Asking.request_asked r (moment c now) (asked_at now ticket r word) c)
-  taken (request.Put ask) is s =
-      first_of P (leases c) _ (call_is_asked (asked_at now ticket (request.Put ask) word) c) l (subst (λ (r : Request). P (write_is_asked (asked_at now ticket r word) c)) (sym is) h)
-  taken (request.Delete ask) is s =
-      first_of P (leases c) _ (call_is_asked (asked_at now ticket (request.Delete ask) word) c) l (subst (λ (r : Request). P (write_is_asked (asked_at now ticket r word) c)) (sym is) h)
+  taken : (r : Request) → r ≡ q → writes_keys r ≡ true → P (Rattle.core_model.specs.Asking.request_asked r (moment c now) (asked_at now ticket r word) c)
+  taken (request.Put ask) is s = first_of P (leases c) _ (call_is_asked (asked_at now ticket (request.Put ask) word) c) l (subst (λ (r : Request). P (write_is_asked (asked_at now ticket r word) c)) (sym is) h)
+  taken (request.Delete ask) is s = first_of P (leases c) _ (call_is_asked (asked_at now ticket (request.Delete ask) word) c) l (subst (λ (r : Request). P (write_is_asked (asked_at now ticket r word) c)) (sym is) h)
+  taken (request.Txn x) is s =
+      first_of P (leases c) _ (call_is_asked (asked_at now ticket (request.Txn x) word) c) l
+      (first_of P (writes_keys (request.Txn x)) (write_is_asked (asked_at now ticket (request.Txn x) word) c) _ s (subst (λ (r : Request). P (write_is_asked (asked_at now ticket r word) c)) (sym is) h))
   taken (request.Range ask) is s = no_true s
-  taken (request.Txn x) is s = no_true s
   taken (request.Compact revision physical) is s = no_true s
   taken (request.Grant ttl lease) is s = no_true s
   taken (request.Revoke lease) is s = no_true s
@@ -122,24 +87,24 @@ module _ (now ticket word : ℕ) (q : Request) (P : Stepped → Type 0) (c : Cor
   taken request.Leases is s = no_true s
   taken (request.Watch ask) is s = no_true s
 
-  -- a write of one key that is asked and not refused
-  pub write_taken : is_single q ≡ true → is_known ticket c ≡ false → refusal_of c.own.waits.prefix q ≡ None → P (on_ask now ticket q word c)
+  -- a write that is asked and not refused
+  pub write_taken : writes_keys q ≡ true → is_known ticket c ≡ false → refusal_of c.own.waits.prefix q ≡ None → P (on_ask now ticket q word c)
   unfolding on_ask
   write_taken s new served =
       subst (λ (b : Bool). P (if_unknown b ticket c (refused_or_taken (refusal_of c.own.waits.prefix q) (moment c now) (asked_at now ticket q word) c))) (sym new)
       (subst (λ (o : Option Refusal). P (refused_or_taken o (moment c now) (asked_at now ticket q word) c)) (sym served) (taken q refl s))
 
--- of a held key it begins at once
+-- of a held key it may begin at once
 module _ (k : List ℕ) (n : ℕ) (e : Entry) (held : e.phase ≡ Held) (now word : ℕ) (v : OwnWrite) (alone : IsAlone k v.request) where
-  pub write_begins : (c : Core) → Fits c.own → CoreSo (holds k n e held) c → IsBegunIn k n e.create v [] None (write_is_asked (asked_at now v.ticket v.request word) c).core
-  write_begins c f t = record {
-    entry = begun e;
-    writing = ap phase_begun held;
+  pub write_begins : (c : Core) → CoreSo (holds k n e held) c → IsBegunIn k n e.create v [] None (write_is_asked (asked_at now v.ticket v.request word) c).core
+  write_begins c t = record {
+    entry = e;
     created = refl;
     alone = (alone, tt);
-    so = λ s i.
-        let r = t s tt in
-        (own_begins k n v [] (alone, tt) e held (submitted v.ticket v.request c.own) (r.0.entry refl) (no_mark k e c.own f (r.0.entry refl)) (joins_over k v alone [] c.own.waits.writes (r.0.over refl)) r.0.outs, r.1);
+    so = cores.go_on (writes_own k n v [] None (alone, tt) e) (write_handed now word v c)
+        (λ s i.
+        let r = t s i in
+        (record { case = false; outs = r.0.outs; there = tt; over = λ y. joins_over k v alone [] c.own.waits.writes (r.0.over y); mark = λ y. no_true y; entry = λ y. r.0.entry y ∙ (λ i. Some (record e { phase = held i })) }, r.1));
   }
 
 -- while another one, or the acquire, is on its way it waits
@@ -147,16 +112,22 @@ module _ (k : List ℕ) (n : ℕ) (now word : ℕ) (v : OwnWrite) (alone : IsAlo
   pub write_waits : (m : ℕ) (a : AllAlone k (behind_as vs)) (b : AllAlone k (behind_as (vs ++ v ∷ []))) (c : Core) → CoreSo (sending_as k m n vs a) c → CoreSo (sending_as k m n (vs ++ v ∷ []) b) (write_is_asked (asked_at now v.ticket v.request word) c).core
   write_waits m a b c t = cores.go_on (sending_as k m n (vs ++ v ∷ []) b) (write_handed now word v c) (λ s i. let r = t s i in (sending_joins k v alone vs m n a b c.own r.0, r.1))
 
-  pub write_follows : (w : OwnWrite) (call : Option ℕ) (a : AllAlone k (first_as w call ∷ behind_as vs)) (b : AllAlone k (first_as w call ∷ behind_as (vs ++ v ∷ []))) (e : Entry) (writing : e.phase ≡ Writing false) (c : Core)
-      → CoreSo (writes_own k n w vs call a e writing) c → CoreSo (writes_own k n w (vs ++ v ∷ []) call b e writing) (write_is_asked (asked_at now v.ticket v.request word) c).core
-  write_follows w call a b e writing c t = cores.go_on (writes_own k n w (vs ++ v ∷ []) call b e writing) (write_handed now word v c) (λ s i. let r = t s i in (writing_joins k v alone vs n w call a b e writing c.own r.0, r.1))
+  pub write_asking : (ticket : ℕ) (a : AllAlone k (behind_as vs)) (b : AllAlone k (behind_as (vs ++ v ∷ []))) (c : Core) → CoreSo (asking k ticket vs a) c → CoreSo (asking k ticket (vs ++ v ∷ []) b) (write_is_asked (asked_at now v.ticket v.request word) c).core
+  write_asking ticket a b c t = cores.go_on (asking k ticket (vs ++ v ∷ []) b) (write_handed now word v c) (λ s i. let r = t s i in (asking_joins k v alone vs ticket a b c.own r.0, r.1))
+
+  pub write_present : (c : Core) → CoreSo (present k vs) c → CoreSo (present k (vs ++ v ∷ [])) (write_is_asked (asked_at now v.ticket v.request word) c).core
+  write_present c t = cores.go_on (present k (vs ++ v ∷ [])) (write_handed now word v c) (λ s i. let r = t s i in (present_joins k v alone vs c.own r.0, r.1))
+
+  pub write_follows : (w : OwnWrite) (call : Option ℕ) (a : AllAlone k (behind_as (w ∷ vs))) (b : AllAlone k (behind_as (w ∷ (vs ++ v ∷ [])))) (e : Entry) (c : Core)
+      → CoreSo (writes_own k n w vs call a e) c → CoreSo (writes_own k n w (vs ++ v ∷ []) call b e) (write_is_asked (asked_at now v.ticket v.request word) c).core
+  write_follows w call a b e c t = cores.go_on (writes_own k n w (vs ++ v ∷ []) call b e) (write_handed now word v c) (λ s i. let r = t s i in (writing_joins k v alone vs n w call a b e c.own r.0, r.1))
 
 -- ---- its call is answered
 
 -- which of the writes it is
 module _ (k : List ℕ) (v : OwnWrite) (vs : List OwnWrite) (out call : ℕ) (same : out ≡ call) where
   abbrev first : Mine
-  first = first_as v (Some out)
+  first = first_as v (Some out) true
 
   abbrev Over : List Write → Type 0
   Over ws = OverOf k (first ∷ behind_as vs) ws
@@ -202,29 +173,29 @@ module _ (k : List ℕ) (v : OwnWrite) (vs : List OwnWrite) (out call : ℕ) (sa
       let f = found_own own.waits.writes o (ok.sends_once call) in
       (f, job_is f.0 own.waits.out (one_found k first (behind_as vs) (sends call) (sends_misses call vs) f.0 f.1.1 own.waits.writes o f.1.0) (first_has (sends call) (λ w. is_write_out own.waits.out w.stage) f.0 own.waits.writes ok.out f.1.0))
 
-module _ (k : List ℕ) (n : ℕ) (v : OwnWrite) (vs : List OwnWrite) (out : ℕ) (alone : AllAlone k (first_as v (Some out) ∷ behind_as vs)) (e : Entry) (writing : e.phase ≡ Writing false) where
+module _ (k : List ℕ) (n : ℕ) (v : OwnWrite) (vs : List OwnWrite) (out : ℕ) (alone : AllAlone k (behind_as (v ∷ vs))) (e : Entry) where
   abbrev Mid : Ownership → Type 0
-  Mid own = OwnSo (writes_own k n v vs (Some out) alone e writing) own
+  Mid own = OwnSo (writes_own k n v vs (Some out) alone e) own
 
   abbrev Again : Core → Type 0
   Again c = IsKeptIn k n e.create vs c
 
-  own_done : (now : ℕ) (o : OutCall) (a : Answer) (c : Core) → out ≡ o.call → settles c.own.waits.prefix v.request (Some a) ≡ true → WritesOk c.own.waits.writes c.own.waits.out → Fits c.own → Mid c.own → at c.acquires k ≡ None
+  own_done : (now : ℕ) (o : OutCall) (a : Answer) (c : Core) → out ≡ o.call → settles c.own.waits.prefix v.request (Some a) ≡ true → WritesOk c.own.waits.writes c.own.waits.out → Mid c.own → at c.acquires k ≡ None
       → Again (writes_go_on (or_lost now o c (answered_job now o job.Wait a c)))
-  own_done now o a c its s ok fits t none =
-      by (answered o.call a (moment c now).session (moment c now).now c.own) (own_answered k n v vs out alone e writing o.call a (moment c now).session (moment c now).now f.0.0 c.own f.1 f.0.1.0 f.0.1.1 s (no_mark k e c.own fits (t.entry refl)) t)
+  own_done now o a c its s ok t none =
+      by (answered o.call a (moment c now).session (moment c now).now c.own) (own_answered k n v vs out alone e o.call a (moment c now).session (moment c now).now f.0.0 c.own f.1 f.0.1.0 f.0.1.1 s t)
     where
       f : Found k v vs out o.call its c.own.waits.writes × (job_of o.call c.own.waits.out ≡ Some wait.Write)
       f = the_first k v vs out o.call its c.own ok (t.over refl)
 
-      by : (z : Option Ending) → After k n v vs out alone e writing z → Again (writes_go_on (or_lost now o c (reads_if c (answered_by (moment c now) z (reads_of c)))))
+      by : (z : Option Ending) → After k n v vs out alone e z → Again (writes_go_on (or_lost now o c (reads_if c (answered_by (moment c now) z (reads_of c)))))
       by None h = absurd h
       by (Some z) h = ready_goes_on k n e.create vs h.entry h.held h.created alone.1 (with_reads c (released true (moment c now) (ending z (reads_of c)))) (released_ready k h.entry vs true (moment c now) (ending z (reads_of c)) (h.ready, none))
 
-  own_heard : (now : ℕ) (o : OutCall) (h : Option Answer) (c : Core) → o.job ≡ job.Wait → out ≡ o.call → settles c.own.waits.prefix v.request h ≡ true → WritesOk c.own.waits.writes c.own.waits.out → Fits c.own → Mid c.own → at c.acquires k ≡ None
+  own_heard : (now : ℕ) (o : OutCall) (h : Option Answer) (c : Core) → o.job ≡ job.Wait → out ≡ o.call → settles c.own.waits.prefix v.request h ≡ true → WritesOk c.own.waits.writes c.own.waits.out → Mid c.own → at c.acquires k ≡ None
       → Again (writes_go_on (heard_call now o h c))
-  own_heard now o None c j its s ok fits t none = no_true s
-  own_heard now o (Some a) c j its s ok fits t none = subst (λ (y : OutJob). Again (writes_go_on (or_lost now o c (answered_job now o y a c)))) (sym j) (own_done now o a c its s ok fits t none)
+  own_heard now o None c j its s ok t none = no_true s
+  own_heard now o (Some a) c j its s ok t none = subst (λ (y : OutJob). Again (writes_go_on (or_lost now o c (answered_job now o y a c)))) (sym j) (own_done now o a c its s ok t none)
 
   -- the call that is answered
   pub record IsFound (call : ℕ) (d : Core) : Type 0 where
@@ -234,25 +205,25 @@ module _ (k : List ℕ) (n : ℕ) (v : OwnWrite) (vs : List OwnWrite) (out : ℕ
     pub its : out ≡ out_call.call
 
   -- the answer to the call of the first of the owner's own writes
-  pub own_answer : (now call : ℕ) (a : Answer) (d : Core) → (seat_is n d.seat ≡ true → IsFound call d) → settles_as d.settings.namespace d.own.waits.prefix v.request (Some a) ≡ true → WritesOk d.own.waits.writes d.own.waits.out → Fits d.own
-      → CoreSo (writes_own k n v vs (Some out) alone e writing) d → Again (on_answer now call a d).core
+  pub own_answer : (now call : ℕ) (a : Answer) (d : Core) → (seat_is n d.seat ≡ true → IsFound call d) → settles_as d.settings.namespace d.own.waits.prefix v.request (Some a) ≡ true → WritesOk d.own.waits.writes d.own.waits.out
+      → CoreSo (writes_own k n v vs (Some out) alone e) d → Again (on_answer now call a d).core
   unfolding on_answer
-  own_answer now call a d found s ok fits t = by_seat (seat_is n d.seat) refl
+  own_answer now call a d found s ok t = by_seat (seat_is n d.seat) refl
     where
       by_answer : (o : OutCall) → o.job ≡ job.Wait → out ≡ o.call → (b : Answer) → a ≡ b → seat_is n d.seat ≡ true → Again (writes_go_on (answered_call now o b (call_gone call d)))
       by_answer o j its (Done reply) f y =
           let r = t y tt in
-          own_heard now o (heard d.settings.namespace (Done reply)) (answer_taken (Done reply) (call_gone call d)) j its (ap (λ (x : Answer). settles d.own.waits.prefix v.request (heard d.settings.namespace x)) (sym f) ∙ s) ok fits r.0 r.1
+          own_heard now o (heard d.settings.namespace (Done reply)) (answer_taken (Done reply) (call_gone call d)) j its (ap (λ (x : Answer). settles d.own.waits.prefix v.request (heard d.settings.namespace x)) (sym f) ∙ s) ok r.0 r.1
       by_answer o j its (Refused x) f y =
           let r = t y tt in
-          own_heard now o (heard d.settings.namespace (Refused x)) (answer_taken (Refused x) (call_gone call d)) j its (ap (λ (x : Answer). settles d.own.waits.prefix v.request (heard d.settings.namespace x)) (sym f) ∙ s) ok fits r.0 r.1
+          own_heard now o (heard d.settings.namespace (Refused x)) (answer_taken (Refused x) (call_gone call d)) j its (ap (λ (x : Answer). settles d.own.waits.prefix v.request (heard d.settings.namespace x)) (sym f) ∙ s) ok r.0 r.1
 
       clash : {A : Type 0} → seat_is n d.seat ≡ false → seat_is n d.seat ≡ true → A
       clash f g = absurd (let z : false ≡ true = sym f ∙ g in cc)
 
       by_seat : (b : Bool) → seat_is n d.seat ≡ b → Again (answer_of now call a (out_at call d.out) d).core
       by_seat true y = let g = found y in subst (λ (q : Option OutCall). Again (answer_of now call a q d).core) (sym g.is) (by_answer g.out_call g.waits g.its a refl y)
-      by_seat false y = unseated_kept k n e.create vs alone.1 (answer_of now call a (out_at call d.out) d).core (λ u. (cores.answered_so (absent k n) now call a d (λ p g. ((λ u i h. clash y u), tt)) (λ u. clash y u) u tt).1)
+      by_seat false y = unseated_kept k n e.create vs alone.1 (answer_of now call a (out_at call d.out) d).core (λ u. (cores.answered_so (absent k n) now call a d (λ p g. ((λ u i h. clash y u), ((λ c. tt), tt))) (λ u. clash y u) u tt).1)
 
   -- ---- which call that is
 
@@ -323,12 +294,12 @@ module _ (k : List ℕ) (n : ℕ) (v : OwnWrite) (vs : List OwnWrite) (out : ℕ
 
 module _ (k : List ℕ) (n : ℕ) where
   -- behind the step of the answer
-  pub own_step_answered : (v : OwnWrite) (vs : List OwnWrite) (out : ℕ) (alone : AllAlone k (first_as v (Some out) ∷ behind_as vs)) (e : Entry) (writing : e.phase ≡ Writing false) (now call : ℕ) (a : Answer) (c : Core) (o : Outcome) → is_worn c ≡ false
-      → cores.OnTime (writes_own k n v vs (Some out) alone e writing) now c
-      → let d = clock_work now c in out ≡ call → Agrees d → Fits d.own → (happened now (event.Answer call a) d).outcome ≡ Ok o → settles_as d.settings.namespace d.own.waits.prefix v.request (Some a) ≡ true
-      → CoreSo (writes_own k n v vs (Some out) alone e writing) c → IsKeptIn k n e.create vs (stepped c (event.Answer call a) now).core
-  own_step_answered v vs out alone e writing now call a c o fresh late its agrees fits is s so =
+  pub own_step_answered : (v : OwnWrite) (vs : List OwnWrite) (out : ℕ) (alone : AllAlone k (behind_as (v ∷ vs))) (e : Entry) (now call : ℕ) (a : Answer) (c : Core) (o : Outcome) → is_worn c ≡ false
+      → cores.OnTime (writes_own k n v vs (Some out) alone e) now c
+      → let d = clock_work now c in out ≡ call → Agrees d → (happened now (event.Answer call a) d).outcome ≡ Ok o → settles_as d.settings.namespace d.own.waits.prefix v.request (Some a) ≡ true
+      → CoreSo (writes_own k n v vs (Some out) alone e) c → IsKeptIn k n e.create vs (stepped c (event.Answer call a) now).core
+  own_step_answered v vs out alone e now call a c o fresh late its agrees is s so =
       let d = clock_work now c in
-      let t = cores.clock_by (writes_own k n v vs (Some out) alone e writing) now c late so in
-      let r = own_answer k n v vs out alone e writing now call a d (λ y. own_found k n v vs out alone e writing now call a d o its agrees is (t y tt).0) s agrees.writes fits t in
+      let t = cores.clock_by (writes_own k n v vs (Some out) alone e) now c late so in
+      let r = own_answer k n v vs out alone e now call a d (λ y. own_found k n v vs out alone e now call a d o its agrees is (t y tt).0) s agrees.writes t in
       subst (λ (z : Stepped). IsKeptIn k n e.create vs z.core) (sym (stepped_is c (event.Answer call a) now fresh)) (counted_kept k n e.create vs (happened now (event.Answer call a) d) r)

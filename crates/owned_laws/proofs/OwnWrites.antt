@@ -12,7 +12,7 @@ use Rattle.proxy_model.specs.declared.ownership.Written.{Written}
 use Rattle.proxy_model.specs.declared.ownership.Written.TheVariants.{Wrote, Blocked}
 use Rattle.proxy_model.specs.Guarded.{written}
 use Rattle.proxy_model.specs.Keyed.{Keyed, at}
-use Rattle.proxy_model.specs.LeaseTable.{is_writing_phase, phase_after_write}
+use Rattle.proxy_model.specs.LeaseTable.{is_writing_phase}
 use Rattle.wait_model.specs.declared.wait.WaitJob.{WaitJob}
 use Rattle.wait_model.specs.declared.wait.WaitJob.TheVariants as job
 use Rattle.wait_model.specs.declared.write.Write.{Write}
@@ -25,7 +25,7 @@ use Rattle.wait_model.specs.Writes.{first_by, without_first, sends, job_of}
 use Rattle.wait_model.proofs.Tables.{at-each}
 use Rattle.core_fits.specs.Fits.{EachOf}
 use Rattle.owned_laws.specs.OwnWrites.{OwnWrite, is_wrote, settles}
-use Rattle.owned_laws.proofs.Modes.{Mine, IsMine, AllAlone, first_as, behind_as}
+use Rattle.owned_laws.proofs.Modes.{Mine, IsMine, AllAlone, behind_as, first_as}
 use Rattle.owned_laws.proofs.Own.{OverOf, MissesOf, sends_misses, over_away, OwnSo}
 use Rattle.owned_laws.proofs.Ready.{ReadyIn}
 use Rattle.owned_laws.proofs.Ways.{CallSo, NotOf, writes_own}
@@ -86,56 +86,59 @@ pub record HeldAgain (k : List ℕ) (create : ℕ) (vs : List OwnWrite) (own : O
   pub created : entry.create ≡ create
   pub ready : ReadyIn k entry vs own
 
-module _ (k : List ℕ) (n : ℕ) (v : OwnWrite) (vs : List OwnWrite) (out : ℕ) (alone : AllAlone k (first_as v (Some out) ∷ behind_as vs)) (e : Entry) (writing : e.phase ≡ Writing false) where
+module _ (k : List ℕ) (n : ℕ) (v : OwnWrite) (vs : List OwnWrite) (out : ℕ) (alone : AllAlone k (behind_as (v ∷ vs))) (e : Entry) where
   abbrev m : Mine
-  m = first_as v (Some out)
+  m = first_as v (Some out) true
 
   abbrev Mid : Ownership → Type 0
-  Mid own = OwnSo (writes_own k n v vs (Some out) alone e writing) own
+  Mid own = OwnSo (writes_own k n v vs (Some out) alone e) own
 
   abbrev pub After : Option Ending → Type 0
   After None = ⊥
   After (Some x) = HeldAgain k e.create vs x.own
 
+  -- as it is being written
+  abbrev written_entry : Entry
+  written_entry = record e { phase = Writing false }
+
   -- an entry that its write changes to one that is held
-  changed : (x : Write) (f : List ℕ → Entry → Entry) (es : Keyed Entry) → IsMine m x → covers x k ≡ true → at es k ≡ Some e → at (change_owned x f es) k ≡ Some (f k e)
+  changed : (x : Write) (f : List ℕ → Entry → Entry) (es : Keyed Entry) → IsMine m x → covers x k ≡ true → at es k ≡ Some written_entry → at (change_owned x f es) k ≡ Some (f k written_entry)
   changed x f es i over here =
       at-each _ es k ∙ ap (option_map (λ (y : Entry). cond (owns x k && is_writing_phase y.phase) (f k y) y)) here
-      ∙ ap (λ (b : Bool). Some (cond b (f k e) e)) (ap (λ (c : Bool). (is_owner x.stage && c) && is_writing_phase e.phase) over ∙ ap (λ (s : Rattle.wait_model.specs.declared.write.WriteStage.WriteStage). (is_owner s && true) && is_writing_phase e.phase) i.stage ∙ ap is_writing_phase writing)
+      ∙ ap (λ (b : Bool). Some (cond b (f k written_entry) written_entry)) (ap (λ (c : Bool). (is_owner x.stage && c) && true) over ∙ ap (λ (s : Rattle.wait_model.specs.declared.write.WriteStage.WriteStage). (is_owner s && true) && true) i.stage)
 
-  ended : (p : Write → Bool) (x : Write) (own : Ownership) (f : List ℕ → Entry → Entry) → MissesOf (behind_as vs) p → first_by p own.waits.writes ≡ Some x → covers x k ≡ true → (f k e).phase ≡ Held → (f k e).create ≡ e.create → at own.waits.spoiled k ≡ None → Mid own
+  ended : (p : Write → Bool) (x : Write) (own : Ownership) (f : List ℕ → Entry → Entry) → MissesOf (behind_as vs) p → first_by p own.waits.writes ≡ Some x → covers x k ≡ true → (f k written_entry).phase ≡ Held → (f k written_entry).create ≡ e.create → Mid own
       → HeldAgain k e.create vs (ended_by own (change_owned x f own.entries) p)
-  ended p x own f miss is over held same free t = record {
-    entry = f k e;
+  ended p x own f miss is over held same t = record {
+    entry = f k written_entry;
     held = held;
     created = same;
     ready = record {
       entry = changed x f own.entries (one_found k m (behind_as vs) p miss x over own.waits.writes (t.over refl) is) over (t.entry refl);
-      free = free;
       over = one_removed k m (behind_as vs) p miss x over own.waits.writes (t.over refl) is;
       outs = subst (λ (c : ℕ). EachOf (CallSo (NotOf k c)) own.waits.out) (sym same) t.outs;
     };
   }
 
-  by_written : (session : Option ℕ) (p : Write → Bool) (x : Write) (own : Ownership) (o : Option Written) → MissesOf (behind_as vs) p → first_by p own.waits.writes ≡ Some x → covers x k ≡ true → is_wrote o ≡ true → at own.waits.spoiled k ≡ None → Mid own → After (done_if session p x o own)
-  by_written session p x own None miss is over w free t = no_true w
-  by_written session p x own (Some (Blocked os)) miss is over w free t = no_true w
-  by_written session p x own (Some (Wrote reply)) miss is over w free t = ended p x own _ miss is over (ap phase_after_write writing) refl free t
+  by_written : (session : Option ℕ) (p : Write → Bool) (x : Write) (own : Ownership) (o : Option Written) → MissesOf (behind_as vs) p → first_by p own.waits.writes ≡ Some x → covers x k ≡ true → is_wrote o ≡ true → Mid own → After (done_if session p x o own)
+  by_written session p x own None miss is over w t = no_true w
+  by_written session p x own (Some (Blocked os)) miss is over w t = no_true w
+  by_written session p x own (Some (Wrote reply)) miss is over w t = ended p x own _ miss is over refl refl t
 
-  by_answer : (session : Option ℕ) (p : Write → Bool) (x : Write) (own : Ownership) (a : Answer) → MissesOf (behind_as vs) p → first_by p own.waits.writes ≡ Some x → covers x k ≡ true → settles own.waits.prefix v.request (Some a) ≡ true → at own.waits.spoiled k ≡ None → Mid own
+  by_answer : (session : Option ℕ) (p : Write → Bool) (x : Write) (own : Ownership) (a : Answer) → MissesOf (behind_as vs) p → first_by p own.waits.writes ≡ Some x → covers x k ≡ true → settles own.waits.prefix v.request (Some a) ≡ true → Mid own
       → After (write_answered session p (Some x) a own)
-  by_answer session p x own (answer.Done reply) miss is over s free t =
+  by_answer session p x own (answer.Done reply) miss is over s t =
       let i = one_found k m (behind_as vs) p miss x over own.waits.writes (t.over refl) is in
-      by_written session p x own (written own.waits.prefix x.request reply) miss is over (ap (λ (q : Request). is_wrote (written own.waits.prefix q reply)) i.request ∙ s) free t
-  by_answer session p x own (answer.Refused r) miss is over s free t = ended p x own _ miss is over (ap phase_after_write writing) refl free t
+      by_written session p x own (written own.waits.prefix x.request reply) miss is over (ap (λ (q : Request). is_wrote (written own.waits.prefix q reply)) i.request ∙ s) t
+  by_answer session p x own (answer.Refused r) miss is over s t = ended p x own _ miss is over refl refl t
 
   -- of the call of the first write over the key
   pub own_answered : (call : ℕ) (a : Answer) (session : Option ℕ) (now : ℕ) (x : Write) (own : Ownership) → job_of call own.waits.out ≡ Some job.Write → first_by (sends call) own.waits.writes ≡ Some x → covers x k ≡ true
-      → settles own.waits.prefix v.request (Some a) ≡ true → at own.waits.spoiled k ≡ None → Mid own → After (answered call a session now own)
+      → settles own.waits.prefix v.request (Some a) ≡ true → Mid own → After (answered call a session now own)
   unfolding answered
-  own_answered call a session now x own j is over s free t =
-      let M = writes_own k n v vs (Some out) alone e writing in
+  own_answered call a session now x own j is over s t =
+      let M = writes_own k n v vs (Some out) alone e in
       let u = without_out call own in
-      let less : Mid u = record { outs = M.less call own.waits.out t.outs; over = t.over; mark = t.mark; entry = t.entry } in
+      let less : Mid u = record { case = t.case; outs = M.less call own.waits.out t.outs; there = tt; over = t.over; mark = t.mark; entry = t.entry } in
       subst (λ (o : Option WaitJob). After (answered_job call a session now o u)) (sym j)
-      (subst (λ (o : Option Write). After (write_answered session (sends call) o a u)) (sym is) (by_answer session (sends call) x u a (sends_misses call vs) is over s free less))
+      (subst (λ (o : Option Write). After (write_answered session (sends call) o a u)) (sym is) (by_answer session (sends call) x u a (sends_misses call vs) is over s less))

@@ -1,13 +1,12 @@
 -- A held key as it is between the answer by which it is held and the going on of writes: reads that are released leave it so, and then the
--- first of the writes that wait for it begins.
+-- first of the writes that wait for it may begin.
 use Rattle.std.proofs.Common.{◌≡◌, ℕ, Bool, true, false, cond, not, ◌||◌, List, [], ◌∷◌, Option, None, Some, Result, Ok, Err, refl, sym, ◌∙◌, ap}
 use Rattle.etcd_types.specs.Keys.{same}
 use Rattle.etcd_types.proofs.KeyOrder.{same-equal}
 use Rattle.proxy_model.specs.declared.lease.Entry.{Entry}
-use Rattle.proxy_model.specs.declared.lease.Phase.TheVariants.{Held, Writing}
+use Rattle.proxy_model.specs.declared.lease.Phase.TheVariants.{Held}
 use Rattle.proxy_model.specs.Keyed.{at}
 use Rattle.wait_model.specs.declared.sending.Sending.TheVariants as sending
-use Rattle.wait_model.specs.Phases.{begun, phase_begun}
 use Rattle.wait_model.specs.State.{Ownership}
 use Rattle.read_model.specs.declared.asked.Asked.{Asked}
 use Rattle.read_model.specs.PlainRead.{ask_key, decision, begun_under, decided_ground}
@@ -22,11 +21,10 @@ use Rattle.core_model.specs.Stepped.{Stepped, counted, counted_by}
 use Rattle.core_fits.specs.Fits.{EachOf}
 use Rattle.owned_laws.specs.OwnWrites.{OwnWrite}
 use Rattle.owned_laws.specs.Watched.{seat_is}
-use Rattle.owned_laws.proofs.Beginning.{own_begins}
 use Rattle.owned_laws.proofs.Cores as cores
 use Rattle.owned_laws.proofs.Cores.{CoreSo}
 use Rattle.owned_laws.proofs.Grounds.{IsFree, under_free}
-use Rattle.owned_laws.proofs.Modes.{AllAlone, first_as, behind_as, Mode}
+use Rattle.owned_laws.proofs.Modes.{AllAlone, behind_as, Mode}
 use Rattle.owned_laws.proofs.Own.{OverOf, at_other}
 use Rattle.owned_laws.proofs.Ways.{no_true, CallSo, NotOf, holds, writes_own}
 
@@ -37,7 +35,6 @@ either P false x y h i = i
 -- no acquire of it is due or out, and the writes over it are these, which wait
 pub record ReadyIn (k : List ℕ) (e : Entry) (vs : List OwnWrite) (own : Ownership) : Type 0 where
   pub entry : at own.entries k ≡ Some e
-  pub free : at own.waits.spoiled k ≡ None
   pub over : OverOf k (behind_as vs) own.waits.writes
   pub outs : EachOf (CallSo (NotOf k e.create)) own.waits.out
 
@@ -58,7 +55,7 @@ module _ (k : List ℕ) (e : Entry) (vs : List OwnWrite) where
       by : (b : Bool) → same j k ≡ b → So (begun_under ticket j (Some n) g)
       by true s = none e (sym t.0.entry ∙ ap (at g.own.entries) (sym (same-equal j k s)) ∙ (f n refl).entry)
       by false s = (
-        record { entry = t.0.entry; free = at_other k j (Some false) g.own.waits.spoiled s ∙ t.0.free; over = t.0.over; outs = t.0.outs },
+        record { entry = t.0.entry; over = t.0.over; outs = t.0.outs },
         at_other k j (Some (record { ticket = ticket; session = n; sending = sending.Due g.own.waits.step })) g.acquires s ∙ t.1,
       )
 
@@ -82,13 +79,12 @@ pub record IsHeldIn (k : List ℕ) (n create : ℕ) (c : Core) : Type 0 where
   pub created : entry.create ≡ create
   pub so : CoreSo (holds k n entry held) c
 
--- written by its owner: the first of these writes has begun, the others wait
+-- written by its owner: the first of these writes has begun or is to begin, the others wait
 pub record IsBegunIn (k : List ℕ) (n create : ℕ) (v : OwnWrite) (vs : List OwnWrite) (own : Option ℕ) (c : Core) : Type 0 where
   pub entry : Entry
-  pub writing : entry.phase ≡ Writing false
   pub created : entry.create ≡ create
-  pub alone : AllAlone k (first_as v own ∷ behind_as vs)
-  pub so : CoreSo (writes_own k n v vs own alone entry writing) c
+  pub alone : AllAlone k (behind_as (v ∷ vs))
+  pub so : CoreSo (writes_own k n v vs own alone entry) c
 
 abbrev pub IsKeptIn : List ℕ → ℕ → ℕ → List OwnWrite → Core → Type 0
 IsKeptIn k n create [] c = IsHeldIn k n create c
@@ -100,25 +96,25 @@ module _ (k : List ℕ) (n create : ℕ) where
     entry = e;
     held = held;
     created = same;
-    so = cores.go_on (holds k n e held) c (λ s i. (record { outs = t.0.outs; over = λ y. t.0.over; mark = λ y. no_true y; entry = λ y. t.0.entry }, t.1));
+    so = cores.go_on (holds k n e held) c (λ s i. (record { case = tt; outs = t.0.outs; there = tt; over = λ y. t.0.over; mark = λ y. no_true y; entry = λ y. t.0.entry }, t.1));
   }
   ready_goes_on (v ∷ vs) e held same alone c t = record {
-    entry = begun e;
-    writing = ap phase_begun held;
+    entry = e;
     created = same;
     alone = alone;
-    so = λ s i. (own_begins k n v vs alone e held c.own t.0.entry t.0.free t.0.over t.0.outs, t.1);
+    so = cores.go_on (writes_own k n v vs None alone e) c
+        (λ s i. (record { case = false; outs = t.0.outs; there = tt; over = λ y. t.0.over; mark = λ y. no_true y; entry = λ y. t.0.entry ∙ (λ i. Some (record e { phase = held i })) }, t.1));
   }
 
   -- where the session isn't there
   pub unseated_kept : (vs : List OwnWrite) → AllAlone k (behind_as vs) → (c : Core) → (seat_is n c.seat ≡ true → ⊥) → IsKeptIn k n create vs c
   unseated_kept [] alone c f = record { entry = record { create = create; kv = None; phase = Held }; held = refl; created = refl; so = λ s i. absurd (f s) }
-  unseated_kept (v ∷ vs) alone c f = record { entry = record { create = create; kv = None; phase = Writing false }; writing = refl; created = refl; alone = alone; so = λ s i. absurd (f s) }
+  unseated_kept (v ∷ vs) alone c f = record { entry = record { create = create; kv = None; phase = Held }; created = refl; alone = alone; so = λ s i. absurd (f s) }
 
   -- where all that it is about stays
   same_seat : (vs : List OwnWrite) (c d : Core) → ((M : Mode) → CoreSo M c → CoreSo M d) → IsKeptIn k n create vs c → IsKeptIn k n create vs d
   same_seat [] c d f h = record { entry = h.entry; held = h.held; created = h.created; so = f (holds k n h.entry h.held) h.so }
-  same_seat (v ∷ vs) c d f h = record { entry = h.entry; writing = h.writing; created = h.created; alone = h.alone; so = f (writes_own k n v vs None h.alone h.entry h.writing) h.so }
+  same_seat (v ∷ vs) c d f h = record { entry = h.entry; created = h.created; alone = h.alone; so = f (writes_own k n v vs None h.alone h.entry) h.so }
 
   pub counted_kept : (vs : List OwnWrite) (s : Stepped) → IsKeptIn k n create vs s.core → IsKeptIn k n create vs (counted s).core
   counted_kept vs s h = by s.outcome

@@ -274,7 +274,7 @@ module _ (namespace : List ℕ) (items : List Item) (w : World) (b : Beside name
         let held : IsHeldIn k session.number o.create x.core = ((g p x at).keys k o.ticket (owns session.number o.create) o.told).1 in
         record {
           entry = held.entry;
-          there = ((cores.clock_so (holds k session.number held.entry held.held) refl x.clock x.core held.so) (seated_is session.number x.clock d.seat sits) tt).0.entry refl;
+          there = ((cores.clock_so (holds k session.number held.entry held.held) ((λ c. refl), refl) x.clock x.core held.so) (seated_is session.number x.clock d.seat sits) tt).0.entry refl;
           held = held.held;
         }
 

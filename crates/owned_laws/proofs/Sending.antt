@@ -6,7 +6,6 @@ use Rattle.etcd_types.specs.declared.request.Request.{Request}
 use Rattle.etcd_types.specs.declared.request.Request.TheVariants as request
 use Rattle.etcd_types.proofs.Bools.{and_first}
 use Rattle.proxy_model.specs.declared.lease.Entry.{Entry}
-use Rattle.proxy_model.specs.declared.lease.Phase.TheVariants.{Writing}
 use Rattle.proxy_model.specs.Leaving.{rescind}
 use Rattle.proxy_model.specs.RequestRefusals.{is_session, names_session}
 use Rattle.proxy_model.specs.Wrapped.{request_under}
@@ -53,15 +52,15 @@ use Rattle.owned_laws.proofs.Ending.{seated}
 use Rattle.owned_laws.proofs.Cores as cores
 use Rattle.owned_laws.proofs.Cores.{CoreSo, GoesOut}
 use Rattle.owned_laws.proofs.Kept.{HasCall, Kept, KeysOk, Rescinded, OutsOk}
-use Rattle.owned_laws.proofs.Late.{all_other, all_stay, behind_apart, all_apart, on_time}
-use Rattle.owned_laws.proofs.Modes.{AllAlone, first_as, behind_as}
-use Rattle.owned_laws.proofs.Own.{MissesOf}
+use Rattle.owned_laws.proofs.Late.{all_other, all_stay, behind_apart, there_apart, part_misses, all_apart, on_time, asking_on_time, present_on_time}
+use Rattle.owned_laws.proofs.Modes.{AllAlone, behind_as, first_as}
+use Rattle.owned_laws.proofs.Own.{MissesOf, ThereMisses}
 use Rattle.owned_laws.proofs.OwnDue.{own_goes}
 use Rattle.owned_laws.proofs.OwnWork.{outs_stay}
 use Rattle.owned_laws.proofs.Sent.{is_client, ClientsApart, rescind_tells, rescind_due, writes_out, acquire_out}
 use Rattle.owned_laws.proofs.Steps.{counted_so, sent_each, holding_out}
 use Rattle.owned_laws.proofs.Told.{IsSent, SentAs, takes_it, sends_write, sends_other, told_sent}
-use Rattle.owned_laws.proofs.Ways.{asking, sending_as, writes_own}
+use Rattle.owned_laws.proofs.Ways.{present, asking, sending_as, writes_own}
 
 off_it : (b : Bool) → not b ≡ true → b ≡ false
 off_it true e = absurd (cc)
@@ -149,15 +148,24 @@ module _ {namespace : List ℕ} {items : List Item} {w : World} {p : ℕ} {x : P
         same_ticket i n r e = cc
 
     -- it is another's than the owner's own writes
-    write_lets : (k : List ℕ) (n : ℕ) (v : OwnWrite) (vs : List OwnWrite) (c : Option ℕ) (a : AllAlone k (first_as v c ∷ behind_as vs)) (e : Entry) (f : e.phase ≡ Writing false) → list_any (λ w. ticket == w.ticket) (v ∷ vs) ≡ false → GoesOut (writes_own k n v vs c a e f) (first_job d) d
-    write_lets k n v vs c a e f other j s is u = (outs_stay k n v vs c a e f d (order known) u s is, subst (λ (i : ℕ). MissesOf (first_as v c ∷ behind_as vs) (has_ticket i)) (sym (named_by s j is)) (all_apart ticket v vs c other))
+    write_lets : (k : List ℕ) (n : ℕ) (v : OwnWrite) (vs : List OwnWrite) (c : Option ℕ) (a : AllAlone k (behind_as (v ∷ vs))) (e : Entry) → list_any (λ w. ticket == w.ticket) (v ∷ vs) ≡ false → GoesOut (writes_own k n v vs c a e) (first_job d) d
+    write_lets k n v vs c a e other j s is u = (outs_stay k n v vs c a e d (order known) u s is, ((λ b. subst (λ (i : ℕ). MissesOf (first_as v c b ∷ behind_as vs) (has_ticket i)) (sym (named_by s j is)) (all_apart ticket v vs c other b)), tt))
+
+    behind_lets : (vs : List OwnWrite) (z : JobSent) → first_job d ≡ Some ForWrites → job_sent (next_call d) d.own ≡ Some z → list_any (λ w. ticket == w.ticket) vs ≡ false → MissesOf (behind_as vs) (has_ticket z.due.ticket)
+    behind_lets vs z j i h = subst (λ (i : ℕ). MissesOf (behind_as vs) (has_ticket i)) (sym (named_by z j i)) (behind_apart ticket vs h)
 
     work_lets : (k : List ℕ) (t : ℕ) (o : Owning) → has_write ticket o ≡ false → Lets known event.Work k t o
-    work_lets k t asks h = λ s j z i u. (tt, tt)
-    work_lets k t (sends c m vs) h = (all_other event.Work (λ i. tt) vs, λ n v a s j z i u. (tt, subst (λ (i : ℕ). MissesOf (behind_as vs) (has_ticket i)) (sym (named_by z j i)) (behind_apart ticket vs h)))
+    work_lets k t (asks vs) h = (
+      all_other event.Work (λ i. tt) vs,
+      (
+        (λ a s j z i u. (tt, ((λ c. part_misses (has_ticket z.due.ticket) vs c (behind_lets vs z j i h)), tt))),
+        (λ s j z i u. (tt, ((λ c. tt), subst (λ (i : ℕ). ThereMisses k vs (has_ticket i)) (sym (named_by z j i)) (there_apart k ticket vs h)))),
+      ),
+    )
+    work_lets k t (sends c m vs) h = (all_other event.Work (λ i. tt) vs, λ n v a s j z i u. (tt, ((λ c. behind_lets vs z j i h), tt)))
     work_lets k t (owns m create) h = λ e f c u s. holding_out k m e f d (order known)
-    work_lets k t (write_asked m create v vs) h = (all_other event.Work (λ i. tt) (v ∷ vs), λ l a e f c s. write_lets k m v vs None a e f h)
-    work_lets k t (write_sent m create v vs number) h = (all_other event.Work (λ i. tt) (v ∷ vs), λ n i l a e f c s. write_lets k m v vs (Some n) a e f h)
+    work_lets k t (write_asked m create v vs) h = (all_other event.Work (λ i. tt) (v ∷ vs), λ l a e c s. write_lets k m v vs None a e h)
+    work_lets k t (write_sent m create v vs number) h = (all_other event.Work (λ i. tt) (v ∷ vs), λ n i l a e c s. write_lets k m v vs (Some n) a e h)
 
     its_call : HasCall after p x.life (next_number w) own
     its_call = record { call = new_call p (stepped_to x event.Work) own member q; there = last_nth w.calls (new_call p (stepped_to x event.Work) own member q); own_is = refl; mine = refl; lives = refl }
@@ -166,20 +174,26 @@ module _ {namespace : List ℕ} {items : List Item} {w : World} {p : ℕ} {x : P
     sending_kept k t o v =
         let s = seated known v.session.number (ap (is_numbered v.session.number) v.told ∙ number_itself v.session.number) v.live in
         let n = v.session.number in
-        let so = cores.clock_so (asking k t) refl x.clock x.core ((mine known).keys k t asks v.asked) in
+        let vs = v.writes in
+        let was = (mine known).keys k t (asks vs) v.asked in
         let numbered = ap is_session (sym s.number) ∙ seats_number x.core.seat s.its s.there (known.beside.fits p x known.there).numbered in
-        let out = acquire_out nsp lea k n own member t x.clock q d (named known) (prefix_is known) numbered v.takes so (due known) clients (gave'.1 ∙ ap (λ (m : ℕ). Ok (outcome.Job (Some (job.Call own member m q)))) v.ticket_is) in
         subst (λ (z : Owning). Kept after next p x.life x.clock k t z (stepped x.core event.Work x.clock).core) (sym v.sent)
         (record {
           own = own;
           call = its_call;
           below = (let k = less n (bound_of w) (ap (λ (m : ℕ). nat_lt m (bound_of w)) (sym s.number) ∙ (known.beside.sessions.places p x known.there).known.below s.its s.there) in less_later n (bound_of w) next k (later known));
-          clients = refl;
-          so = λ early. record {
-            alone = tt;
-            asked = tt;
-            so = subst (λ (z : Stepped). CoreSo (sending_as k own n [] tt) z.core) (sym (stepped_is x.core event.Work x.clock gave'.0)) (counted_so (sending_as k own n [] tt) (happened x.clock event.Work d) out);
-          };
+          clients = was.clients;
+          so = λ early.
+              let u = was.so early in
+              let so = cores.clock_by (asking k t vs u.alone) x.clock x.core (asking_on_time x.clock k t vs u.alone early x.core u.asked) u.so in
+              let there = cores.clock_by (present k vs) x.clock x.core (present_on_time x.clock k vs early x.core u.asked) u.there in
+              let M = sending_as k own n vs u.alone in
+              let out = acquire_out nsp lea k n own member t x.clock vs u.alone q d (named known) (prefix_is known) numbered v.takes so there (due known) clients (gave'.1 ∙ ap (λ (m : ℕ). Ok (outcome.Job (Some (job.Call own member m q)))) v.ticket_is) in
+              record {
+                alone = u.alone;
+                asked = all_stay vs x.core event.Work x.clock (core_ok known) (all_other event.Work (λ i. tt) vs) u.asked;
+                so = subst (λ (z : Stepped). CoreSo M z.core) (sym (stepped_is x.core event.Work x.clock gave'.0)) (counted_so M (happened x.clock event.Work d) out);
+              };
         })
 
     -- the first write's own call
@@ -195,18 +209,12 @@ module _ {namespace : List ℕ} {items : List Item} {w : World} {p : ℕ} {x : P
           so = λ early.
               let u = s.so early in
               let h = u.begun in
-              let M = writes_own k n v vs None h.alone h.entry h.writing in
-              let N = writes_own k n v vs (Some own) h.alone h.entry h.writing in
-              let goes = own_goes k v vs n h.alone h.entry h.writing d (order known) (agrees known) (owners known).acquires.rising client x.clock own member q (due known) (gave'.1 ∙ ap (λ (m : ℕ). Ok (outcome.Job (Some (job.Call own member m q)))) names)
-              (cores.clock_by M x.clock x.core (on_time x.clock k n v vs None h.alone h.entry h.writing early x.core u.asked) h.so) in
+              let M = writes_own k n v vs None h.alone h.entry in
+              let N = writes_own k n v vs (Some own) h.alone h.entry in
+              let goes = own_goes k v vs n h.alone h.entry d (order known) (agrees known) (owners known).acquires.rising client x.clock own member q (due known) (gave'.1 ∙ ap (λ (m : ℕ). Ok (outcome.Job (Some (job.Call own member m q)))) names)
+              (cores.clock_by M x.clock x.core (on_time x.clock k n v vs None h.alone h.entry early x.core u.asked) h.so) in
               record {
-                begun = record {
-                  entry = h.entry;
-                  writing = h.writing;
-                  created = h.created;
-                  alone = h.alone;
-                  so = subst (λ (z : Stepped). CoreSo N z.core) (sym (stepped_is x.core event.Work x.clock gave'.0)) (counted_so N (happened x.clock event.Work d) goes);
-                };
+                begun = record { entry = h.entry; created = h.created; alone = h.alone; so = subst (λ (z : Stepped). CoreSo N z.core) (sym (stepped_is x.core event.Work x.clock gave'.0)) (counted_so N (happened x.clock event.Work d) goes) };
                 asked = all_stay (v ∷ vs) x.core event.Work x.clock (core_ok known) (all_other event.Work (λ i. tt) (v ∷ vs)) u.asked;
               };
         }
@@ -223,7 +231,7 @@ module _ {namespace : List ℕ} {items : List Item} {w : World} {p : ℕ} {x : P
     same_request r t n m e = cc
 
     pub sent_outs : OutsOk nsp lea (items ++ sentItems) p (stepped x.core event.Work x.clock).core
-    sent_outs = outs_by known event.Work sentItems (λ f s j t. (sent_each (Rescinded nsp lea (items ++ sentItems) p) (next_call d) d.own (first f s j) t.outs s j, tt))
+    sent_outs = outs_by known event.Work sentItems (λ f s j t. (sent_each (Rescinded nsp lea (items ++ sentItems) p) (next_call d) d.own (first f s j) t.outs s j, ((λ c. tt), tt)))
       where
         first : first_job d ≡ Some Rattle.core_model.specs.DueJobs.ForWrites → (s : JobSent) → job_sent (next_call d) d.own ≡ Some s → (z : List ℕ × Entry) → Rattle.wait_model.specs.DueOrder.first_rescind d.own.entries ≡ Some z
             → gave_up (owner_key nsp lea z.0) z.1.create p (items ++ sentItems) ≡ true

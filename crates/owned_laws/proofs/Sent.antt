@@ -1,5 +1,5 @@
 -- The sending of an acquire: the call that takes the key under a session is the acquire of that key, and stands as out then.
-use Rattle.std.proofs.Common.{◌≡◌, ℕ, ◌==◌, Bool, true, false, cond, ◌&&◌, ◌||◌, List, [], ◌∷◌, ◌++◌, Option, None, Some, Result, Ok, refl, sym, ◌∙◌, ap}
+use Rattle.std.proofs.Common.{◌≡◌, inl, inr, ℕ, suc, ◌+◌, ◌≤◌, ◌==◌, Bool, true, false, cond, ◌&&◌, ◌||◌, List, [], ◌∷◌, ◌++◌, length, length-append, Option, None, Some, Result, Ok, refl, sym, ◌∙◌, ap, subst, arith}
 use Rattle.std.specs.List.{list_any}
 use Rattle.std.specs.Option.{option_map}
 use Rattle.etcd_types.specs.declared.operation.Op.{Op}
@@ -16,6 +16,8 @@ use Rattle.proxy_model.specs.Leaving.{rescind}
 use Rattle.proxy_model.specs.RequestRefusals.{is_session, names_session, op_names_session}
 use Rattle.proxy_model.specs.Wrapped.{request_under}
 use Rattle.proxy_model.proofs.KeyedLaws.{at-with_at}
+use Rattle.wait_model.specs.declared.write.Write.{Write}
+use Rattle.wait_model.specs.Covers.{covers}
 use Rattle.wait_model.specs.DueOrder.{first_rescind}
 use Rattle.wait_model.specs.Sent.{JobSent, rescind_job, job_sent_after, job_sent}
 use Rattle.wait_model.specs.State.{Ownership}
@@ -38,12 +40,19 @@ use Rattle.core_model.specs.State.{Core}
 use Rattle.core_model.specs.Watching.{stream_job, with_watches}
 use Rattle.core_laws.proofs.Steps.Lists.{same_number, number_itself}
 use Rattle.cached_laws.specs.Awaited.{is_due_for}
+use Rattle.owned_laws.specs.OwnWrites.{OwnWrite}
 use Rattle.owned_laws.specs.Owned.{owner_key, puts_under, takes_under, rescinds}
 use Rattle.owned_laws.proofs.Cores.{CoreSo, Stands}
-use Rattle.owned_laws.proofs.Ways.{asking, sending_as}
+use Rattle.owned_laws.proofs.Modes.{AllAlone, behind_as, Parts, ThereOf}
+use Rattle.owned_laws.proofs.Own.{OverOf}
+use Rattle.owned_laws.proofs.Ways.{present, asking, sending_as}
 
 no_true : {A : Type 0} → false ≡ true → A
 no_true e = absurd (cc)
+
+clash : {A : Type 0} (b : Bool) → b ≡ true → b ≡ false → A
+clash true e f = absurd (cc)
+clash false e f = absurd (cc)
 
 -- ---- other requests take nothing
 
@@ -122,6 +131,38 @@ pub writes_out : (now : ℕ) (d : Core) (s : JobSent) → first_job d ≡ Some F
 unfolding on_work
 writes_out now d s f e = ap (λ (j : Option DueJob). (sent_by now j d).outcome) f ∙ ap (λ (o : Option JobSent). (writes_sent now o d).outcome) e
 
+-- ---- the writes that are over the key are those that are there
+
+-- as many at least
+there_count : (k : List ℕ) (vs us : List OwnWrite) (ws : List Write) → ThereOf k vs ws → OverOf k (behind_as us) ws → length vs ≤ length us
+there_count k [] us ws h o = omega (arith)
+there_count k (v ∷ vs) us [] h o = absurd h
+there_count k (v ∷ vs) [] (x ∷ ws) (inl h) o = clash (covers x k) h.0.over (or_parts (covers x k) (list_any (λ y. covers y k) ws) o).0
+there_count k (v ∷ vs) [] (x ∷ ws) (inr h) o = there_count k (v ∷ vs) [] ws h (or_parts (covers x k) (list_any (λ y. covers y k) ws) o).1
+there_count k (v ∷ vs) (u ∷ us) (x ∷ ws) (inl h) (inl o) = one_more (length vs) (length us) (there_count k vs us ws h.1 o.1.1)
+  where
+    one_more : (a b : ℕ) → a ≤ b → suc a ≤ suc b
+    one_more a b l = omega (arith, l)
+there_count k (v ∷ vs) (u ∷ us) (x ∷ ws) (inl h) (inr o) = clash (covers x k) h.0.over o.0
+there_count k (v ∷ vs) (u ∷ us) (x ∷ ws) (inr h) (inl o) = one_less (length vs) (length us) (there_count k (v ∷ vs) us ws h o.1.1)
+  where
+    one_less : (a b : ℕ) → suc a ≤ b → suc a ≤ suc b
+    one_less a b l = omega (arith, l)
+there_count k (v ∷ vs) (u ∷ us) (x ∷ ws) (inr h) (inr o) = there_count k (v ∷ vs) (u ∷ us) ws h o.1
+
+-- a rest that is as long is the whole
+whole_rest : (front rest : List OwnWrite) → length (front ++ rest) ≤ length rest → front ≡ []
+whole_rest [] rest l = refl
+whole_rest (v ∷ vs) rest l = absurd (no_more (length (vs ++ rest)) (length vs) (length rest) (length-append vs rest) l)
+  where
+    no_more : (m a b : ℕ) → m ≡ a + b → suc m ≤ b → ⊥
+    no_more m a b e l = absurd (omega (arith, e, l))
+
+all_there : (k : List ℕ) (vs : List OwnWrite) (c : Parts vs) (ws : List Write) → ThereOf k vs ws → OverOf k (behind_as c.rest) ws → c.rest ≡ vs
+all_there k vs c ws h o =
+    let none = whole_rest c.front c.rest (subst (λ (us : List OwnWrite). length us ≤ length c.rest) c.is (there_count k vs c.rest ws h o)) in
+    sym (c.is ∙ ap (λ (us : List OwnWrite). us ++ c.rest) none)
+
 -- ---- the acquire goes out
 
 -- a client's call
@@ -134,8 +175,8 @@ is_client _ = false
 abbrev pub ClientsApart : ℕ → ℕ → Core → Request → Type 0
 ClientsApart now own d q = (j : OutJob) → is_client j ≡ true → next_call d ≡ own → (on_work now d).core.out ≡ d.out ++ out_call now j d ∷ [] → names_session q ≡ false
 
-module _ (namespace leasing k : List ℕ) (n own member t now : ℕ) (q : Request) (d : Core) (named : d.settings.namespace ≡ namespace) (prefix : d.own.waits.prefix ≡ leasing) (numbered : is_session n ≡ true)
-    (takes : takes_under (owner_key namespace leasing k) n q ≡ true) (so : CoreSo (asking k t) d) where
+module _ (namespace leasing k : List ℕ) (n own member t now : ℕ) (vs : List OwnWrite) (alone : AllAlone k (behind_as vs)) (q : Request) (d : Core) (named : d.settings.namespace ≡ namespace) (prefix : d.own.waits.prefix ≡ leasing) (numbered : is_session n ≡ true)
+    (takes : takes_under (owner_key namespace leasing k) n q ≡ true) (so : CoreSo (asking k t vs alone) d) (there : CoreSo (present k vs) d) where
   abbrev Gives : Request → ℕ → ℕ → Type 0
   Gives r t' own' = ◌≡◌ {A = Result Outcome StepFault} (Ok (outcome.Job (Some (sent.Call own' d.members.current t' (request_under d.settings.namespace r))))) (Ok (outcome.Job (Some (sent.Call own member t q))))
 
@@ -143,7 +184,7 @@ module _ (namespace leasing k : List ℕ) (n own member t now : ℕ) (q : Reques
   same_call r t' own' e = ((cc), ((cc), (cc)))
 
   abbrev Out : Core → Type 0
-  Out c = CoreSo (sending_as k own n [] tt) c
+  Out c = CoreSo (sending_as k own n vs alone) c
 
   nothing : {A : Type 0} → takes_under (owner_key namespace leasing k) n q ≡ false → A
   nothing f = no_true (sym f ∙ takes)
@@ -159,7 +200,14 @@ module _ (namespace leasing k : List ℕ) (n own member t now : ℕ) (q : Reques
       ap (is_due_for t) here ∙ and_both (x.ticket == t) (is_due x.sending) (ap (λ (m : ℕ). m == t) s.1.0 ∙ number_itself t) due in
       let g = (so tt due_for).0 in
       λ y z. (
-        record { outs = tt; over = λ y. g.over refl; mark = λ y. g.mark refl; entry = λ y. no_true y },
+        record {
+          case = tt;
+          outs = tt;
+          there = tt;
+          over = λ y. subst (λ (us : List OwnWrite). OverOf k (behind_as us) d.own.waits.writes) (all_there k vs g.case d.own.waits.writes (there tt tt).0.there (g.over refl)) (g.over refl);
+          mark = λ y. g.mark refl;
+          entry = λ y. no_true y;
+        },
         record {
           acquire = sent_out (next_call d) x;
           stands = at-with_at d.acquires i k (option_map (sent_out (next_call d)) (at d.acquires i)) ∙ ap (λ (b : Bool). cond b (option_map (sent_out (next_call d)) (at d.acquires i)) (at d.acquires k)) (ap (λ (l : List ℕ). same l k) both.0 ∙ same-itself k) ∙ ap (option_map (sent_out (next_call d))) f;

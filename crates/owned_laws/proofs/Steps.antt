@@ -9,7 +9,7 @@ use Rattle.etcd_types.specs.Keys.{same}
 use Rattle.etcd_types.proofs.Bools.{and_first, and_second, and_both}
 use Rattle.etcd_types.proofs.KeyOrder.{same-equal, same-itself}
 use Rattle.proxy_model.specs.declared.lease.Entry.{Entry}
-use Rattle.proxy_model.specs.declared.lease.Phase.TheVariants.{Held, Writing}
+use Rattle.proxy_model.specs.declared.lease.Phase.TheVariants.{Held}
 use Rattle.proxy_model.specs.declared.ownership.Claim.{Claim}
 use Rattle.proxy_model.specs.declared.ownership.Claim.TheVariants.{Acquired, OwnedBy}
 use Rattle.proxy_model.specs.Acquire.{claimed}
@@ -61,13 +61,13 @@ use Rattle.cached_laws.proofs.Steps.{stepped_is}
 use Rattle.owned_laws.specs.OwnWrites.{OwnWrite}
 use Rattle.owned_laws.specs.Owned.{claim_told, claim_heard, claim_in}
 use Rattle.owned_laws.proofs.Cores as cores
-use Rattle.owned_laws.proofs.Cores.{CoreSo, StepSo, Draws, OnTime, EndsAs, Misses, PassesIn, GoesOut, Stands}
+use Rattle.owned_laws.proofs.Cores.{CoreSo, Draws, OnTime, EndsAs, Misses, PassesIn, GoesOut, Stands}
 use Rattle.owned_laws.proofs.Grounds.{GroundSo}
-use Rattle.owned_laws.proofs.Modes.{IsMine, AllAlone, first_as, behind_as, Mode}
-use Rattle.owned_laws.proofs.Own.{sends_misses, Misses as MissesBy}
+use Rattle.owned_laws.proofs.Modes.{IsMine, AllAlone, behind_as, first_as, Mode}
+use Rattle.owned_laws.proofs.Own.{sends_misses, there_sends, Misses as MissesBy}
 use Rattle.owned_laws.proofs.Ready.{Ready, released_ready, IsKeptIn, ready_goes_on}
 use Rattle.wait_model.specs.Writes as writes
-use Rattle.owned_laws.proofs.Ways.{CallSo, IsOutIn, NotOf, plain, asking, sending_as, holds, writes_own}
+use Rattle.owned_laws.proofs.Ways.{CallSo, IsOutIn, NotOf, plain, present, asking, sending_as, holds, writes_own}
 
 no_true : {A : Type 0} → false ≡ true → A
 no_true e = absurd (cc)
@@ -117,7 +117,7 @@ pub steps_by : (M : Mode) (c : Core) (e : CoreEvent) (now : ℕ) → OnTime M no
 steps_by M c e now t s l h = by_happened M c e now t h (λ d. happened_so M now e (clock_work now c) s (l d) d)
 
 -- where no write is the owner's own
-pub steps_so : (M : Mode) → M.mine ≡ [] → (c : Core) (e : CoreEvent) (now : ℕ) → Stands (clock_work now c) (first_job (clock_work now c)) → (CoreSo M (clock_work now c) → Leaves M (clock_work now c) e) → CoreSo M c → CoreSo M (stepped c e now).core
+pub steps_so : (M : Mode) → cores.HasNone M → (c : Core) (e : CoreEvent) (now : ℕ) → Stands (clock_work now c) (first_job (clock_work now c)) → (CoreSo M (clock_work now c) → Leaves M (clock_work now c) e) → CoreSo M c → CoreSo M (stepped c e now).core
 steps_so M n c e now s l h = steps_by M c e now (cores.none_late M n now c) s l h
 
 -- the first due job is of what stands
@@ -151,10 +151,13 @@ out_as : (d : Core) (call : ℕ) (o : OutCall) (i k : List ℕ) → OwnersFit d 
 out_as d call o i k f e j s = subst (λ (l : List ℕ). IsOutAs call (at d.acquires l)) (same-equal i k s) (f.acquires.awaits call i (its_job call d.out o e ∙ ap (λ (x : OutJob). Some x) j))
 
 pub plain_ends : (k : List ℕ) (T : Rattle.owned_laws.proofs.Ways.OfRescind) (d : Core) (call : ℕ) → EndsSo (plain k T) d call
-plain_ends k T d call o e = ((λ s i j n. refl), tt)
+plain_ends k T d call o e = ((λ s i j n. refl), ((λ c. tt), tt))
 
-pub asking_ends : (k : List ℕ) (t : ℕ) (d : Core) (call : ℕ) → EndsSo (asking k t) d call
-asking_ends k t d call o e = ((λ s i j n. refl), tt)
+pub asking_ends : (k : List ℕ) (t : ℕ) (vs : List OwnWrite) (alone : AllAlone k (behind_as vs)) (d : Core) (call : ℕ) → EndsSo (asking k t vs alone) d call
+asking_ends k t vs alone d call o e = ((λ s i j n. refl), ((λ c. sends_misses o.call c.rest), tt))
+
+pub present_ends : (k : List ℕ) (vs : List OwnWrite) (d : Core) (call : ℕ) → EndsSo (present k vs) d call
+present_ends k vs d call o e = ((λ s i j n. refl), ((λ c. tt), there_sends k o.call vs))
 
 same_acquire : (x y : Acquire) → Some x ≡ Some y → x ≡ y
 same_acquire x y e = cc
@@ -170,7 +173,7 @@ sending_ends k m n vs alone d call f other h o e = (
       let one = same_acquire a.acquire t.acquire (sym a.stands ∙ t.stands) in
       let is : call ≡ m = same_out call m (sym a.out ∙ ap (λ (x : Acquire). x.sending) one ∙ t.out) in
       absurd (let z : true ≡ false = sym (number_itself m) ∙ ap (λ (x : ℕ). x == m) (sym is) ∙ other in cc)),
-  sends_misses o.call vs,
+  ((λ c. sends_misses o.call vs), tt),
 )
 
 pub holding_ends : (k : List ℕ) (n : ℕ) (e : Entry) (held : e.phase ≡ Held) (d : Core) (call : ℕ) → OwnersFit d → CoreSo (holds k n e held) d → EndsSo (holds k n e held) d call
@@ -178,16 +181,16 @@ holding_ends k n e held d call f h o g = (
   (λ s i j y.
       let a = out_as d call o i k f g j y in
       absurd (let z : None ≡ Some a.acquire = sym (h s tt).1 ∙ a.stands in cc)),
-  tt,
+  ((λ c. tt), tt),
 )
 
-pub writing_ends : (k : List ℕ) (n : ℕ) (v : OwnWrite) (vs : List OwnWrite) (own : Option ℕ) (alone : AllAlone k (first_as v own ∷ behind_as vs)) (e : Entry) (writing : e.phase ≡ Writing false) (d : Core) (call : ℕ) → OwnersFit d
-    → ((o : OutCall) → out_at call d.out ≡ Some o → (y : Write) → IsMine (first_as v own) y → writes.sends o.call y ≡ false) → CoreSo (writes_own k n v vs own alone e writing) d → EndsSo (writes_own k n v vs own alone e writing) d call
-writing_ends k n v vs own alone e writing d call f misses h o g = (
+pub writing_ends : (k : List ℕ) (n : ℕ) (v : OwnWrite) (vs : List OwnWrite) (own : Option ℕ) (alone : AllAlone k (behind_as (v ∷ vs))) (e : Entry) (d : Core) (call : ℕ) → OwnersFit d
+    → ((o : OutCall) → out_at call d.out ≡ Some o → (c : Bool) (y : Write) → IsMine (first_as v own c) y → writes.sends o.call y ≡ false) → CoreSo (writes_own k n v vs own alone e) d → EndsSo (writes_own k n v vs own alone e) d call
+writing_ends k n v vs own alone e d call f misses h o g = (
   (λ s i j y.
       let a = out_as d call o i k f g j y in
       absurd (let z : None ≡ Some a.acquire = sym (h s tt).1 ∙ a.stands in cc)),
-  (misses o g, sends_misses o.call vs),
+  ((λ c. (misses o g c, sends_misses o.call vs)), tt),
 )
 
 -- ---- calls of writes and entries go out
@@ -222,7 +225,7 @@ sent_each T call own f h s e = by (first_rescind own.entries) refl e
 
 -- a held entry isn't due to be given up
 pub holding_out : (k : List ℕ) (n : ℕ) (e : Entry) (held : e.phase ≡ Held) (d : Core) → is_in_order d.own.entries ≡ true → GoesOut (holds k n e held) (first_job d) d
-holding_out k n e held d order j s is t = (sent_each (NotOf k e.create) (next_call d) d.own first t.outs s is, tt)
+holding_out k n e held d order j s is t = (sent_each (NotOf k e.create) (next_call d) d.own first t.outs s is, ((λ c. tt), tt))
   where
     same_entry : (x y : Entry) → Some x ≡ Some y → x ≡ y
     same_entry x y f = cc
@@ -235,7 +238,7 @@ holding_out k n e held d order j s is t = (sent_each (NotOf k e.create) (next_ca
 
 -- ---- from the request: none of the ticket's is due
 
-pub unasked_so : (k : List ℕ) (t : ℕ) (d : Core) → Agrees d → is_known t d ≡ false → CoreSo (asking k t) d
+pub unasked_so : (k : List ℕ) (t : ℕ) (d : Core) → Agrees d → is_known t d ≡ false → CoreSo (asking k t [] tt) d
 unasked_so k t d a u s i = absurd (by (at d.acquires k) (a.awaited k) i)
   where
     asked : (xs : List Asked) (n : ℕ) → n ≡ t → list_any (λ x. Rattle.core_model.specs.Lookups.has_ticket n x && acquires_at k x) xs ≡ true → is_some (ask_at t xs) ≡ true
@@ -287,7 +290,6 @@ module _ (k : List ℕ) (n call now : ℕ) (vs : List OwnWrite) (alone : AllAlon
       released_ready k (won true r' kv) vs true m (acquired m k true h r' kv r) (
         record {
           entry = at-with_at r.own.entries k k (Some (won true r' kv)) ∙ ap (λ (b : Bool). cond b (Some (won true r' kv)) (at r.own.entries k)) (same-itself k);
-          free = at-with_at r.own.waits.spoiled k k None ∙ ap (λ (b : Bool). cond b None (at r.own.waits.spoiled k)) (same-itself k);
           over = (t tt).0.over refl;
           outs = outs;
         },

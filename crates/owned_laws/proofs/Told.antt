@@ -92,7 +92,7 @@ module _ (namespace leasing k : List ℕ) (p ticket : ℕ) where
 
   -- ---- a request of the proxy: it begins with it, or it writes the key alone and joins the writes of it, or it doesn't write the key
   pub data AskedAs (items : List Item) (t : ℕ) (r : Request) (o : Owning) : Type 0 where
-    begins_it : writes_over leasing k r ≡ false → t ≡ ticket → o ≡ asks → AskedAs items t r o
+    begins_it : writes_over leasing k r ≡ false → t ≡ ticket → o ≡ asks [] → AskedAs items t r o
     writes_it : (y : Owning) → Told items ≡ Some y → writes_over leasing k r ≡ true → may_join leasing k t r y ≡ true → joined (record { ticket = t; request = r; since = clock_of p items }) y ≡ Some o → AskedAs items t r o
     asks_other : writes_over leasing k r ≡ false → Told items ≡ Some o → has_write t o ≡ false → AskedAs items t r o
 
@@ -108,23 +108,24 @@ module _ (namespace leasing k : List ℕ) (p ticket : ℕ) where
       by_told None f w h = no_owning o h
       by_told (Some y) f w h = by_join y f w (may_join leasing k t r y) refl h
 
-      by_ticket : writes_over leasing k r ≡ false → (b : Bool) → (t == ticket) ≡ b → cond b (Some asks) (unless_so (has_write t) (Told items)) ≡ Some o → AskedAs items t r o
-      by_ticket w true g h = begins_it w (same_number t ticket g) (sym (some_owning asks o h))
+      by_ticket : writes_over leasing k r ≡ false → (b : Bool) → (t == ticket) ≡ b → cond b (Some (asks [])) (unless_so (has_write t) (Told items)) ≡ Some o → AskedAs items t r o
+      by_ticket w true g h = begins_it w (same_number t ticket g) (sym (some_owning (asks []) o h))
       by_ticket w false g h = let u = unless_told (has_write t) (Told items) o h in asks_other w u.0 u.1
 
-      by : (b : Bool) → writes_over leasing k r ≡ b → cond b (written_by leasing k t r (clock_of p items) (Told items)) (cond (t == ticket) (Some asks) (unless_so (has_write t) (Told items))) ≡ Some o → AskedAs items t r o
+      by : (b : Bool) → writes_over leasing k r ≡ b → cond b (written_by leasing k t r (clock_of p items) (Told items)) (cond (t == ticket) (Some (asks [])) (unless_so (has_write t) (Told items))) ≡ Some o → AskedAs items t r o
       by true w h = by_told (Told items) refl w h
       by false w h = by_ticket w (t == ticket) refl h
 
   -- ---- a call of the proxy: it is the acquire, or the first write, or tells nothing
   pub record IsSent (items : List Item) (call t : ℕ) (r : Request) (o : Owning) : Type 0 where
-    pub asked : Told items ≡ Some asks
+    pub writes : List OwnWrite
+    pub asked : Told items ≡ Some (asks writes)
     pub ticket_is : t ≡ ticket
     pub session : Session
     pub told : session_of p items ≡ Some session
     pub live : is_live p items ≡ true
     pub takes : takes_under (owner_key namespace leasing k) session.number r ≡ true
-    pub sent : o ≡ sends call session.number []
+    pub sent : o ≡ sends call session.number writes
 
   pub data SentAs (items : List Item) (call t : ℕ) (r : Request) (o : Owning) : Type 0 where
     takes_it : IsSent items call t r o → SentAs items call t r o
@@ -135,25 +136,32 @@ module _ (namespace leasing k : List ℕ) (p ticket : ℕ) where
   told_sent items call member t r o e =
       by_told (Told items) refl (sym (next items (item.Sent p call member t r) refl ∙ ap (λ (b : Bool). cond b (sent_by (owner_key namespace leasing k) p ticket call t items r (Told items)) (Told items)) (number_itself p)) ∙ e)
     where
-      same_of : (y : Owning) → has_write t y ≡ false → Told items ≡ Some y → Some y ≡ Some o → SentAs items call t r o
-      same_of y n f h = sends_other (f ∙ h) (ap (has_write t) (sym (some_owning y o h)) ∙ n)
-
-      by_takes : (s : Session) (b : Bool) → Told items ≡ Some asks → t ≡ ticket → session_of p items ≡ Some s → is_live p items && takes_under (owner_key namespace leasing k) s.number r ≡ b → cond b (Some (sends call s.number [])) (Some asks) ≡ Some o → SentAs items call t r o
-      by_takes s true a i f g h =
-          takes_it (record { asked = a; ticket_is = i; session = s; told = f; live = and_first (is_live p items) (takes_under (owner_key namespace leasing k) s.number r) g; takes = and_second (is_live p items) (takes_under (owner_key namespace leasing k) s.number r) g; sent = sym (some_owning (sends call s.number []) o h) })
-      by_takes s false a i f g h = same_of asks refl a h
-
-      by_session : (s : Option Session) → Told items ≡ Some asks → t ≡ ticket → session_of p items ≡ s → sent_under (owner_key namespace leasing k) call (is_live p items) r s ≡ Some o → SentAs items call t r o
-      by_session None a i f h = same_of asks refl a h
-      by_session (Some s) a i f h = by_takes s (is_live p items && takes_under (owner_key namespace leasing k) s.number r) a i f refl h
-
-      by_ticket : (b : Bool) → (t == ticket) ≡ b → Told items ≡ Some asks → cond b (sent_under (owner_key namespace leasing k) call (is_live p items) r (session_of p items)) (Some asks) ≡ Some o → SentAs items call t r o
-      by_ticket true i f h = by_session (session_of p items) f (same_number t ticket i) refl h
-      by_ticket false i f h = same_of asks refl f h
-
       -- a call under another ticket
       by_other : (y : Owning) → Told items ≡ Some y → unless_so (has_write t) (Some y) ≡ Some o → SentAs items call t r o
       by_other y f h = let u = unless_told (has_write t) (Some y) o h in sends_other (f ∙ u.0) u.1
+
+      by_takes : (ws : List OwnWrite) (s : Session) (b : Bool) → Told items ≡ Some (asks ws) → t ≡ ticket → session_of p items ≡ Some s → is_live p items && takes_under (owner_key namespace leasing k) s.number r ≡ b
+          → cond b (Some (sends call s.number ws)) (unless_so (has_write t) (Some (asks ws))) ≡ Some o → SentAs items call t r o
+      by_takes ws s true a i f g h =
+          takes_it (record {
+            writes = ws;
+            asked = a;
+            ticket_is = i;
+            session = s;
+            told = f;
+            live = and_first (is_live p items) (takes_under (owner_key namespace leasing k) s.number r) g;
+            takes = and_second (is_live p items) (takes_under (owner_key namespace leasing k) s.number r) g;
+            sent = sym (some_owning (sends call s.number ws) o h);
+          })
+      by_takes ws s false a i f g h = by_other (asks ws) a h
+
+      by_session : (ws : List OwnWrite) (s : Option Session) → Told items ≡ Some (asks ws) → t ≡ ticket → session_of p items ≡ s → sent_under (owner_key namespace leasing k) t call (is_live p items) r ws s ≡ Some o → SentAs items call t r o
+      by_session ws None a i f h = by_other (asks ws) a h
+      by_session ws (Some s) a i f h = by_takes ws s (is_live p items && takes_under (owner_key namespace leasing k) s.number r) a i f refl h
+
+      by_ticket : (ws : List OwnWrite) (b : Bool) → (t == ticket) ≡ b → Told items ≡ Some (asks ws) → cond b (sent_under (owner_key namespace leasing k) t call (is_live p items) r ws (session_of p items)) (unless_so (has_write t) (Some (asks ws))) ≡ Some o → SentAs items call t r o
+      by_ticket ws true i f h = by_session ws (session_of p items) f (same_number t ticket i) refl h
+      by_ticket ws false i f h = by_other (asks ws) f h
 
       by_write : (n create : ℕ) (w : OwnWrite) (ws : List OwnWrite) (b : Bool) → (t == w.ticket) ≡ b → Told items ≡ Some (write_asked n create w ws)
           → cond b (Some (write_sent n create w ws call)) (unless_so (has_write t) (Some (write_asked n create w ws))) ≡ Some o → SentAs items call t r o
@@ -162,7 +170,7 @@ module _ (namespace leasing k : List ℕ) (p ticket : ℕ) where
 
       by_told : (x : Option Owning) → Told items ≡ x → sent_by (owner_key namespace leasing k) p ticket call t items r x ≡ Some o → SentAs items call t r o
       by_told None f h = no_owning o h
-      by_told (Some asks) f h = by_ticket (t == ticket) refl f h
+      by_told (Some (asks ws)) f h = by_ticket ws (t == ticket) refl f h
       by_told (Some (sends c n ws)) f h = by_other (sends c n ws) f h
       by_told (Some (owns n create)) f h = by_other (owns n create) f h
       by_told (Some (write_asked n create w ws)) f h = by_write n create w ws (t == w.ticket) refl f h
@@ -247,7 +255,7 @@ module _ (namespace leasing k : List ℕ) (p ticket : ℕ) where
 
       by : (x : Option Owning) → Told items ≡ x → answered_by namespace leasing k p call items x ≡ Some o → AnsweredAs items call o
       by None f h = no_owning o h
-      by (Some asks) f h = same_of asks refl f h
+      by (Some (asks ws)) f h = same_of (asks ws) refl f h
       by (Some (owns m create)) f h = same_of (owns m create) refl f h
       by (Some (write_asked m create w ws)) f h = same_of (write_asked m create w ws) refl f h
       by (Some (sends c n ws)) f h = by_call c n ws f (c == call) refl h

@@ -30,6 +30,7 @@ use Rattle.renewed_laws.proofs.Gains.{stepped_to}
 use Rattle.session_laws.proofs.Items.{clock-append}
 use Rattle.session_laws.proofs.Steps.{gave}
 use Rattle.session_laws.proofs.Turns.{bound_of}
+use Rattle.wait_model.specs.Writes.{has_ticket}
 use Rattle.owned_laws.specs.Owned.{Owning, asks, sends, owns, write_asked, write_sent, has_write}
 use Rattle.owned_laws.proofs.Carrying.{no_true, carry_itself}
 use Rattle.owned_laws.proofs.Standing.{Before, mine, Lets, keep, calm_keys, outs_by}
@@ -38,12 +39,12 @@ use Rattle.owned_laws.proofs.Ending.{lost_keys, answered_keys}
 use Rattle.owned_laws.proofs.Sending.{sent_keys, sent_outs}
 use Rattle.owned_laws.proofs.Cores.{GoesOut}
 use Rattle.owned_laws.proofs.Kept.{KeysOk, Rescinded, OutsOk}
-use Rattle.owned_laws.proofs.Late.{AsksOther, all_other, behind_apart, all_apart}
+use Rattle.owned_laws.proofs.Late.{AsksOther, all_other, behind_apart, there_apart, part_misses, all_apart}
 use Rattle.owned_laws.proofs.Modes.{Mode}
 use Rattle.owned_laws.proofs.Sent.{writes_out}
 use Rattle.owned_laws.proofs.Steps.{Leaves, plain_ends}
 use Rattle.owned_laws.proofs.Told.{told_calm, told_left, is_calm}
-use Rattle.owned_laws.proofs.Ways.{plain, asking, sending_as, holds, writes_own}
+use Rattle.owned_laws.proofs.Ways.{plain, present, asking, sending_as, holds, writes_own}
 
 module _ {namespace : List ℕ} {items : List Item} {w : World} {p : ℕ} {x : Place} (known : Before namespace items w p x) where
   abbrev next : ℕ
@@ -67,27 +68,27 @@ module _ {namespace : List ℕ} {items : List Item} {w : World} {p : ℕ} {x : P
       same i k e = cc
 
   quiet_work : ((M : Mode) → GoesOut M (first_job d) d) → (k : List ℕ) (t : ℕ) (o : Owning) → Lets known event.Work k t o
-  quiet_work f k t asks = λ s. f (asking k t)
+  quiet_work f k t (asks vs) = (all_other event.Work (λ i. tt) vs, ((λ a s. f (asking k t vs a)), (λ s. f (present k vs))))
   quiet_work f k t (sends c m vs) = (all_other event.Work (λ i. tt) vs, λ n v a s. f (sending_as k n m vs a))
   quiet_work f k t (owns m create) = λ e i c u s. f (holds k m e i)
-  quiet_work f k t (write_asked m create v vs) = (all_other event.Work (λ i. tt) (v ∷ vs), λ l a e i c s. f (writes_own k m v vs None a e i))
-  quiet_work f k t (write_sent m create v vs number) = (all_other event.Work (λ i. tt) (v ∷ vs), λ n h l a e i c s. f (writes_own k m v vs (Some n) a e i))
+  quiet_work f k t (write_asked m create v vs) = (all_other event.Work (λ i. tt) (v ∷ vs), λ l a e c s. f (writes_own k m v vs None a e))
+  quiet_work f k t (write_sent m create v vs number) = (all_other event.Work (λ i. tt) (v ∷ vs), λ n h l a e c s. f (writes_own k m v vs (Some n) a e))
 
   -- events that let every key be
   free_lets : (e : CoreEvent) → ((i : ℕ) → AsksOther e i) → ((M : Mode) → Leaves M d e) → (k : List ℕ) (t : ℕ) (o : Owning) → Lets known e k t o
-  free_lets e a f k t asks = λ s. f (asking k t)
+  free_lets e a f k t (asks vs) = (all_other e a vs, ((λ b s. f (asking k t vs b)), (λ s. f (present k vs))))
   free_lets e a f k t (sends c m vs) = (all_other e a vs, λ n v b s. f (sending_as k n m vs b))
   free_lets e a f k t (owns m create) = λ y i c u s. f (holds k m y i)
-  free_lets e a f k t (write_asked m create v vs) = (all_other e a (v ∷ vs), λ l b y i c s. f (writes_own k m v vs None b y i))
-  free_lets e a f k t (write_sent m create v vs number) = (all_other e a (v ∷ vs), λ n h l b y i c s. f (writes_own k m v vs (Some n) b y i))
+  free_lets e a f k t (write_asked m create v vs) = (all_other e a (v ∷ vs), λ l b y c s. f (writes_own k m v vs None b y))
+  free_lets e a f k t (write_sent m create v vs number) = (all_other e a (v ∷ vs), λ n h l b y c s. f (writes_own k m v vs (Some n) b y))
 
   -- a client leaves, but none of theirs
   left_lets : (k : List ℕ) (t : ℕ) (o : Owning) (ticket : ℕ) → has_write ticket o ≡ false → Lets known (event.Leave ticket) k t o
-  left_lets k t asks ticket h = λ s. tt
-  left_lets k t (sends c m vs) ticket h = (all_other (event.Leave ticket) (λ i. tt) vs, λ n v a s. behind_apart ticket vs h)
-  left_lets k t (owns m create) ticket h = λ y i c u s. tt
-  left_lets k t (write_asked m create v vs) ticket h = (all_other (event.Leave ticket) (λ i. tt) (v ∷ vs), λ l a y i c s. all_apart ticket v vs None h)
-  left_lets k t (write_sent m create v vs number) ticket h = (all_other (event.Leave ticket) (λ i. tt) (v ∷ vs), λ n g l a y i c s. all_apart ticket v vs (Some n) h)
+  left_lets k t (asks vs) ticket h = (all_other (event.Leave ticket) (λ i. tt) vs, ((λ a s. ((λ c. part_misses (has_ticket ticket) vs c (behind_apart ticket vs h)), tt)), (λ s. ((λ c. tt), there_apart k ticket vs h))))
+  left_lets k t (sends c m vs) ticket h = (all_other (event.Leave ticket) (λ i. tt) vs, λ n v a s. ((λ c. behind_apart ticket vs h), tt))
+  left_lets k t (owns m create) ticket h = λ y i c u s. ((λ c. tt), tt)
+  left_lets k t (write_asked m create v vs) ticket h = (all_other (event.Leave ticket) (λ i. tt) (v ∷ vs), λ l a y c s. (all_apart ticket v vs None h, tt))
+  left_lets k t (write_sent m create v vs number) ticket h = (all_other (event.Leave ticket) (λ i. tt) (v ∷ vs), λ n g l a y c s. (all_apart ticket v vs (Some n) h, tt))
 
   left_keys : (ticket : ℕ) → KeysOk nsp lea next w.calls (items ++ item.Left p ticket ∷ []) p x.life x.clock (stepped x.core (event.Leave ticket) x.clock).core
   left_keys ticket k t o f = let u = told_left nsp lea k p t items ticket o f in keep known (event.Leave ticket) k t o w.calls (carry_itself w.calls) (left_lets k t o ticket u.1) ((mine known).keys k t o u.0)
@@ -141,7 +142,7 @@ module _ {namespace : List ℕ} {items : List Item} {w : World} {p : ℕ} {x : P
     keys = calm_keys known (event.Take ticket) (item.Taken p ticket i ∷ line_if (is_among x.posted ticket) p ticket i) w.calls (taken_calm (is_among x.posted ticket) ticket i) (carry_itself w.calls) (free_lets (event.Take ticket) (λ i. tt) (λ M. tt));
   }
   turn_owned _ _ _ _ _ _ n is (waits ticket o f) = record { outs = outs_by known (event.Take ticket) (item.Pending p ticket ∷ []) tt; keys = calm_keys known (event.Take ticket) (item.Pending p ticket ∷ []) w.calls refl (carry_itself w.calls) (free_lets (event.Take ticket) (λ i. tt) (λ M. tt)) }
-  turn_owned _ _ _ _ _ _ n is (leaves ticket o) = record { outs = outs_by known (event.Leave ticket) (item.Left p ticket ∷ []) tt; keys = left_keys ticket }
+  turn_owned _ _ _ _ _ _ n is (leaves ticket o) = record { outs = outs_by known (event.Leave ticket) (item.Left p ticket ∷ []) ((λ c. tt), tt); keys = left_keys ticket }
 
   pub lost_owned : (number : ℕ) (call : SentCall) (v : World) → v.calls ≡ with_nth w.calls number (record call { settled = true }) → nth w.calls number ≡ Some call → call.proxy ≡ p → call.life ≡ x.life → Behind (item.Lost number ∷ []) v (stepped x.core (event.Lost call.own) x.clock).core
   lost_owned number call v c e its lived = record {

@@ -1,9 +1,9 @@
 -- The ways in which a key is watched: of no more than the rescinds that are out; from the request of a ticket; from the sending of its
 -- acquire, with the writes that wait for it; as held; and as written by its owner.
-use Rattle.std.proofs.Common.{◌≡◌, inl, inr, ℕ, ◌==◌, Bool, true, false, cond, not, ◌&&◌, ◌||◌, List, [], ◌∷◌, Option, None, Some, refl, sym, ◌∙◌, ap, subst}
+use Rattle.std.proofs.Common.{◌≡◌, inl, inr, ℕ, ◌==◌, Bool, true, false, cond, not, ◌&&◌, List, [], ◌∷◌, Option, None, Some, refl, sym, ◌∙◌, ap, subst}
 use Rattle.etcd_types.specs.Keys.{same}
 use Rattle.proxy_model.specs.declared.lease.Entry.{Entry}
-use Rattle.proxy_model.specs.declared.lease.Phase.TheVariants.{Held, Writing}
+use Rattle.proxy_model.specs.declared.lease.Phase.TheVariants.{Held}
 use Rattle.proxy_model.specs.LeaseTable.{is_writing_phase}
 use Rattle.wait_model.specs.declared.sending.Sending.TheVariants as sending
 use Rattle.wait_model.specs.declared.wait.WaitCall.{WaitCall}
@@ -17,14 +17,10 @@ use Rattle.core_fits.specs.Fits.{EachOf}
 use Rattle.core_laws.proofs.Steps.Lists.{same_number}
 use Rattle.cached_laws.specs.Awaited.{is_due_for}
 use Rattle.owned_laws.specs.OwnWrites.{OwnWrite}
-use Rattle.owned_laws.proofs.Modes.{AllAlone, is_begun, any_begun, went_as, begun_as, first_as, behind_as, none_begun, Mode}
+use Rattle.owned_laws.proofs.Modes.{AllAlone, is_begun, any_begun, behind_as, none_begun, went_as, first_as, phase_as, Parts, whole_front, part_alone, MayBegin, Mode}
 
 pub no_true : {A : Type 0} → false ≡ true → A
 no_true e = absurd (cc)
-
-pub or_true : (a b : Bool) → a ≡ true → a || b ≡ true
-or_true true b e = refl
-or_true false b e = no_true e
 
 -- ---- of the rescinds that are out
 
@@ -67,21 +63,58 @@ plain k T = record {
   over = false;
   mark = false;
   hold = false;
-  mine = [];
-  alone = tt;
-  behind = λ y. no_true y;
+  Case = Unit {0};
+  mine = λ c. [];
+  phase = λ c. Held;
   entry = unheld;
+  there = [];
+  alone = λ c. tt;
+  behind = λ c y. no_true y;
   session = None;
   If = λ o. Unit {0};
   Then = λ o. Unit {0};
   free = true;
   marked = λ y. no_true y;
   holding = λ y. no_true y;
-  writing = refl;
-  still = λ b. refl;
-  writes = λ y. no_true y;
+  writing = λ c. refl;
+  still = λ c b. refl;
+  writes = λ c y. no_true y;
   seated = λ y. no_true y;
   less = less_each (CallSo T);
+  apart = λ xs call j create q f y. no_true y;
+  gone = λ f i o. (tt, ((λ x. tt), ((λ y. no_true y), (λ y. no_true y))));
+  fell = λ o d i. (tt, (λ x. (tt, (λ y. no_true y))));
+  began = λ a d i. inl (tt, (λ x y. tt));
+  sent = λ a call d i. (tt, (λ x. tt));
+}
+
+-- ---- of writes of the key that aren't sent
+
+abbrev pub present : List ℕ → List OwnWrite → Mode
+present k vs = record {
+  key = k;
+  Outs = λ xs. Unit {0};
+  over = false;
+  mark = false;
+  hold = false;
+  Case = Unit {0};
+  mine = λ c. [];
+  phase = λ c. Held;
+  entry = unheld;
+  there = vs;
+  alone = λ c. tt;
+  behind = λ c y. no_true y;
+  session = None;
+  If = λ o. Unit {0};
+  Then = λ o. Unit {0};
+  free = true;
+  marked = λ y. no_true y;
+  holding = λ y. no_true y;
+  writing = λ c. refl;
+  still = λ c b. refl;
+  writes = λ c y. no_true y;
+  seated = λ y. no_true y;
+  less = λ call xs q. tt;
   apart = λ xs call j create q f y. no_true y;
   gone = λ f i o. (tt, ((λ x. tt), ((λ y. no_true y), (λ y. no_true y))));
   fell = λ o d i. (tt, (λ x. (tt, (λ y. no_true y))));
@@ -95,32 +128,36 @@ pub due_out : (b : Bool) → b && false ≡ true → ⊥
 due_out true e = no_true e
 due_out false e = no_true e
 
-abbrev pub asking : List ℕ → ℕ → Mode
-asking k t = record {
+-- its acquire is due, and some of these writes, the last ones, wait for it: all that were asked since it is
+abbrev pub asking : (k : List ℕ) → ℕ → (vs : List OwnWrite) → AllAlone k (behind_as vs) → Mode
+asking k t vs alone = record {
   key = k;
   Outs = λ xs. Unit {0};
   over = true;
   mark = true;
   hold = false;
-  mine = [];
-  alone = tt;
-  behind = λ y. no_true y;
+  Case = Parts vs;
+  mine = λ c. behind_as c.rest;
+  phase = λ c. Held;
   entry = unheld;
+  there = [];
+  alone = λ c. part_alone k vs c alone;
+  behind = λ c y. inl refl;
   session = None;
   If = λ o. is_due_for t o ≡ true;
   Then = λ o. Unit {0};
   free = true;
   marked = λ y. refl;
   holding = λ y. refl;
-  writing = refl;
-  still = λ b. refl;
-  writes = λ y. no_true y;
+  writing = λ c. sym (none_begun c.rest);
+  still = λ c b. refl;
+  writes = λ c y. no_true (sym (none_begun c.rest) ∙ y);
   seated = λ y. no_true y;
   less = λ call xs q. tt;
   apart = λ xs call j create q f y. no_true y;
   gone = λ f i o. no_true i;
   fell = λ o d i. no_true i;
-  began = λ a d i. inr ((λ xs. tt), (tt, ((λ y. no_true y), refl)));
+  began = λ a d i. inr ((λ xs. tt), (tt, ((λ y. no_true y), (refl, (whole_front vs, refl)))));
   sent = λ a call d i. absurd (due_out (a.ticket == t) i);
 }
 
@@ -146,19 +183,22 @@ sending_as k m n vs alone = record {
   over = true;
   mark = true;
   hold = false;
-  mine = behind_as vs;
-  alone = alone;
-  behind = λ y. refl;
+  Case = Unit {0};
+  mine = λ c. behind_as vs;
+  phase = λ c. Held;
   entry = unheld;
+  there = [];
+  alone = λ c. alone;
+  behind = λ c y. inl refl;
   session = None;
   If = λ o. Unit {0};
   Then = IsOutIn m n;
   free = false;
   marked = λ y. refl;
   holding = λ y. refl;
-  writing = sym (none_begun vs);
-  still = λ b. refl;
-  writes = λ y. no_true (sym (none_begun vs) ∙ y);
+  writing = λ c. sym (none_begun vs);
+  still = λ c b. refl;
+  writes = λ c y. no_true (sym (none_begun vs) ∙ y);
   seated = λ y. no_true y;
   less = λ call xs q. tt;
   apart = λ xs call j create q f y. no_true y;
@@ -184,19 +224,22 @@ holds k n e held = record {
   over = true;
   mark = false;
   hold = true;
-  mine = [];
-  alone = tt;
-  behind = λ y. no_true y;
+  Case = Unit {0};
+  mine = λ c. [];
+  phase = λ c. e.phase;
   entry = e;
+  there = [];
+  alone = λ c. tt;
+  behind = λ c y. no_true y;
   session = Some n;
   If = λ o. Unit {0};
   Then = λ o. o ≡ None;
   free = false;
   marked = λ y. refl;
   holding = λ y. refl;
-  writing = ap is_writing_phase held;
-  still = λ b. ap (phase_sent b) held ∙ sym held;
-  writes = λ y. no_true y;
+  writing = λ c. ap is_writing_phase held;
+  still = λ c b. ap (phase_sent b) held ∙ sym held;
+  writes = λ c y. no_true y;
   seated = λ y. (n, refl);
   less = less_each (CallSo (NotOf k e.create));
   apart = λ xs call j create q f y s. job_each (NotOf k e.create) call j create xs q f s;
@@ -208,27 +251,45 @@ holds k n e held = record {
 
 -- ---- as written by its owner
 
+pub writing_as : (v : OwnWrite) (vs : List OwnWrite) (own : Option ℕ) (c : Bool) → is_writing_phase (phase_as own c) ≡ any_begun (first_as v own c ∷ behind_as vs)
+writing_as v vs None false = sym (none_begun vs)
+writing_as v vs None true = refl
+writing_as v vs (Some call) c = refl
+
+pub still_as : (own : Option ℕ) (c b : Bool) → phase_sent b (phase_as own c) ≡ phase_as own c
+still_as None false b = refl
+still_as None true b = refl
+still_as (Some call) c b = refl
+
+pub begins_as : (v : OwnWrite) (vs : List OwnWrite) (own : Option ℕ) (c : Bool) → not (is_begun (went_as own c)) ≡ true → MayBegin Bool (λ c. first_as v own c ∷ behind_as vs) (phase_as own) true c
+begins_as v vs None false y = record { to = true; first = v; rest = behind_as vs; held = refl; waits = refl; goes = refl; before = refl; behind = refl }
+begins_as v vs None true y = no_true y
+begins_as v vs (Some call) c y = no_true y
+
 -- the entry is as the first of the writes found it, but for its phase; the others wait behind that
-abbrev pub writes_own : (k : List ℕ) → ℕ → (v : OwnWrite) → (vs : List OwnWrite) → (own : Option ℕ) → AllAlone k (first_as v own ∷ behind_as vs) → (e : Entry) → e.phase ≡ Writing false → Mode
-writes_own k n v vs own alone e writing = record {
+abbrev pub writes_own : (k : List ℕ) → ℕ → (v : OwnWrite) → (vs : List OwnWrite) → (own : Option ℕ) → AllAlone k (behind_as (v ∷ vs)) → (e : Entry) → Mode
+writes_own k n v vs own alone e = record {
   key = k;
   Outs = EachOf (CallSo (NotOf k e.create));
   over = true;
   mark = false;
   hold = true;
-  mine = first_as v own ∷ behind_as vs;
-  alone = alone;
-  behind = λ y. no_true (sym (ap not (begun_as own)) ∙ y);
+  Case = Bool;
+  mine = λ c. first_as v own c ∷ behind_as vs;
+  phase = phase_as own;
   entry = e;
+  there = [];
+  alone = λ c. alone;
+  behind = λ c y. inr (begins_as v vs own c y);
   session = Some n;
   If = λ o. Unit {0};
   Then = λ o. o ≡ None;
   free = false;
   marked = λ y. refl;
   holding = λ y. refl;
-  writing = ap is_writing_phase writing ∙ sym (or_true (is_begun (went_as own)) (any_begun (behind_as vs)) (begun_as own));
-  still = λ b. ap (phase_sent b) writing ∙ sym writing;
-  writes = λ y. refl;
+  writing = writing_as v vs own;
+  still = still_as own;
+  writes = λ c y. refl;
   seated = λ y. (n, refl);
   less = less_each (CallSo (NotOf k e.create));
   apart = λ xs call j create q f y s. job_each (NotOf k e.create) call j create xs q f s;
@@ -247,19 +308,22 @@ absent k n = record {
   over = false;
   mark = false;
   hold = false;
-  mine = [];
-  alone = tt;
-  behind = λ y. no_true y;
+  Case = Unit {0};
+  mine = λ c. [];
+  phase = λ c. Held;
   entry = unheld;
+  there = [];
+  alone = λ c. tt;
+  behind = λ c y. no_true y;
   session = Some n;
   If = λ o. Unit {0};
   Then = λ o. ⊥;
   free = false;
   marked = λ y. no_true y;
   holding = λ y. no_true y;
-  writing = refl;
-  still = λ b. refl;
-  writes = λ y. no_true y;
+  writing = λ c. refl;
+  still = λ c b. refl;
+  writes = λ c y. no_true y;
   seated = λ y. no_true y;
   less = λ call xs q. tt;
   apart = λ xs call j create q f y. no_true y;

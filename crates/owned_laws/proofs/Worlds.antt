@@ -61,13 +61,13 @@ use Rattle.cached_laws.proofs.Worlds.{AllTold, Beside, replies_plain, turn_goes}
 use Rattle.owned_laws.specs.Owned.{Owning, asks, sends, owns, write_asked, write_sent, owned}
 use Rattle.owned_laws.proofs.Cores.{Stands}
 use Rattle.owned_laws.proofs.Steps.{steps_so, stands}
-use Rattle.owned_laws.proofs.Kept.{Kept, KeysOk, Rescinded, OutsOk, sending_steps, writing_steps}
+use Rattle.owned_laws.proofs.Kept.{Kept, KeysOk, Rescinded, OutsOk, asking_steps, sending_steps, writing_steps}
 use Rattle.owned_laws.proofs.Late.{all_other}
 use Rattle.owned_laws.proofs.Told.{AnsweredAs, wins_it, settles_it, answers_other, told_calm, told_answered, told_lost, told_delivered, told_begun, is_calm}
 use Rattle.owned_laws.proofs.Carrying.{Carry, carry_itself, carry_pushed, carry_changed, kept_on, ProxyOwned, AllOwned, outs_more}
 use Rattle.owned_laws.proofs.Standing.{Before}
 use Rattle.owned_laws.proofs.Turning.{Behind, IsEnd, turn_owned, lost_owned, answered_owned}
-use Rattle.owned_laws.proofs.Ways.{plain, asking, holds}
+use Rattle.owned_laws.proofs.Ways.{plain, holds}
 
 -- ---- a call is lost in the life that sent it
 
@@ -145,7 +145,7 @@ due_at : (now : ℕ) (c : Core) → CoreOk c → OwnersFit c → Stands (clock_w
 due_at now c ok o = stands (clock_work now c) (clock_whole 0 now c (of_ok c ok).mid).mid.agrees (owners_behind now c ok o)
 
 fetch_one : (all : List SentCall) (bound p life : ℕ) (k : List ℕ) (t : ℕ) (o : Owning) (c : Core) (ticket now : ℕ) → CoreOk c → OwnersFit c → Kept all bound p life now k t o c → Kept all bound p life now k t o (stepped c (event.Take ticket) now).core
-fetch_one all bound p life k t asks c ticket now ok f s = steps_so (asking k t) refl c (event.Take ticket) now (due_at now c ok f) (λ z. tt) s
+fetch_one all bound p life k t (asks vs) c ticket now ok f s = record { clients = s.clients; so = asking_steps k t vs c (event.Take ticket) now ok (due_at now c ok f) (all_other (event.Take ticket) (λ i. tt) vs) (λ a u. tt) (λ u. tt) s.so }
 fetch_one all bound p life k t (sends number n vs) c ticket now ok f s = record {
   own = s.own;
   call = s.call;
@@ -155,19 +155,19 @@ fetch_one all bound p life k t (sends number n vs) c ticket now ok f s = record 
 }
 fetch_one all bound p life k t (owns n create) c ticket now ok f s = (
   s.0,
-  record { entry = s.1.entry; held = s.1.held; created = s.1.created; so = steps_so (holds k n s.1.entry s.1.held) refl c (event.Take ticket) now (due_at now c ok f) (λ z. tt) s.1.so },
+  record { entry = s.1.entry; held = s.1.held; created = s.1.created; so = steps_so (holds k n s.1.entry s.1.held) ((λ c. refl), refl) c (event.Take ticket) now (due_at now c ok f) (λ z. tt) s.1.so },
 )
 fetch_one all bound p life k t (write_asked n create v vs) c ticket now ok f s = record {
   below = s.below;
   clients = s.clients;
-  so = writing_steps k n create v vs None c (event.Take ticket) now ok (due_at now c ok f) (all_other (event.Take ticket) (λ i. tt) (v ∷ vs)) (λ a e g i u. tt) s.so;
+  so = writing_steps k n create v vs None c (event.Take ticket) now ok (due_at now c ok f) (all_other (event.Take ticket) (λ i. tt) (v ∷ vs)) (λ a e i u. tt) s.so;
 }
 fetch_one all bound p life k t (write_sent n create v vs number) c ticket now ok f s = record {
   own = s.own;
   call = s.call;
   below = s.below;
   clients = s.clients;
-  so = writing_steps k n create v vs (Some s.own) c (event.Take ticket) now ok (due_at now c ok f) (all_other (event.Take ticket) (λ i. tt) (v ∷ vs)) (λ a e g i u. tt) s.so;
+  so = writing_steps k n create v vs (Some s.own) c (event.Take ticket) now ok (due_at now c ok f) (all_other (event.Take ticket) (λ i. tt) (v ∷ vs)) (λ a e i u. tt) s.so;
 }
 
 -- a turn leaves the clock
@@ -243,7 +243,7 @@ module _ (namespace : List ℕ) (items : List Item) (w : World) (b : Beside name
       ok = steps_keep c (event.Take ticket) x.clock tt s.ok;
       owners = steps_fit c (event.Take ticket) x.clock tt s.ok s.owners;
       order = order_step c (event.Take ticket) x.clock s.ok s.order;
-      outs = (steps_so (plain [] (Rescinded nsp lea xs p)) refl c (event.Take ticket) x.clock (due_at x.clock c s.ok s.owners) (λ z. tt) (λ y i. (record { outs = s.outs; over = λ v. no_true v; mark = λ v. no_true v; entry = λ v. no_true v }, tt)) tt tt).0.outs;
+      outs = (steps_so (plain [] (Rescinded nsp lea xs p)) ((λ c. refl), refl) c (event.Take ticket) x.clock (due_at x.clock c s.ok s.owners) (λ z. tt) (λ y i. (record { case = tt; outs = s.outs; there = tt; over = λ v. no_true v; mark = λ v. no_true v; entry = λ v. no_true v }, tt)) tt tt).0.outs;
       keys = λ k t o f. fetch_one all next p x.life k t o c ticket x.clock s.ok s.owners (s.keys k t o f);
     }
       where

@@ -1,14 +1,17 @@
--- A proxy's own writes of a key that it owns or is about to, by which it stays the owner: each is of the key alone and puts it without a
+-- A proxy's own writes of a key that it owns or is about to, by which it stays the owner: each writes single keys and puts this one without a
 -- lease, and its one call is answered in time as done or as refused (the leasing cache of etcd's clientv3).
 use Rattle.std.specs.Prelude.{ℕ, ◌+◌, ◌&&◌, nat_lt, Bool, true, false, not, List, Option, None, Some}
+use Rattle.std.specs.List.{list_all}
 use Rattle.etcd_types.specs.declared.answer.Answer.{Answer}
 use Rattle.etcd_types.specs.declared.answer.Answer.TheVariants.{Done, Refused}
 use Rattle.etcd_types.specs.declared.request.Request.{Request}
 use Rattle.etcd_types.specs.Keys.{is_empty}
+use Rattle.etcd_types.specs.Ranges.{is_one}
 use Rattle.proxy_model.specs.declared.ownership.Written.{Written}
 use Rattle.proxy_model.specs.declared.ownership.Written.TheVariants.{Wrote, Blocked}
 use Rattle.proxy_model.specs.Guarded.{written}
-use Rattle.wait_model.specs.Covers.{is_single, leased}
+use Rattle.proxy_model.specs.SeveralKeys.{written_ranges}
+use Rattle.wait_model.specs.Covers.{leased}
 use Rattle.core_model.specs.ClockWork.{request_time}
 use Rattle.core_model.specs.Heard.{heard}
 
@@ -19,9 +22,9 @@ pub record OwnWrite : Type 0 where
   -- the proxy's clock as it was asked
   pub since : ℕ
 
--- with leasing on, it is a put without a lease, or a delete of one key
+-- with leasing on, each range that it writes is one key, in a transaction in both branches; and it doesn't put this key with a lease
 abbrev pub keeps_over : List ℕ → List ℕ → Request → Bool
-keeps_over leasing k r = not (is_empty leasing) && (is_single r && not (leased r k))
+keeps_over leasing k r = not (is_empty leasing) && (list_all is_one (written_ranges r) && not (leased r k))
 
 abbrev pub is_wrote : Option Written → Bool
 is_wrote None = false

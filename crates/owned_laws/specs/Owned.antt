@@ -34,10 +34,10 @@ use Rattle.cached_laws.specs.Reads.{is_served}
 use Rattle.cached_laws.specs.Streams.{ToldStream, leasing_of}
 use Rattle.owned_laws.specs.OwnWrites.{OwnWrite, keeps_over, settles_as, is_in_time}
 
--- How far a ticket's acquire of the key came, and the writes of the key since it was sent, in the order in which they were asked.
+-- How far a ticket's acquire of the key came, and the writes of the key since the ticket was asked, in the order in which they were asked.
 pub data Owning : Type 0 where
-  -- the ticket was asked
-  asks : Owning
+  -- the ticket was asked; these writes came since, and none of them was sent
+  asks : List OwnWrite → Owning
   -- the acquire that names it was sent as this call, under this session; these writes wait for it
   sends : ℕ → ℕ → List OwnWrite → Owning
   -- it was won: the key is owned under this session, since this create revision
@@ -147,7 +147,7 @@ writes_over leasing k q = is_served (refusal_of leasing q) && covered (written_r
 
 -- the writes of the key that aren't done
 abbrev pub writes_of : Owning → List OwnWrite
-writes_of asks = []
+writes_of (asks ws) = ws
 writes_of (sends c n ws) = ws
 writes_of (owns n create) = []
 writes_of (write_asked n create w ws) = w ∷ ws
@@ -164,7 +164,7 @@ awaits_call call (write_sent n create w ws c) = c == call
 awaits_call call _ = false
 
 abbrev pub create_of : Owning → Option ℕ
-create_of asks = None
+create_of (asks ws) = None
 create_of (sends call n ws) = None
 create_of (owns n create) = Some create
 create_of (write_asked n create w ws) = Some create
@@ -175,9 +175,9 @@ abbrev pub unless_so : (Owning → Bool) → Option Owning → Option Owning
 unless_so p None = None
 unless_so p (Some o) = if p o then None else Some o
 
--- A write of an owned key begins at once; one that comes while the acquire, or another write, is on its way waits behind that.
+-- A write of an owned key begins; one that comes while the acquire, or another write, is due or on its way waits behind that.
 abbrev pub joined : OwnWrite → Owning → Option Owning
-joined v asks = None
+joined v (asks ws) = Some (asks (ws ++ v ∷ []))
 joined v (sends c n ws) = Some (sends c n (ws ++ v ∷ []))
 joined v (owns n create) = Some (write_asked n create v [])
 joined v (write_asked n create w ws) = Some (write_asked n create w (ws ++ v ∷ []))
@@ -193,17 +193,17 @@ written_by leasing k t r now (Some o) = if may_join leasing k t r o then joined 
 
 abbrev pub asked_by : List ℕ → List ℕ → ℕ → ℕ → Request → ℕ → Option Owning → Option Owning
 asked_by leasing k ticket t r now o =
-    if writes_over leasing k r then written_by leasing k t r now o else if t == ticket then Some asks else unless_so (has_write t) o
+    if writes_over leasing k r then written_by leasing k t r now o else if t == ticket then Some (asks []) else unless_so (has_write t) o
 
--- an acquire goes out under the session that is live
-abbrev pub sent_under : List ℕ → ℕ → Bool → Request → Option Session → Option Owning
-sent_under owner call live q None = Some asks
-sent_under owner call live q (Some s) = if live && takes_under owner s.number q then Some (sends call s.number []) else Some asks
+-- an acquire goes out under the session that is live, and no write before it
+abbrev pub sent_under : List ℕ → ℕ → ℕ → Bool → Request → List OwnWrite → Option Session → Option Owning
+sent_under owner t call live q ws None = unless_so (has_write t) (Some (asks ws))
+sent_under owner t call live q ws (Some s) = if live && takes_under owner s.number q then Some (sends call s.number ws) else unless_so (has_write t) (Some (asks ws))
 
 -- or the first of the writes, which is sent once
 abbrev pub sent_by : List ℕ → ℕ → ℕ → ℕ → ℕ → List Item → Request → Option Owning → Option Owning
 sent_by owner p ticket call t before q None = None
-sent_by owner p ticket call t before q (Some asks) = if t == ticket then sent_under owner call (is_live p before) q (session_of p before) else Some asks
+sent_by owner p ticket call t before q (Some (asks ws)) = if t == ticket then sent_under owner t call (is_live p before) q ws (session_of p before) else unless_so (has_write t) (Some (asks ws))
 sent_by owner p ticket call t before q (Some (write_asked n create w ws)) =
     if t == w.ticket then Some (write_sent n create w ws call) else unless_so (has_write t) (Some (write_asked n create w ws))
 sent_by owner p ticket call t before q (Some o) = unless_so (has_write t) (Some o)
@@ -236,8 +236,8 @@ owned namespace leasing k p ticket items = told_of p None (owned_by namespace le
 
 -- In this life the proxy won the key under this session, by the acquire that names some ticket. Since that ticket was asked its leasing stream
 -- brought neither the revoking word for the key, nor a deletion of this ownership, nor a cancellation that names a compaction; and each
--- request that it served since then and that writes the key is of the key alone and puts it without a lease, was asked once the acquire was
--- sent, and was sent as one call, which was answered in time as done or as refused. None of them is still to be answered.
+-- request that it served since then and that writes the key writes single keys, puts this one without a lease, and was sent as one call,
+-- which was answered in time as done or as refused. None of them is still to be answered.
 pub record Owns (namespace leasing k : List ℕ) (p session : ℕ) (items : List Item) : Type 0 where
   pub ticket : ℕ
   pub create : ℕ

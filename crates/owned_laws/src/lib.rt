@@ -4,7 +4,7 @@
 
 ghost use Rattle.owned_laws.specs.Caches.{EachScriptCaches, EachScriptAnswersSnapshots};
 ghost use Rattle.owned_laws.specs.Worked.{TheKeyIsOwned, NoOtherIsOwned, AWriteTakesIt};
-ghost use Rattle.owned_laws.specs.WorkedWrites.{AreWorked, WritesKeepIt, TheyWait, OthersTakeIt};
+ghost use Rattle.owned_laws.specs.WorkedWrites.{AreWorked, WritesKeepIt, TheyWait, TransactionsKeepIt, OthersTakeIt};
 
 /// By the items of a script's transcript: where a proxy is live and owns a key, a plain read of the key is replied by its own line, and so is
 /// a transaction that only reads and compares keys that it owns.
@@ -20,12 +20,13 @@ pub fn worked_keys()
     ensures written { AWriteTakesIt }
 {}
 
-/// Of worked transcripts: a write of an owned key by itself that is done or refused keeps it owned, as do two at a time and one that is asked
-/// before the acquire is answered; one that is lost, finds another owner, is answered too late, puts it with a lease, overtakes another or is
-/// left takes it.
+/// Of worked transcripts: a write of an owned key that is done or refused keeps it owned, as do two at a time, a transaction of several keys,
+/// and one that is asked before the acquire is answered or sent; one that is lost, finds another owner, is answered too late, puts it with a
+/// lease, deletes a range with it, overtakes another or is left takes it.
 pub fn worked_writes()
     ensures stages { AreWorked }
     ensures kept { WritesKeepIt }
     ensures waiting { TheyWait }
+    ensures transactions { TransactionsKeepIt }
     ensures taken { OthersTakeIt }
 {}
