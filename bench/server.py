@@ -5,7 +5,7 @@ import json, os, re, resource, select, shutil, socket, struct, subprocess, sys, 
 sys.path.insert(0, os.path.join(os.path.dirname(os.path.abspath(__file__)), "..", "tests"))
 from cluster import Cluster, Proxy, Watch, free_port, in_memory, post, put, text64, until, watched
 
-PROGRAM, SECONDS = os.path.abspath(sys.argv[1]), sys.argv[2]
+PROGRAM, SECONDS, PARTS = os.path.abspath(sys.argv[1]), sys.argv[2], sys.argv[3:]
 CONNECTIONS = (1, 16, 64)
 # Each comparison is of so many rounds, one load beside the other in turn: what else a machine does moves one by a tenth and more.
 ROUNDS = 9
@@ -231,7 +231,7 @@ def arrival(all_watches, proxy):
     that, so that the clients, which stand on the same processors here, take none of them from the server."""
     host, start = Host(), time.time()
     revision = put(proxy, "w/0", f"value {start}")
-    time.sleep(0.3)
+    time.sleep(max(0.3, len(all_watches) / 10_000))
     stolen = host.share()
     came = [arrived(watch, revision) for watch in all_watches]
     return min(came) - start, max(came) - start, stolen
@@ -250,8 +250,8 @@ def readings(all_watches, proxy):
     return reply, last
 
 
-def watches(cluster, proxy):
-    before, count = sized(proxy.process.pid), 1000
+def watches(cluster, proxy, count, milliseconds):
+    before = sized(proxy.process.pid)
     all_watches = [Watch(proxy.port, {"key": text64("w/"), "range_end": text64("w0")}) for _ in range(count)]
     watched(all_watches, lambda: all(w.created for w in all_watches), 60, "all watches are created")
     after = sized(proxy.process.pid)
@@ -268,17 +268,17 @@ def watches(cluster, proxy):
           f"  until one client in Python has read all: {read.told()}\n"
           f"  until the put's reply: {reply.told()}\n"
           f"  {(after[0] - before[0]) / count / 1e3:.1f} KB a client, and {(after[1] - before[1]) / count / 1e3:.1f} KB of page tables", flush=True)
-    mark("last delivery", last.half(), " ms", most=15)
-    mark("a watching client", (after[0] - before[0]) / count / 1e3, " KB", most=40)
+    mark(f"last delivery of {count}", last.half(), " ms", most=milliseconds)
+    mark(f"a watching client of {count}", (after[0] - before[0]) / count / 1e3, " KB", most=40)
     for watch in all_watches:
         watch.socket.close()
 
 
-def idle(proxy):
-    before, count, kept = sized(proxy.process.pid), 1000, []
+def idle(proxy, count):
+    before, kept = sized(proxy.process.pid), []
     for number in range(count):
         kept.append(socket.create_connection(("127.0.0.1", proxy.port), 10))
-    time.sleep(2)
+    until(lambda: proxy.counts()[0] > count, 60, "each connection has its thread")
     after = sized(proxy.process.pid)
     print(f"{count} idle connections: {(after[0] - before[0]) / count / 1e3:.1f} KB each, and {(after[1] - before[1]) / count / 1e3:.1f} KB of page tables")
     mark("an idle connection", (after[0] - before[0]) / count / 1e3, " KB", most=24)
@@ -286,26 +286,46 @@ def idle(proxy):
         one.sendall(b"POST /v3/kv/range HTTP/1.1\r\nHost: h\r\nContent-Length: %d\r\n\r\n" % len(READ) + READ.encode())
         one.recv(65536)
     served = sized(proxy.process.pid)
-    print(f"  once each had a reply: {(served[0] - before[0]) / count / 1e3:.1f} KB, and {(served[1] - before[1]) / count / 1e3:.1f} KB of page tables")
+    print(f"  once each had a reply: {(served[0] - before[0]) / count / 1e3:.1f} KB, and {(served[1] - before[1]) / count / 1e3:.1f} KB of page tables;\n"
+          f"  {after[0] / 1e6:.0f} MB resident in all, {served[0] / 1e6:.0f} MB then", flush=True)
+    for one in kept:
+        one.close()
+
+
+def many(count):
+    """As many clients as are wanted, or as the limit on descriptors has room for: the proxy keeps a quarter of its own, and where three quarters of
+    the others are taken it soon closes a connection that rests."""
+    return min(count, resource.getrlimit(resource.RLIMIT_NOFILE)[0] * 9 // 16 - 100)
 
 
 def main():
+    most = resource.getrlimit(resource.RLIMIT_NOFILE)[1]
+    resource.setrlimit(resource.RLIMIT_NOFILE, (most, most))
     folder = tempfile.mkdtemp(prefix="etcd-proxy-", dir=in_memory())
     cluster = Cluster(folder)
     proxies = []
+
+    def proxy(name, *options):
+        proxies.append(Proxy(PROGRAM, cluster, folder, name, *options))
+        return proxies[-1]
+
+    def counting():
+        counted(folder, proxy("uncounted", "--leasing-prefix=N/", "--workers=64"),
+                proxy("counting", "--leasing-prefix=M/", "--workers=64", f"--metrics-addr=127.0.0.1:{free_port()}"))
+
+    parts = {"reads": lambda: reads(folder, cluster, proxy("leasing", "--leasing-prefix=L/", "--workers=64")),
+             "counted": counting,
+             "calls": lambda: calls(folder, cluster, proxy("plain", "--workers=64")),
+             "watches": lambda: watches(cluster, proxy("watches"), 1000, 15),
+             "idle": lambda: idle(proxy("idle"), 1000),
+             "many_watches": lambda: watches(cluster, proxy("many_watches", "--max-connections=16384"), many(10_000), 120),
+             "many_idle": lambda: idle(proxy("many_idle", "--max-connections=16384"), many(12_000))}
     try:
-        proxies.append(Proxy(PROGRAM, cluster, folder, "leasing", "--leasing-prefix=L/", "--workers=64"))
-        reads(folder, cluster, proxies[0])
-        proxies.append(Proxy(PROGRAM, cluster, folder, "counting", "--leasing-prefix=M/", "--workers=64", f"--metrics-addr=127.0.0.1:{free_port()}"))
-        counted(folder, *proxies)
-        proxies.append(Proxy(PROGRAM, cluster, folder, "plain", "--workers=64"))
-        calls(folder, cluster, proxies[-1])
-        for name, measure in (("watches", lambda proxy: watches(cluster, proxy)), ("idle", idle)):
-            proxies.append(Proxy(PROGRAM, cluster, folder, name))
-            measure(proxies[-1])
+        for name in PARTS or parts:
+            parts[name]()
     finally:
-        for proxy in proxies:
-            proxy.stop()
+        for one in proxies:
+            one.stop()
         cluster.stop()
         shutil.rmtree(folder, ignore_errors=True)
     print(f"marks missed: {'; '.join(MISSED)}" if MISSED else "all marks are met")

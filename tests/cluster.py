@@ -24,7 +24,9 @@ leavers    clients that went away leave no thread, no descriptor and no watcher,
 canceled   watches that the members cancel, of an empty range and behind a compaction, pile up no threads
 room       memory and threads at rest are what they were
 uploads    large requests that come slowly hold no other one up
-limit      4,096 connections are served, a further one is refused, and one that ended makes room
+limit      as many connections as are asked for are served, 4,096 where nothing is said, a further one is refused, and one that ended
+           makes room
+deep       transactions within transactions and bodies that nest deep have their reply, on the small stack of a connection's thread
 descriptors
            so are as many as a process with few descriptors has room for, and those at rest make room
 quiet      a proxy that makes no call while the member that its watches are on is killed or hangs: each of its watches, one or a hundred
@@ -1336,14 +1338,20 @@ def uploads(world):
 
 
 def limit(world):
-    """So many connections are open at most."""
-    most, files = 4096, resource.getrlimit(resource.RLIMIT_NOFILE)
-    try:
-        resource.setrlimit(resource.RLIMIT_NOFILE, (3 * most, max(files[1], 3 * most)))
-    except (ValueError, OSError):
-        print("limit: not tried, since so many files can't be open here")
-        return
-    proxy = world.proxy("limit")
+    """So many connections are open at most, as are asked for."""
+    files = resource.getrlimit(resource.RLIMIT_NOFILE)
+    for most, options in ((20, ("--max-connections=20",)), (4096, ())):
+        try:
+            resource.setrlimit(resource.RLIMIT_NOFILE, (3 * 4096, max(files[1], 3 * 4096)))
+        except (ValueError, OSError):
+            print("limit: not tried, since so many files can't be open here")
+            return
+        limit_of(world, most, options)
+        resource.setrlimit(resource.RLIMIT_NOFILE, files)
+
+
+def limit_of(world, most, options):
+    proxy = world.proxy("limit", *options)
     put(proxy, "l/0", "v")
     # the connections so far linger for a second
     time.sleep(2)
@@ -1364,8 +1372,38 @@ def limit(world):
         one.close()
     until(lambda: proxy.counts()[0] <= threads, 60, "all threads end")
     proxy.stop()
-    resource.setrlimit(resource.RLIMIT_NOFILE, files)
     print(f"limit: {most} connections were served at once, a further one was refused, and all threads ended")
+
+
+def deep(world):
+    """Bodies that nest as deep as JSON may here, and deeper, on the small stack of a connection's thread."""
+    proxy = world.proxy("deep")
+
+    def nested(levels, branch):
+        operations = [{"request_put": {"key": text64(f"d/{branch}"), "value": text64("v")}}, {"request_range": {"key": text64("d/0")}}]
+        for _ in range(levels):
+            operations = [{"request_txn": {branch: operations}}]
+        compare = [{"key": text64("d/none"), "target": "VERSION", "version": "0" if branch == "success" else "1"}]
+        return {"compare": compare, branch: operations}
+
+    wide = {"compare": [{"key": text64("d/none"), "target": "VERSION", "version": "0"}] * 128,
+            "success": [{"request_put": {"key": text64(f"d/{i}"), "value": text64("v" * 1000)}} for i in range(128)],
+            "failure": [{"request_range": {"key": text64("d/"), "range_end": text64("d0")}}] * 128}
+    statuses = {}
+    # transactions within transactions aren't supported, which is said of those that JSON may nest so deep
+    for name, body, wanted in [("1 level", nested(1, "success"), [501]), ("20 levels", nested(20, "failure"), [501]), ("40 levels", nested(40, "success"), [501]),
+                               ("41 levels", nested(41, "failure"), [400, 501]), ("60 levels", nested(60, "success"), [400]),
+                               ("300 levels", nested(300, "success"), [400]), ("three lists of 128", wide, [200])]:
+        told = proxy.post("/v3/kv/txn", body, 20)
+        check(told is not None, f"a transaction of {name} has a reply")
+        check(told[0] in wanted, f"a transaction of {name} has one of the statuses {wanted}, not {told}")
+        statuses[name] = told[0]
+    for depth in (100, 126, 127, 128, 129, 10_000, 1_000_000):
+        told = proxy.post("/v3/kv/range", '{"key":' + "[" * depth + "]" * depth + "}", 20)
+        check(told is not None and told[0] == 400, f"a body of depth {depth} is refused, not {told}")
+    check(proxy.post("/v3/kv/range", {"key": text64("d/success")})[0] == 200, "the proxy serves on")
+    proxy.stop()
+    print("deep: " + ", ".join(f"{name} {status}" for name, status in statuses.items()) + "; bodies of a depth to 1,000,000 were refused")
 
 
 # ---- members that fail before a proxy that makes no call
@@ -2372,7 +2410,7 @@ class World:
         shutil.rmtree(self.folder, ignore_errors=True)
 
 
-PARTS = [answers, truth, links, watches, rest, clients, halves, leavers, canceled, room, uploads, limit, descriptors, quiet, quiet_links, quorum,
+PARTS = [answers, truth, links, watches, rest, clients, halves, leavers, canceled, room, uploads, limit, deep, descriptors, quiet, quiet_links, quorum,
          quiet_owner, restart, full, stop, restored, auth, pauses, workers, scans, vanished, lines, probes, own, addresses, metrics, real_clients, down]
 
 # what the gate runs; those that stand on clusters of their own beside the others

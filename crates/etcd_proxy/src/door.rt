@@ -3,7 +3,6 @@
 use etcd_types::{Bytes, NoMemory};
 use http_wire::write_reply;
 use outside::MemSink;
-use part_threads::CONNECTIONS;
 use sockets::{Budget, Door};
 use std::alloc::Global;
 use std::sync::Arc;
@@ -18,9 +17,13 @@ const REFUSAL_TWICE: &[u8] =
 /// The status that goes with it.
 const UNAVAILABLE: u16 = 503;
 
-/// What lets as many clients in as may be, and as the system's limit on descriptors has room for.
-/// Others are told that there is no room.
-pub(crate) fn door_of(alloc: Global, has_error_field: bool) -> Result<Door, NoMemory> {
+/// What lets at most so many clients in at once, and no more than the system's limit on descriptors has room for. Others are told that
+/// there is no room.
+pub(crate) fn door_of(
+    alloc: Global,
+    most_connections: u64,
+    has_error_field: bool,
+) -> Result<Door, NoMemory> {
     let text = if has_error_field {
         REFUSAL_TWICE
     } else {
@@ -31,6 +34,6 @@ pub(crate) fn door_of(alloc: Global, has_error_field: bool) -> Result<Door, NoMe
         Ok(()) => Bytes::from_slice(alloc, sink.as_slice())?,
         Err(_) => return Err(NoMemory),
     };
-    let budget = Arc::new(alloc, Budget::of_system(CONNECTIONS))?;
+    let budget = Arc::new(alloc, Budget::of_system(most_connections))?;
     Ok(Door::new(alloc, budget, refusal))
 }

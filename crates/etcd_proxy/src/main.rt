@@ -155,14 +155,14 @@ fn main(rt: HostRuntime) -> ExitCode {
     let mut output = Writing::new(rt.stdout());
     let words = words.as_slice();
     let settings = settings_of(rt.alloc(), words);
-    let has_error_field = match &settings {
-        Some(settings) => settings.etcd_errors,
-        None => false,
+    let (most_connections, has_error_field) = match &settings {
+        Some(settings) => (settings.max_connections, settings.etcd_errors),
+        None => (0, false),
     };
     let (Ok(halt), Ok(sessions), Ok(door)) = (
         Arc::new(rt.alloc(), Halt::new()),
         Arc::new(rt.alloc(), Sessions::new(rt.alloc())),
-        door_of(rt.alloc(), has_error_field),
+        door_of(rt.alloc(), most_connections, has_error_field),
     ) else {
         return ExitCode::from(ending::tell_no_words(NoWords::NoMemory, &mut errors));
     };
@@ -186,10 +186,12 @@ fn main(rt: HostRuntime) -> ExitCode {
                     begin_all(&rt, enders),
                     begin_all(&rt, pages),
                 ) {
-                    (Ok(()), Ok(()), Ok(())) => match spawner_of(rt, rt.alloc(), system) {
-                        Some(spawner) => Some((spawner, leaving)),
-                        None => None,
-                    },
+                    (Ok(()), Ok(()), Ok(())) => {
+                        match spawner_of(rt, rt.alloc(), system, most_connections) {
+                            Some(spawner) => Some((spawner, leaving)),
+                            None => None,
+                        }
+                    }
                     _ => None,
                 }
             }

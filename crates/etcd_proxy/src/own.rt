@@ -7,11 +7,11 @@ use start_words::StartSettings;
 use std::alloc::Global;
 
 /// No name of a machine has more bytes (POSIX, HOST_NAME_MAX).
-const LONGEST: usize = 256;
+const LONGEST_BYTES: usize = 256;
 
 /// The name of the machine, or the program's where the system tells none.
 fn own_name(alloc: Global) -> Result<Bytes, NoMemory> {
-    let mut room = [0u8; LONGEST];
+    let mut room = [0u8; LONGEST_BYTES];
     let is_told = gethostname(&mut room) == 0;
     let end = room.iter().position(|byte| *byte == 0).unwrap_or(0);
     let name = room.get(..end).unwrap_or(&[]);

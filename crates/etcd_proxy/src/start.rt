@@ -100,6 +100,7 @@ fn service_of(settings: StartSettings) -> Service
         message_limit,
         state_file: _,
         stop_at_end: _,
+        max_connections: _,
         advertise: _,
         etcd_errors,
         metrics: _,

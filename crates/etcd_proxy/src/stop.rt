@@ -14,12 +14,12 @@ use std::thread;
 use std::time::Duration;
 
 /// Requests that are being served have so many milliseconds, and then the ending of sessions so many.
-const FINISHING: u64 = 3_000;
+const FINISHING_MS: u64 = 3_000;
 
-const REVOKING: u64 = 2_000;
+const REVOKING_MS: u64 = 2_000;
 
 /// How often it is looked whether the sessions have ended, in milliseconds.
-const LOOK: u64 = 5;
+const LOOK_MS: u64 = 5;
 
 /// Who has a server stop once an input has ended.
 #[derive(Drop)]
@@ -76,7 +76,7 @@ impl<R: Net<Stream = TcpStream> + Times + Wait + Eprint + Copy + Drop> Leaving<R
             sessions,
             revokers,
         } = self;
-        halt.finish(&rt, FINISHING);
+        halt.finish(&rt, FINISHING_MS);
         sessions.close(&rt);
         clock.leap();
         (revokers, Revoking { rt, sessions })
@@ -86,11 +86,11 @@ impl<R: Net<Stream = TcpStream> + Times + Wait + Eprint + Copy + Drop> Leaving<R
 impl<R: Net<Stream = TcpStream> + Times + Wait + Eprint + Copy + Drop> Revoking<R> {
     /// Waits until they have, or some while.
     pub(crate) fn wait(&self) {
-        for _ in 0..REVOKING / LOOK {
+        for _ in 0..REVOKING_MS / LOOK_MS {
             if self.sessions.left(&self.rt).is_none() {
                 return;
             }
-            thread::sleep(&self.rt, Duration::from_millis(LOOK));
+            thread::sleep(&self.rt, Duration::from_millis(LOOK_MS));
         }
     }
 }

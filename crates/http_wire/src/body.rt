@@ -27,7 +27,7 @@ pub(crate) enum Next {
 }
 
 /// Reads until a byte is held, and says whether one is.
-pub(crate) fn wait<S: Source>(buffer: &mut Buffer, source: &mut S) -> Result<bool, WireFault>
+fn wait<S: Source>(buffer: &mut Buffer, source: &mut S) -> Result<bool, WireFault>
     ensures ahead { Keeps (ahead (S.left source.old) buffer.old) (ahead (S.left source.new) buffer.new) }
     ensures held { IfOk result (λ some. Waited some (held buffer.new) (S.left source.new)) }
     ensures fault { IfErr result IsOutside }

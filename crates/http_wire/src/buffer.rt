@@ -8,7 +8,7 @@ use outside::{Failed, Source};
 use std::alloc::{AllocError, Global};
 
 /// How much is read at once to begin with.
-const FIRST_ROOM: usize = 4_096;
+const FIRST_ROOM: usize = 1_024;
 
 /// How much is read at once where reads fill their room.
 const READ_ROOM: usize = 65_536;

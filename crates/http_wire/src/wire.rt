@@ -1,7 +1,6 @@
 ghost use Rattle.std.specs.Prelude.{◌≡◌, ◌≤◌, ◌↔◌, [], None, IfOk, IfErr, IfSome, IsErrOf, IsTrue};
 ghost use Rattle.outside.specs.Faults.{Rose};
 
-use crate::body::wait;
 use crate::buffer::Buffer;
 use crate::fault::WireFault;
 use crate::heads::{next_answer, next_head};
@@ -40,8 +39,7 @@ impl Wire {
     ghost use Rattle.http_wire.specs.Bodies.{BodyRead, WholeRead};
     ghost use Rattle.http_wire.specs.Connections.{bytes_ahead, fault_after, IsOfReading, Repeats};
     ghost use Rattle.http_wire.specs.Heads.{HeadRead, AnswerRead};
-    ghost use Rattle.http_wire.specs.Held.{ReadsAhead, Waited, IsOutside};
-    ghost use Rattle.std.specs.Io.KnownBytes.{Keeps};
+    ghost use Rattle.http_wire.specs.Held.{ReadsAhead};
     ghost use Rattle.http_wire.specs.Steps.{NextLine};
 
     /// A wire that holds nothing yet.
@@ -62,26 +60,6 @@ impl Wire {
         ensures { IsTrue result ↔ (self.now.held ≡ []) }
     {
         self.buffer.is_empty()
-    }
-
-    /// Reads until a byte is held, and says whether one is: none comes only at the input's end. So a caller can wait for the
-    /// first byte of a head in another way than for the rest of it.
-    ///
-    /// ReadFault says that the source failed.
-    pub fn wait<S: Source>(&mut self, source: &mut S) -> Result<bool, WireFault>
-        ensures ahead { self.old.fault ≡ None → Keeps (bytes_ahead (S.left source.old) self.old) (bytes_ahead (S.left source.new) self.new) }
-        ensures held { self.old.fault ≡ None → IfOk result (λ some. Waited some self.new.held (S.left source.new)) }
-        ensures fault { self.old.fault ≡ None → self.new.fault ≡ fault_after result }
-        ensures again { IfSome self.old.fault (λ fault. Repeats fault self.old self.new source.old source.new result) }
-        ensures outside { self.old.fault ≡ None → IfErr result IsOutside }
-        ensures cause { self.old.fault ≡ None → IsErrOf result WireFault.ReadFault → Rose (S.faults source.old) (S.faults source.new) }
-        ensures kept { S.faults source.old ≤ S.faults source.new }
-    {
-        if let Some(fault) = self.fault {
-            return Err(fault);
-        }
-        let some = wait(&mut self.buffer, source);
-        self.remember(some)
     }
 
     /// The head of the next request, or none where the bytes end before it. The source hears that a head was read.

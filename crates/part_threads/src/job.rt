@@ -1,16 +1,21 @@
 use crate::handover::Handover;
+use crate::load::Duty;
 use etcd_types::NoMemory;
 use jiff::Timestamp;
 use std::alloc::Global;
 use std::io::ErrorKind;
 use std::rt::Clock as Times;
 use std::sync::{Arc, Wait};
-use std::thread::Threads;
+use std::thread::{Builder, Threads};
 use std::time::Duration;
 use std::{io, thread};
 
 /// Between two lines on the standard error are at least so many milliseconds.
-const LINES: u64 = 1_000;
+const LINES_MS: u64 = 1_000;
+
+/// So many bytes has the stack of a connection's thread, since there may be thousands. The deepest request and the largest
+/// transaction that are taken fit with room to spare.
+const CONNECTION_STACK_BYTES: usize = 1_048_576;
 
 /// What a thread does with a `P` and a `Q`.
 pub(crate) trait Work<R, P, Q>: Drop {
@@ -19,8 +24,8 @@ pub(crate) trait Work<R, P, Q>: Drop {
 
 /// What makes the work of one thread after another.
 pub(crate) trait Equips<W>: Drop {
-    /// The work of a thread, of the ticker's where `ticks`, or nothing where some of it can't be had.
-    fn equip(&self, ticks: bool) -> Option<W>;
+    /// The work of a thread of this duty, or nothing where some of it can't be had.
+    fn equip(&self, duty: Duty) -> Option<W>;
 }
 
 /// Where what a thread works with is laid.
@@ -30,6 +35,14 @@ pub(crate) struct Desk<P, Q> {
     pub(crate) load: Arc<Handover<Q>, Global>,
 }
 
+/// How a thread of this duty begins.
+fn builder_for(duty: Duty) -> Builder {
+    match duty {
+        Duty::Talks => Builder::new().stack_size(CONNECTION_STACK_BYTES),
+        Duty::Ticks | Duty::Calls => Builder::new(),
+    }
+}
+
 /// A thread that does this work with what is laid for it. It is made before anything is handed over, so that what finds no thread isn't
 /// lost.
 fn thread_for<
@@ -37,14 +50,14 @@ fn thread_for<
     P: Drop + Send + 'static,
     Q: Drop + Send + 'static,
     W: Work<R, P, Q> + Send + 'static,
->(rt: R, alloc: Global, work: W) -> io::Result<Desk<P, Q>> {
+>(rt: R, alloc: Global, duty: Duty, work: W) -> io::Result<Desk<P, Q>> {
     let (Ok((with, others)), Ok((load, loads))) = (
         Handover::<P>::new(alloc),
         Handover::<Q>::new(alloc),
     ) else {
         return Err(io::Error::from(ErrorKind::OutOfMemory));
     };
-    thread::spawn(
+    builder_for(duty).spawn(
         &rt,
         move || work.work(&rt, others.take(&rt), loads.take(&rt)),
     )?;
@@ -61,7 +74,7 @@ fn tell<R: Eprint + Times>(rt: &R, error: &io::Error) {
 /// Whether a second has passed since then, or nothing is known of then.
 fn is_over<R: Times>(rt: &R, then: Option<Duration>) -> bool {
     match (then, rt.monotonic()) {
-        (Some(then), Ok(now)) => now.saturating_sub(then) >= Duration::from_millis(LINES),
+        (Some(then), Ok(now)) => now.saturating_sub(then) >= Duration::from_millis(LINES_MS),
         _ => true,
     }
 }
@@ -69,8 +82,8 @@ fn is_over<R: Times>(rt: &R, then: Option<Duration>) -> bool {
 /// Who waits for a thread, and is told of its desk.
 #[derive(Drop)]
 pub(crate) struct Ask<P, Q> {
-    /// Whether the thread is the ticker's.
-    ticks: bool,
+    /// What the thread is for.
+    duty: Duty,
     desk: Arc<Handover<Option<Desk<P, Q>>>, Global>,
 }
 
@@ -85,12 +98,12 @@ fn make_threads<
     let mut is_told = false;
     let mut last = None;
     for _ in rt.forever() {
-        let Ask { ticks, desk } = asked.take(&rt);
-        let Some(work) = equipment.equip(ticks) else {
+        let Ask { duty, desk } = asked.take(&rt);
+        let Some(work) = equipment.equip(duty) else {
             desk.lay(&rt, None);
             continue;
         };
-        let made = thread_for::<R, P, Q, W>(rt, alloc, work);
+        let made = thread_for::<R, P, Q, W>(rt, alloc, duty, work);
         if let Err(error) = &made {
             if !is_told && is_over(&rt, last) {
                 tell(&rt, error);
@@ -135,13 +148,10 @@ impl<P: Drop, Q: Drop> Maker<P, Q> {
         Ok(Maker { asked })
     }
 
-    /// The desk of a new thread, the ticker's where `ticks`, or nothing where none can be made.
-    pub(crate) fn desk<R: Wait>(&self, rt: &R, alloc: Global, ticks: bool) -> Option<Desk<P, Q>> {
+    /// The desk of a new thread of this duty, or nothing where none can be made.
+    pub(crate) fn desk<R: Wait>(&self, rt: &R, alloc: Global, duty: Duty) -> Option<Desk<P, Q>> {
         let (ours, theirs) = Handover::<Option<Desk<P, Q>>>::new(alloc).ok()?;
-        let ask = Ask {
-            ticks,
-            desk: theirs,
-        };
+        let ask = Ask { duty, desk: theirs };
         self.asked.lay(rt, ask);
         ours.take(rt)
     }

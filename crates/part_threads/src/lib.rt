@@ -16,5 +16,4 @@ mod threaded;
 pub use ends::Ends;
 pub use further::Nothing;
 pub use lookout::Lookout;
-pub use open::CONNECTIONS;
 pub use threaded::{Server, Threaded, spawner_of};

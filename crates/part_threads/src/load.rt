@@ -13,6 +13,24 @@ pub(crate) enum Load<C> {
     Follower(Follow),
 }
 
+/// What the thread of a part is for, as far as it makes a difference to how the thread is made.
+#[derive(Clone, Copy, Debug, PartialEq, Eq)]
+pub(crate) enum Duty {
+    Ticks,
+    Talks,
+    Calls,
+}
+
+impl<C> Load<C> {
+    pub(crate) fn duty(&self) -> Duty {
+        match self {
+            Load::Ticker => Duty::Ticks,
+            Load::Connection(..) => Duty::Talks,
+            Load::Worker | Load::Follower(_) => Duty::Calls,
+        }
+    }
+}
+
 /// A part taken apart.
 pub(crate) fn split<C>(part: Part<Place, C>) -> (Place, Load<C>)
     ensures { part_of result.0 result.1 ≡ part }

@@ -2,7 +2,7 @@ use crate::carried::Carried;
 use crate::ends::Ends;
 use crate::further::Further;
 use crate::job::{Equips, Work};
-use crate::load::Load;
+use crate::load::{Duty, Load};
 use crate::lookout::Lookout;
 use crate::open::Open;
 use crate::probes::Probes;
@@ -48,11 +48,10 @@ pub(crate) struct Equipment<E, F> {
 }
 
 impl<E: Ends, F: Further> Equips<Equipped<E, F>> for Equipment<E, F> {
-    fn equip(&self, ticks: bool) -> Option<Equipped<E, F>> {
-        let draw = if ticks {
-            self.ends.ticker_draw()?
-        } else {
-            self.ends.draw()?
+    fn equip(&self, duty: Duty) -> Option<Equipped<E, F>> {
+        let draw = match duty {
+            Duty::Ticks => self.ends.ticker_draw()?,
+            Duty::Talks | Duty::Calls => self.ends.draw()?,
         };
         let outfit = Outfit {
             alloc: self.alloc,

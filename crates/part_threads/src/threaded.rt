@@ -30,6 +30,8 @@ pub struct Threaded<R, C, P> {
     maker: Maker<P, Laid<C>>,
     /// How many connections are open.
     open: Arc<AtomicU64, Global>,
+    /// So many connections are open at once at most.
+    most: u64,
     faults: u64,
 }
 
@@ -42,7 +44,7 @@ fn starting<
     R: Threads + Wait + Times + Eprint + Copy + Send + 'static,
     E: Ends + Send + 'static,
     F: Further + Spawner<Pass = Place, Conn = E::Conn> + Send + 'static,
->(rt: R, alloc: Global, ends: E, further: F) -> Option<Server<R, E::Conn>>
+>(rt: R, alloc: Global, ends: E, further: F, most: u64) -> Option<Server<R, E::Conn>>
 where
     E::Conn: Send + 'static,
     E::Source: Send + 'static,
@@ -65,16 +67,17 @@ where
             rt, alloc, equipment,
         )?,
         open: Arc::new(alloc, AtomicU64::new(0)).ok()?,
+        most,
         faults: 0,
     })
 }
 
-/// What starts the parts of a server, and has started none, or nothing where memory or a thread is wanting. They meet outside what `ends`
-/// makes. A worker among them starts followers, and a follower starts nothing.
+/// What starts the parts of a server, at most so many connections at once, and has started none, or nothing where memory or a thread is
+/// wanting. They meet outside what `ends` makes. A worker among them starts followers, and a follower starts nothing.
 pub fn spawner_of<
     R: Threads + Wait + Times + Eprint + Copy + Drop + Send + 'static,
     E: Ends + Send + 'static,
->(rt: R, alloc: Global, ends: E) -> Option<Server<R, E::Conn>>
+>(rt: R, alloc: Global, ends: E, most: u64) -> Option<Server<R, E::Conn>>
 where
     E::Conn: Send + 'static,
     E::Source: Send + 'static,
@@ -85,8 +88,8 @@ where
     E::Draw: Send + 'static,
     ensures fresh { IfSome result (λ threaded. threaded.faults ≡ 0) }
 {
-    let followers = starting(rt, alloc, ends.another().ok()?, Nothing::new())?;
-    starting(rt, alloc, ends, followers)
+    let followers = starting(rt, alloc, ends.another().ok()?, Nothing::new(), most)?;
+    starting(rt, alloc, ends, followers, most)
 }
 
 impl<R: Copy + Drop, C: Drop> Further for Threaded<R, C, Carried> {
@@ -100,6 +103,7 @@ impl<R: Copy + Drop, C: Drop> Further for Threaded<R, C, Carried> {
             alloc: self.alloc,
             maker,
             open,
+            most: self.most,
             faults: 0,
         })
     }
@@ -109,7 +113,7 @@ impl<R, C> Threaded<R, C, Carried> {
     /// Of a connection, that it counts as one. Nothing where it is one too many.
     fn counted(&self, load: &Load<C>) -> Option<Option<Open>> {
         match load {
-            Load::Connection(..) => Some(Some(Open::count(&self.open)?)),
+            Load::Connection(..) => Some(Some(Open::count(&self.open, self.most)?)),
             _ => Some(None),
         }
     }
@@ -133,9 +137,8 @@ impl<R: Wait + Drop, C: Drop> Spawner for Threaded<R, C, Carried> {
         ensures cause { HasCause self.old.faults self.new.faults result }
     {
         let (place, load) = split(part);
-        let ticks = matches!(load, Load::Ticker);
         let made = match self.counted(&load) {
-            Some(open) => match self.maker.desk(&self.rt, self.alloc, ticks) {
+            Some(open) => match self.maker.desk(&self.rt, self.alloc, load.duty()) {
                 Some(desk) => Some((open, desk)),
                 None => None,
             },

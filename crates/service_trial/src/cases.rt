@@ -49,8 +49,6 @@ pub fn try_line(alloc: Global, line: &str) -> Result<Outcome, Wrong> {
 fn way_of(name: &[u8], words: &mut Words) -> Result<Option<Way>, Wrong> {
     Ok(if is_word(name, "request") {
         Some(Way::Requests)
-    } else if is_word(name, "awaited") {
-        Some(Way::Waited)
     } else if is_word(name, "answer") {
         Some(Way::Lines(LINE_LIMIT))
     } else if is_word(name, "lines") {

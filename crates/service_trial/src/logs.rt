@@ -18,8 +18,6 @@ const MOST_LINES: u32 = 8;
 pub enum Way {
     /// Requests.
     Requests,
-    /// Requests, each of which is waited for before it is read.
-    Waited,
     /// Answers, each by lines of at most so many bytes.
     Lines(usize),
     /// Answers, each with its whole body of at most so many bytes.
@@ -32,13 +30,12 @@ pub fn log(alloc: Global, way: Way, source: &mut Pieces) -> Result<String, Wrong
     let mut log = String::new(alloc);
     let mut wire = Wire::new(alloc)?;
     let most = match way {
-        Way::Requests | Way::Waited => MOST_REQUESTS,
+        Way::Requests => MOST_REQUESTS,
         Way::Lines(_) | Way::Whole(_) => MOST_ANSWERS,
     };
     for _ in 0..most {
         let goes_on = match way {
             Way::Requests => tell_request(&mut log, &mut wire, source)?,
-            Way::Waited => tell_awaited(&mut log, &mut wire, source)?,
             Way::Lines(_) | Way::Whole(_) => tell_answer(&mut log, way, &mut wire, source)?,
         };
         if !goes_on {
@@ -46,22 +43,6 @@ pub fn log(alloc: Global, way: Way, source: &mut Pieces) -> Result<String, Wrong
         }
     }
     Ok(log)
-}
-
-/// Waits for the next request, twice, and tells it.
-fn tell_awaited(log: &mut String, wire: &mut Wire, source: &mut Pieces) -> Result<bool, Wrong> {
-    for _ in 0..2 {
-        match some_comes(wire, source) {
-            Ok(true) => log.push_str("+")?,
-            Ok(false) => log.push_str("-")?,
-            Err(fault) => return tell_fault(log, fault, some_comes(wire, source).err()),
-        }
-    }
-    tell_request(log, wire, source)
-}
-
-fn some_comes(wire: &mut Wire, source: &mut Pieces) -> Result<bool, WireFault> {
-    wire.wait(source)
 }
 
 /// Tells the next request, and whether another may follow.
@@ -143,7 +124,7 @@ fn tell_answer(
             match way {
                 Way::Whole(most) => tell_whole(log, wire, source, framing, most),
                 Way::Lines(most) => tell_lines(log, wire, source, framing, most),
-                Way::Requests | Way::Waited => Err(Wrong::Word),
+                Way::Requests => Err(Wrong::Word),
             }
         }
         Err(fault) => tell_fault(log, fault, next_answer(wire, source).err()),

@@ -6,8 +6,8 @@
 //! scripts. Each case that differs is printed, and at the end of all the number of cases and of those that differ.
 //! - `request BYTES LOG`, `answer BYTES LOG`: what is read in one piece, in two pieces at each cut, and byte by
 //!   byte.
-//! - `awaited BYTES LOG`, `lines MOST BYTES LOG`, `whole MOST BYTES LOG`: the same, where each request is waited for twice
-//!   before it is read; where a line has at most so many bytes; where each answer's body is read whole, of at most so many.
+//! - `lines MOST BYTES LOG`, `whole MOST BYTES LOG`: the same, where a line has at most so many bytes; where each answer's body is
+//!   read whole, of at most so many.
 //! - `alone MOST BYTES LOG`: the first answer with its whole body, in one piece, and whether bytes are held after it.
 //! - `request_failing BYTES LOG`: byte by byte, and with each read failing in turn.
 //! - `request_at_once BYTES LOG`, `answer_at_once BYTES LOG`: in one piece, where the second read fails.
@@ -55,6 +55,9 @@ use part_threads::spawner_of;
 use std::alloc::Global;
 use table_rows::Wrong;
 
+/// More connections than any row has.
+const MOST_CONNECTIONS: u64 = 4_096;
+
 /// What the rows of a table are about.
 #[derive(Clone, Copy, Debug, PartialEq, Eq)]
 enum Table {
@@ -100,7 +103,7 @@ fn main(rt: HostRuntime) -> Result<(), Wrong> {
                 Table::Hub => show_race(rt, alloc, line)?,
                 Table::Clients => {
                     let (ends, board) = ends_of(rt, alloc, Plan::named(line)?)?;
-                    let Some(mut spawner) = spawner_of(rt, alloc, ends) else {
+                    let Some(mut spawner) = spawner_of(rt, alloc, ends, MOST_CONNECTIONS) else {
                         return Err(Wrong::NoMemory);
                     };
                     serve_clients(&rt, alloc, &board, &mut spawner)?;

@@ -12,7 +12,7 @@ use std::thread::Threads;
 use std::time::{Duration, Instant};
 use std::{io, thread};
 use table_rows::{Wrong, parts};
-use turn_hub::{Hub, LONGEST_REST, Pass};
+use turn_hub::{Hub, LONGEST_REST_SECONDS, Pass};
 
 // Takes the name's letter and answers it, resting while there is none. Says how many rests lasted to their end.
 fn answer<R: Wait + Times>(rt: &R, hub: &Hub<Mailbox>, pass: &mut Pass<Mailbox>, name: u32) -> u64
@@ -40,7 +40,7 @@ fn has_ended<R: Times>(rt: &R, start: io::Result<Instant>) -> bool {
         return true;
     };
     match start.elapsed(rt) {
-        Ok(rested) => rested >= Duration::from_secs(LONGEST_REST),
+        Ok(rested) => rested >= Duration::from_secs(LONGEST_REST_SECONDS),
         Err(_) => true,
     }
 }

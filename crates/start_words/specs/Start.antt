@@ -1,8 +1,8 @@
--- What the words of `grpc-proxy start` name: twelve options, each of them given at most once, with the value that follows it or that
+-- What the words of `grpc-proxy start` name: thirteen options, each of them given at most once, with the value that follows it or that
 -- is its own where it isn't given; two of them have no value. Words become options by the rules of clap; the options are those of etcd's
--- grpc-proxy manual, as far as they are served here, and eight more: the leasing prefix, workers, the session's time to live, the limit of a
--- message of a watch, the file of the sessions' numbers, whether the server stops at the end of its input, how refusals are written, and where
--- figures are shown.
+-- grpc-proxy manual, as far as they are served here, and nine more: the leasing prefix, workers, the session's time to live, the limit of a
+-- message of a watch, the file of the sessions' numbers, whether the server stops at the end of its input, how many clients are connected at
+-- once, how refusals are written, and where figures are shown.
 use Rattle.std.specs.Prelude.{◌≡◌, ◌==◌, ◌||◌, Bool, bytes_eq, ℕ, ◌≤◌, List, [], ◌∷◌, length, Option, Some, None, unwrap_or, Result, Ok, Err, codes, nat_lt, if◌then◌else◌, true, ⊤}
 use Rattle.text_model.specs.Texts.{words}
 use Rattle.clap.specs.Walk.{Row, Rule, Text, first_of}
@@ -12,7 +12,7 @@ use Rattle.clap.specs.declared.builder.action.ArgAction.TheVariants.{Set, SetTru
 use Rattle.start_words.specs.declared.fault.Cause.{Cause}
 use Rattle.start_words.specs.declared.fault.Cause.TheVariants.{NotAnAddress, NotANumber, TooMany}
 use Rattle.start_words.specs.declared.fault.StartOption.{StartOption}
-use Rattle.start_words.specs.declared.fault.StartOption.TheVariants.{Endpoints, ListenAddr, Workers, SessionTtl, MessageLimit, MetricsAddr}
+use Rattle.start_words.specs.declared.fault.StartOption.TheVariants.{Endpoints, ListenAddr, Workers, SessionTtl, MessageLimit, MaxConnections, MetricsAddr}
 use Rattle.start_words.specs.declared.settings.StartSettings.{StartSettings}
 use Rattle.start_words.specs.declared.wrong.Wrong.{Wrong}
 use Rattle.start_words.specs.declared.wrong.ValueFault.{ValueFault}
@@ -61,10 +61,11 @@ end_rules =
     ∷ flag_rule (codes "stop-at-end")
     ∷ []
 
--- the address that clients are told to come to, and whether refusals are written as etcd's own gateway has them
+-- how many clients are connected at once, the address that clients are told to come to, and whether refusals are written as etcd's own gateway has them
 abbrev pub client_rules : List Rule
 client_rules =
-    default_rule (codes "advertise-client-url") []
+    default_rule (codes "max-connections") (codes "4096")
+    ∷ default_rule (codes "advertise-client-url") []
     ∷ flag_rule (codes "etcd-errors")
     ∷ []
 
@@ -140,6 +141,7 @@ settings_of rows =
     and_then (number_of Workers 1 64 (value_of (codes "workers") rows)) (λ workers.
     and_then (number_of SessionTtl 5 3600 (value_of (codes "session-ttl") rows)) (λ ttl.
     and_then (number_of MessageLimit 8 64 (value_of (codes "message-limit") rows)) (λ message.
+    and_then (number_of MaxConnections 1 16384 (value_of (codes "max-connections") rows)) (λ connections.
     and_then (metrics_of (value_of (codes "metrics-addr") rows)) (λ metrics.
     Ok (record {
       endpoints = endpoints;
@@ -151,10 +153,11 @@ settings_of rows =
       message_limit = message;
       state_file = value_of (codes "state-file") rows;
       stop_at_end = is_set (codes "stop-at-end") rows;
+      max_connections = connections;
       advertise = value_of (codes "advertise-client-url") rows;
       etcd_errors = is_set (codes "etcd-errors") rows;
       metrics = metrics;
-    })))))))
+    }))))))))
 
 -- the counts that they have
 pub record Within (s : StartSettings) : Type 0 where
@@ -163,6 +166,7 @@ pub record Within (s : StartSettings) : Type 0 where
   pub workers : s.workers ≤ 64
   pub ttl : s.session_ttl ≤ 3600
   pub message : s.message_limit ≤ 64
+  pub connections : s.max_connections ≤ 16384
 
 -- ---- the words
 

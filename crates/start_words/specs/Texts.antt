@@ -4,7 +4,7 @@ use Rattle.std.specs.Fmt.{decimal}
 use Rattle.start_words.specs.declared.fault.Cause.{Cause}
 use Rattle.start_words.specs.declared.fault.Cause.TheVariants.{NotAnAddress, IsSecure, TooMany, NotANumber}
 use Rattle.start_words.specs.declared.fault.StartOption.{StartOption}
-use Rattle.start_words.specs.declared.fault.StartOption.TheVariants.{Endpoints, ListenAddr, Workers, SessionTtl, MessageLimit, MetricsAddr}
+use Rattle.start_words.specs.declared.fault.StartOption.TheVariants.{Endpoints, ListenAddr, Workers, SessionTtl, MessageLimit, MaxConnections, MetricsAddr}
 use Rattle.start_words.specs.declared.wrong.Wrong.{Wrong}
 
 abbrev pub option_text : StartOption → List ℕ
@@ -13,6 +13,7 @@ option_text ListenAddr = codes "--listen-addr"
 option_text Workers = codes "--workers"
 option_text SessionTtl = codes "--session-ttl"
 option_text MessageLimit = codes "--message-limit"
+option_text MaxConnections = codes "--max-connections"
 option_text MetricsAddr = codes "--metrics-addr"
 
 abbrev pub cause_text : Cause → List ℕ

@@ -8,6 +8,7 @@ pub enum StartOption {
     Workers,
     SessionTtl,
     MessageLimit,
+    MaxConnections,
     MetricsAddr,
 }
 
@@ -24,6 +25,7 @@ impl fmt::Display for StartOption {
             StartOption::Workers => "--workers",
             StartOption::SessionTtl => "--session-ttl",
             StartOption::MessageLimit => "--message-limit",
+            StartOption::MaxConnections => "--max-connections",
             StartOption::MetricsAddr => "--metrics-addr",
         })
     }

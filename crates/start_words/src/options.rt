@@ -149,10 +149,17 @@ fn with_ends<'a>(alloc: Global) -> Result<Command<'a>, AllocError>
     Ok(with_option(command, stop)?)
 }
 
-/// The same, with what clients are told.
+/// The same, with how many clients there may be, and what they are told.
 fn with_clients<'a>(alloc: Global) -> Result<Command<'a>, AllocError>
     ensures { IfOk result (λ command. app_of command ≡ spec.with_rules (spec.with_rules (spec.with_rules (spec.with_rules spec.bare_app spec.place_rules) spec.more_rules) spec.end_rules) spec.client_rules) }
 {
+    let connections = option(
+        alloc,
+        "max-connections",
+        "NUMBER",
+        "How many clients are connected at once, 1 to 16384",
+    );
+    let connections = with_default(connections, "4096");
     let advertise = option(
         alloc,
         "advertise-client-url",
@@ -166,6 +173,7 @@ fn with_clients<'a>(alloc: Global) -> Result<Command<'a>, AllocError>
         "Writes refusals as etcd does, with a field `error`",
     );
     let command = with_ends(alloc)?;
+    let command = with_option(command, connections)?;
     let command = with_option(command, advertise)?;
     Ok(with_option(command, errors)?)
 }

@@ -67,6 +67,13 @@ fn settings(alloc: Global, matches: &ArgMatches) -> Result<StartSettings, ValueF
         64,
         value(matches, "message-limit"),
     )?;
+    let max_connections = number_of(
+        alloc,
+        StartOption::MaxConnections,
+        1,
+        16_384,
+        value(matches, "max-connections"),
+    )?;
     let metrics = metrics_of(alloc, value(matches, "metrics-addr"))?;
     let namespace = Bytes::from_slice(alloc, value(matches, "namespace"))?;
     let leasing = Bytes::from_slice(alloc, value(matches, "leasing-prefix"))?;
@@ -82,6 +89,7 @@ fn settings(alloc: Global, matches: &ArgMatches) -> Result<StartSettings, ValueF
         message_limit,
         state_file,
         stop_at_end: is_set(matches, "stop-at-end"),
+        max_connections,
         advertise,
         etcd_errors: is_set(matches, "etcd-errors"),
         metrics,

@@ -21,6 +21,8 @@ pub struct StartSettings {
     pub state_file: Bytes,
     /// Whether the server stops once the standard input has ended.
     pub stop_at_end: bool,
+    /// How many clients are connected at once, 1 to 16,384.
+    pub max_connections: u64,
     /// The address that clients are told to come to; empty for the one on which they are served.
     pub advertise: Bytes,
     /// Whether refusals are written as etcd's own gateway has them.
