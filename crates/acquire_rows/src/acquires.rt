@@ -82,6 +82,7 @@ impl Acquires {
         ensures first { IsFirstDueOf (option_map row_seen result) self.now }
         ensures in_order { IsTrue (is_in_order self.now) }
     {
+        // For the prover: the acquires are in the order of their keys.
         let _rows = self.rows.as_slice();
         match self.dues.first() {
             None => None,

@@ -8,6 +8,10 @@ ghost use Rattle.json_model.specs.WrittenReplies as spec;
 use crate::records::put_header;
 use crate::responses::put_body_fields;
 use direct_json::{item_text, put_reply_text, range_text};
+use etcd_types::code::{
+    DEADLINE_EXCEEDED, FAILED_PRECONDITION, INVALID_ARGUMENT, NOT_FOUND, OUT_OF_RANGE,
+    PERMISSION_DENIED, UNAVAILABLE, UNIMPLEMENTED,
+};
 use etcd_types::{Answer, Body, Bytes, NoMemory, Refusal, Reply, WatchItem};
 use json_fields::{object_text, put_object, put_value};
 use serde_json::{Map, Value};
@@ -18,12 +22,12 @@ fn status_of(code: u32) -> u16
     ensures { result ≡ spec.status_of code }
 {
     match code {
-        3 | 9 | 11 => 400,
-        7 => 403,
-        5 => 404,
-        12 => 501,
-        14 => 503,
-        4 => 504,
+        INVALID_ARGUMENT | FAILED_PRECONDITION | OUT_OF_RANGE => 400,
+        PERMISSION_DENIED => 403,
+        NOT_FOUND => 404,
+        UNIMPLEMENTED => 501,
+        UNAVAILABLE => 503,
+        DEADLINE_EXCEEDED => 504,
         _ => 500,
     }
 }

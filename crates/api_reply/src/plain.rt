@@ -6,11 +6,9 @@ ghost use Rattle.api_reply.specs.PlainAnswers.{plain_reply, plain_text};
 
 use etcd_types::{Answer, Body, Header, Reply, Request};
 use itoa::Buffer;
+use json_model::NUMBER_MAX;
 use memchr::memchr;
 use std::str;
-
-/// The greatest revision and the greatest term of the API.
-pub(crate) const NUMBER_MAX: u64 = i64::MAX as u64;
 
 /// The number whose digits these are. Written again it is the same text, so it has no sign and no leading zero.
 fn number_of(digits: &[u8]) -> Option<u64>

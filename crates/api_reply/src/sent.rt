@@ -8,9 +8,10 @@ ghost use Rattle.etcd_types.specs.Keys.{is_empty};
 ghost use Rattle.json_model.specs.Fits.{IsNumber};
 ghost use Rattle.api_reply.specs.SentTexts as spec;
 
-use crate::plain::{NUMBER_MAX, after, number_before};
+use crate::plain::{after, number_before};
 use base64::engine::general_purpose::STANDARD;
 use etcd_types::{Bytes, Change, Event, Header, Kv, List, NoMemory};
+use json_model::NUMBER_MAX;
 use memchr::memchr;
 use std::alloc::Global;
 

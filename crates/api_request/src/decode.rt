@@ -8,16 +8,13 @@ use crate::paths::path_of;
 use crate::plain::plain_request;
 use etcd_types::{Bytes, NoMemory, Request};
 use json_fields::{FieldFault, object_of};
-use json_model::{ApiFault, Extra, Path, Reading};
+use json_model::{ApiFault, DEPTH_MAX, Extra, Path, Reading};
 use request_fields::{
     compact_in, delete_in, extra_in, extra_name, grant_in, lease_in, leases_in, put_in, range_in,
     time_to_live_in, txn_in, watch_in,
 };
 use serde_json::{Map, Value};
 use std::alloc::Global;
-
-/// JSON nests no deeper, so no body has as many transactions round one another.
-const DEPTH_MAX: u64 = 127;
 
 fn request_in(alloc: Global, path: Path, object: &Map<String, Value>) -> Result<Request, FieldFault>
     ensures { Gives (λ request. request) result (spec.request_in max_depth path (members_view object.now.entries)) }

@@ -42,7 +42,9 @@ fn put_operand(
     number: u64,
     value: &Bytes,
 ) -> Result<(), NoMemory>
-    ensures { OnOk result (members_view fields.new.entries ≡ with_field (spec.operand_written target number value.now).0 (spec.operand_written target number value.now).1 (members_view fields.old.entries)) }
+    ensures { OnOk result (members_view fields.new.entries
+        ≡ with_field (spec.operand_written target number value.now).0
+        (spec.operand_written target number value.now).1 (members_view fields.old.entries)) }
 {
     match target {
         Target::Version => Ok(put_number(alloc, fields, "version", number)?),

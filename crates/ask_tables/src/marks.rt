@@ -39,8 +39,8 @@ fn stage_rank(stage: &Stage) -> u64
 {
     match stage {
         Stage::Acquiring | Stage::Joined | Stage::Behind => WAITING,
-        Stage::Writes => 1,
-        Stage::Grouped(None) => 2,
+        Stage::Writes => WRITING,
+        Stage::Grouped(None) => UNGROUPED,
         Stage::Grouped(Some(sending)) => group_rank(*sending),
         Stage::Replied(_) => REPLIED,
         Stage::Calling(sending) => call_rank(*sending),
@@ -67,6 +67,12 @@ fn call_rank(sending: Sending) -> u64
 
 /// Of reads that wait at a key.
 pub const WAITING: u64 = 0;
+
+/// Of writes.
+const WRITING: u64 = 1;
+
+/// Of keepalives that wait for the next call of their group.
+const UNGROUPED: u64 = 2;
 
 /// Of keepalives whose group's call is out.
 pub const GROUP_OUT: u64 = 3;

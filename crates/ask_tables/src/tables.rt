@@ -58,7 +58,11 @@ impl Tables {
     fn put_by_key(&mut self, ask: &Asked, number: u64) -> Result<(), NoMemory>
         requires keys { at self.old.keys (ticket_mark by_key ask.now) ≡ None }
         requires groups { at self.old.groups (row_mark by_group number ask.now) ≡ None }
-        ensures ok { OnOk result (self.new ≡ record self.old { keys = with_at self.old.keys (ticket_mark by_key ask.now) (Some number); groups = with_at self.old.groups (row_mark by_group number ask.now) (Some number); times = with_at self.old.times (row_mark by_time number ask.now) (Some number) }) }
+        ensures ok { OnOk result (self.new ≡ record self.old {
+          keys = with_at self.old.keys (ticket_mark by_key ask.now) (Some number);
+          groups = with_at self.old.groups (row_mark by_group number ask.now) (Some number);
+          times = with_at self.old.times (row_mark by_time number ask.now) (Some number);
+        }) }
         ensures err { OnErr result (self.new ≡ self.old) }
     {
         self.keys.put(key_mark(ask), number)?;
@@ -72,7 +76,10 @@ impl Tables {
     /// The same of the marks that end with the number.
     fn put_by_row(&mut self, ask: &Asked, number: u64) -> Result<(), NoMemory>
         requires { at self.old.groups (row_mark by_group number ask.now) ≡ None }
-        ensures ok { OnOk result (self.new ≡ record self.old { groups = with_at self.old.groups (row_mark by_group number ask.now) (Some number); times = with_at self.old.times (row_mark by_time number ask.now) (Some number) }) }
+        ensures ok { OnOk result (self.new ≡ record self.old {
+          groups = with_at self.old.groups (row_mark by_group number ask.now) (Some number);
+          times = with_at self.old.times (row_mark by_time number ask.now) (Some number);
+        }) }
         ensures err { OnErr result (self.new ≡ self.old) }
     {
         self.groups.put(group_mark(ask, number), number)?;

@@ -1,7 +1,8 @@
 //! A world of a replay is shown by the view of true caches: its first line makes such a world, and these of its lines keep it one.
 #![tactic(auto)]
 
-ghost use Rattle.bridge_laws.specs.Laws.{BeginsShown, CountsStayShown, StartsStayShown, ClocksStayShown, ExpiriesStayShown, AppliesStayShown, RefusedPostsStayShown, PushesStayShown};
+ghost use Rattle.bridge_laws.specs.Laws.{BeginsShown, CountsStayShown, StartsStayShown, ClocksStayShown, ExpiriesStayShown, AppliesStayShown};
+ghost use Rattle.bridge_laws.specs.Laws.{RefusedPostsStayShown, PushesStayShown};
 ghost use Rattle.bridge_laws.specs.Executions.{ExecutionsStayShown};
 ghost use Rattle.bridge_laws.specs.Floors.{FloorsRise};
 ghost use Rattle.bridge_laws.specs.Holder.{TicksDraw};

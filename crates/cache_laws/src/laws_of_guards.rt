@@ -2,7 +2,8 @@
 //! stand in the leasing range. Keys are bare.
 ghost use Rattle.cache_laws.specs.Guards.Covers.{SingleWritesAreGuards};
 ghost use Rattle.cache_laws.specs.Guards.GuardLaw.{WritesAreGuarded, WritesLeave, AcquiresClaim, RescindsDelete, RevokesMark};
-ghost use Rattle.cache_laws.specs.Guards.Answered.{SnapshotsAreAnswered, AcquiresAreAnswered, AcquiresLackLease, RescindsAreAnswered, RevokesAreAnswered, PutsAreAnswered, PutsLackLease, DeletesAreAnswered};
+ghost use Rattle.cache_laws.specs.Guards.Answered.{SnapshotsAreAnswered, AcquiresAreAnswered, AcquiresLackLease, RescindsAreAnswered};
+ghost use Rattle.cache_laws.specs.Guards.Answered.{RevokesAreAnswered, PutsAreAnswered, PutsLackLease, DeletesAreAnswered};
 ghost use Rattle.cache_laws.specs.Guards.OwnershipKeys.{WritesPutOwned, OwnersPutOwned, ReadsPutOwned, FoundOwnersAreNamed};
 ghost use Rattle.cache_laws.specs.Guards.OwnerEvents.{WritesPutAlone, OwnersPutAlone, ReadsPutAlone, EndsPutAlone, OwnerEventsTell};
 

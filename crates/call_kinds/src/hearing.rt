@@ -35,7 +35,7 @@ pub fn heard(
 }
 
 /// Whether a refusal with this code says that nothing was done.
-fn is_known(code: u32) -> bool
+pub fn is_known(code: u32) -> bool
     ensures { result ≡ is_known code }
 {
     code == INVALID_ARGUMENT

@@ -6,6 +6,6 @@ mod kinds;
 mod replies;
 
 pub use core_model::CallKind;
-pub use hearing::heard;
+pub use hearing::{heard, is_known};
 pub use kinds::{is_body_of, is_ordered, is_read, kind_of};
 pub use replies::{reply_of, text_of};

@@ -1,6 +1,7 @@
 ghost use Rattle.std.specs.Prelude.{◌≡◌, ◌||◌, IfOk};
 ghost use Rattle.std.specs.List.{list_any};
-ghost use Rattle.proxy_model.specs.RequestRefusals.{unserved_op, unserved_ops, unserved, field_name, unsupported, op_lacks_key, request_lacks_key, op_names_session, names_session, is_session, reserved_lease, refusal_of};
+ghost use Rattle.proxy_model.specs.RequestRefusals.{unserved_op, unserved_ops, unserved, field_name, unsupported, op_lacks_key, request_lacks_key};
+ghost use Rattle.proxy_model.specs.RequestRefusals.{op_names_session, names_session, is_session, reserved_lease, refusal_of};
 ghost use Rattle.store_model.specs.FirstRefusals.{compare_lacks_key};
 ghost use Rattle.etcd_types.specs.declared.operation.Op.TheVariants as operation;
 

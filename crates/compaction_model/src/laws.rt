@@ -1,4 +1,5 @@
-ghost use Rattle.compaction_model.specs.KeyLaws.{VersionsGiveRecords, VersionsGiveEarlier, VersionsGrow, VersionsFromRevision, KeptGiveNow, KeptGiveEarlier, KeptHaveLater, KeptGrow, KeptGrowByChange, KeptAgain, PlacesGrow, PlacesAgain};
+ghost use Rattle.compaction_model.specs.KeyLaws.{VersionsGiveRecords, VersionsGiveEarlier, VersionsGrow, VersionsFromRevision, KeptGiveNow};
+ghost use Rattle.compaction_model.specs.KeyLaws.{KeptGiveEarlier, KeptHaveLater, KeptGrow, KeptGrowByChange, KeptAgain, PlacesGrow, PlacesAgain};
 ghost use Rattle.compaction_model.specs.Worked.{KeepsAll, KeepsLastPut, DropsDeletions};
 
 /// A law: the versions of a key give the record that the history leaves, and the record at a revision.

@@ -1,13 +1,13 @@
 ghost use Rattle.std.specs.Prelude.{◌≡◌};
 ghost use Rattle.proxy_model.specs.Prefixes.{leasing_range};
-ghost use Rattle.proxy_model.specs.Snapshot.{is_plain, is_unsorted};
 ghost use Rattle.core_model.specs.Asking.{asked_at, is_leased_read};
 ghost use Rattle.core_asks.specs.Stages.{stage_of};
 
 use calls_out::Calls;
-use etcd_types::{Bytes, KeyRange, RangeAsk, Request, Sort};
+use etcd_types::{Bytes, KeyRange, Request};
 use keep_merge::group_stage;
 use known_asks::{Asked, Asks, Stage};
+use snapshot_reads::is_plain;
 use wait_model::Sending;
 
 /// A request as it is asked at this reading of the clock in milliseconds, with the random word that came with it.
@@ -34,28 +34,6 @@ pub fn is_leased_read(prefix: &Bytes, leasing: &KeyRange, request: &Request) -> 
         Request::Range(ask) => is_plain(ask) && !leasing.contains(&ask.range.key),
         _ => false,
     }
-}
-
-fn is_plain(ask: &RangeAsk) -> bool
-    ensures { result ≡ is_plain ask.now }
-{
-    ask.range.is_one()
-        && ask.revision == 0
-        && !ask.serializable
-        && !ask.keys_only
-        && !ask.count_only
-        && is_unsorted(ask.sort)
-}
-
-fn is_unsorted(sort: Sort) -> bool
-    ensures { result ≡ is_unsorted sort }
-{
-    sort.order == 0
-        && sort.target == 0
-        && sort.min_mod == 0
-        && sort.max_mod == 0
-        && sort.min_create == 0
-        && sort.max_create == 0
 }
 
 /// The stage of a request that is passed on: it waits for its own call, due since this step, or as a keepalive for the one that it

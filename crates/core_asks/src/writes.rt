@@ -6,9 +6,7 @@ ghost use Rattle.core_model.specs.Refusals.{writes_too_much};
 use etcd_types::{List, NoMemory, Op, Request};
 use lease_txn::written_ranges;
 use std::alloc::Global;
-
-/// The most ranges that one transaction can compare.
-const OPERATIONS_LIMIT: usize = 128;
+use store_refusals::OPERATIONS_LIMIT;
 
 /// Whether the request puts or deletes: a put, a delete, or a transaction with one in either branch. It takes no memory.
 pub fn writes_keys(request: &Request) -> bool
@@ -51,7 +49,7 @@ pub fn writes_too_much(alloc: Global, request: &Request) -> Result<bool, NoMemor
     ensures { IfOk result (λ much. much ≡ writes_too_much request.now) }
 {
     match request {
-        Request::Txn(_) => Ok(written_ranges(alloc, request)?.len() > OPERATIONS_LIMIT),
+        Request::Txn(_) => Ok(written_ranges(alloc, request)?.len() as u64 > OPERATIONS_LIMIT),
         _ => Ok(false),
     }
 }

@@ -19,4 +19,5 @@ pub mod Prefixes
 pub mod Staying
 pub mod AskedReads
 pub mod Outcomes
+pub mod Jobs
 pub mod Start

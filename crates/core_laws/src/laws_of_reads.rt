@@ -1,6 +1,7 @@
 //! Laws of plain reads, over their definitions: no read waits for nothing, a held key is read with no call, and one that may be
 //! acquired is acquired.
-ghost use Rattle.core_laws.specs.PlainReads.Kept.{GoingOnKeeps, AsksKeep, SendingKeeps, NoticesKeep, AnswersKeep, LossesKeep, SessionEndKeeps, AcquiresKeep, AcquireLossesKeep, TakingOffKeeps};
+ghost use Rattle.core_laws.specs.PlainReads.Kept.{GoingOnKeeps, AsksKeep, SendingKeeps, NoticesKeep, AnswersKeep, LossesKeep, SessionEndKeeps};
+ghost use Rattle.core_laws.specs.PlainReads.Kept.{AcquiresKeep, AcquireLossesKeep, TakingOffKeeps};
 ghost use Rattle.core_laws.specs.PlainReads.InPlace.{PlainInPlace, AgainInPlace, AnswersInPlace, WinsInPlace};
 ghost use Rattle.core_laws.specs.PlainReads.Laws.{ReleaseStands, NoReadIsIdle, HeldIsReplied, HeldIsLive, AcquirableIsAcquired};
 

@@ -1,5 +1,6 @@
 //! What the rules on waiting writes keep, as laws over their definitions: nothing here does work.
-ghost use Rattle.core_laws.specs.Writes.Laws.{Settles, KeepsKeys, AnswersKeep, LossesKeep, SessionEndKeeps, ForgettingKeeps, NoticesKeep, AsksKeep, AcquiresKeep, SendingKeeps, OwnersAreCovered};
+ghost use Rattle.core_laws.specs.Writes.Laws.{Settles, KeepsKeys, AnswersKeep, LossesKeep, SessionEndKeeps, ForgettingKeeps, NoticesKeep, AsksKeep};
+ghost use Rattle.core_laws.specs.Writes.Laws.{AcquiresKeep, SendingKeeps, OwnersAreCovered};
 ghost use Rattle.core_laws.specs.Writes.Written.{RangesStay, AnswersKeepWritten};
 
 /// After one pass each waiting write has what it waits for, and a pass keeps what holds of each key.

@@ -59,7 +59,28 @@ impl Model for Machine {
 
     ghost coded = { Prim.hlevel (codes, operation.the_row.coded, body.the_row.coded) };
 
-    ghost view = { λ m. record { core = record { settings = record { members = m.count; namespace = m.namespace; leasing = m.prefix; ttl = m.ttl }; members = m.members; header = m.header; seat = m.seat; leasing = m.leasing; own = m.reads.own; acquires = m.reads.acquires; asks = m.reads.asks; out = m.out; calls = m.calls; steps = m.steps; watches = m.watches }; ranges = record { leasing = m.range; first = m.first } } };
+    ghost view = { λ m. record {
+      core = record {
+        settings = record {
+          members = m.count;
+          namespace = m.namespace;
+          leasing = m.prefix;
+          ttl = m.ttl;
+        };
+        members = m.members;
+        header = m.header;
+        seat = m.seat;
+        leasing = m.leasing;
+        own = m.reads.own;
+        acquires = m.reads.acquires;
+        asks = m.reads.asks;
+        out = m.out;
+        calls = m.calls;
+        steps = m.steps;
+        watches = m.watches;
+      };
+      ranges = record { leasing = m.range; first = m.first };
+    } };
 }
 
 impl Machine {

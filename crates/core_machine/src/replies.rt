@@ -56,7 +56,10 @@ impl Machine {
 
     /// The session's grant was answered with this time to live, where it still is the session's.
     fn grant(&mut self, out: &OutCall, ttl: u64)
-        ensures { self.new ≡ on self.old (if seat_calls out.now.call self.old.core.seat then record self.old.core { seat = seat_granted out.now.sent_at ttl self.old.core.seat } else self.old.core) }
+        ensures { self.new
+            ≡ on self.old (if seat_calls out.now.call self.old.core.seat
+            then record self.old.core { seat = seat_granted out.now.sent_at ttl self.old.core.seat }
+            else self.old.core) }
     {
         if seat_calls(out.call, &self.seat) {
             grant_seat(&mut self.seat, out.sent_at, ttl);

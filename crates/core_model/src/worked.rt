@@ -1,7 +1,11 @@
-ghost use Rattle.core_model.specs.WorkedReads.{Opens, SecondIsCached, OwnerWrites, ReadWaitsForOwner, SpoiledIsGivenUp, LostAcquireIsLost, HeldToTheDeadline, RestsBeforeAcquire, TimesOut, JustInTime};
+ghost use Rattle.core_model.specs.WorkedReads.{Opens, SecondIsCached, OwnerWrites, ReadWaitsForOwner, SpoiledIsGivenUp, LostAcquireIsLost};
+ghost use Rattle.core_model.specs.WorkedReads.{HeldToTheDeadline, RestsBeforeAcquire, TimesOut, JustInTime};
 ghost use Rattle.core_model.specs.WorkedWrites.{GuestAsksOwner, OwnerGivesUp, LeasedGivesUp, TransactionIsNested, TransactionWritesThrough, RangeIsDeleted};
-ghost use Rattle.core_model.specs.WorkedCalls.{AreRefused, GrantIsNumbered, StaleIsRefused, NextMemberIsAsked, LostPutIsLost, LateAnswerIsNothing, KeepalivesShare, LostKeepalivesAreLost, SnapshotIsCached, OthersArePassedOn, NumbersAreUnknown, WornDoesNothing};
-ghost use Rattle.core_model.specs.WorkedSessions.{KeepaliveRenews, KeepaliveTooLate, KeepaliveEnds, AcquireEndsSession, DueOwnerIsGuest, CutGoesOn, NoAcquireWhileCut, CompactionGivesUp, AnewFrees, PeeksAtHeld, PeeksAtNone, LeastIsReady};
+ghost use Rattle.core_model.specs.WorkedCalls.{AreRefused, GrantIsNumbered, StaleIsRefused, NextMemberIsAsked, LostPutIsLost, LateAnswerIsNothing};
+ghost use Rattle.core_model.specs.WorkedCalls.{KeepalivesShare, LostKeepalivesAreLost, SnapshotIsCached, OthersArePassedOn, NumbersAreUnknown};
+ghost use Rattle.core_model.specs.WorkedCalls.{WornDoesNothing};
+ghost use Rattle.core_model.specs.WorkedSessions.{KeepaliveRenews, KeepaliveTooLate, KeepaliveEnds, AcquireEndsSession, DueOwnerIsGuest, CutGoesOn};
+ghost use Rattle.core_model.specs.WorkedSessions.{NoAcquireWhileCut, CompactionGivesUp, AnewFrees, PeeksAtHeld, PeeksAtNone, LeastIsReady};
 
 /// Worked reads: the definitions give these by computation.
 pub fn worked_reads()

@@ -1,6 +1,7 @@
 ghost use Rattle.std.specs.Prelude.{◌≡◌, Some};
 ghost use Rattle.core_model.specs.Lookups.{live_number, is_out_as};
-ghost use Rattle.core_model.specs.Sessions.{drawn_session, drawn_seat, call_ticked, seat_ticked, is_over, seat_is_over, is_sent_as, seat_calls, seat_granted, seat_free, seat_renewed};
+ghost use Rattle.core_model.specs.Sessions.{drawn_session, drawn_seat, call_ticked, seat_ticked, is_over, seat_is_over, is_sent_as, seat_calls};
+ghost use Rattle.core_model.specs.Sessions.{seat_granted, seat_free, seat_renewed};
 
 use proxy_model::FIRST_SESSION;
 use session_keep::Session;

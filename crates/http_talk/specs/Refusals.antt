@@ -1,5 +1,5 @@
 -- Refusals of requests, by their code, status, words and form: of bytes that are no request, of a head, and of what the JSON mapping doesn't know.
-use Rattle.std.specs.Prelude.{ℕ, List, ◌++◌, Option, None, Some, if◌then◌else◌, codes, nat_eq}
+use Rattle.std.specs.Prelude.{ℕ, List, if◌then◌else◌, codes, nat_eq}
 use Rattle.std.specs.Cmp.Lexicographic.{pointwise}
 use Rattle.etcd_types.specs.declared.answer.Answer.{Answer}
 use Rattle.etcd_types.specs.declared.answer.Answer.TheVariants.{Refused as Refusing}
@@ -7,33 +7,12 @@ use Rattle.etcd_types.specs.declared.code.TheConstants.{INVALID_ARGUMENT, NOT_FO
 use Rattle.json_model.specs.WrittenReplies.{answer_status}
 use Rattle.json_model.specs.declared.fault.ApiFault.{ApiFault}
 use Rattle.json_model.specs.declared.fault.ApiFault.TheVariants as api
-use Rattle.json_model.specs.declared.fault.FieldFault.{FieldFault}
-use Rattle.json_model.specs.declared.fault.FieldFault.TheVariants as fields
-use Rattle.json_model.specs.Faults.{api_fault_text}
+use Rattle.json_model.specs.FaultNames.{fault_words}
 use Rattle.http_wire.specs.Written.{reply, bodiless_reply}
 use Rattle.http_talk.specs.Forms.{body_by}
 use Rattle.http_talk.specs.declared.form.RefusalForm.{RefusalForm}
 use Rattle.http_talk.specs.declared.refused.Refused.{Refused}
 use Rattle.http_talk.specs.declared.refused.Refused.TheVariants as refused
-
-abbrev pub field_named : FieldFault → Option (List ℕ)
-field_named (fields.WrongKind name) = Some name
-field_named (fields.BadNumber name) = Some name
-field_named (fields.BadBase64 name) = Some name
-field_named (fields.UnknownField name) = Some name
-field_named (fields.TwiceNamed name) = Some name
-field_named (fields.BadEnum name) = Some name
-field_named fields.NoMemory = None
-
--- the name that a fault has
-abbrev pub named_in : ApiFault → Option (List ℕ)
-named_in (api.Unsupported name) = Some name
-named_in (api.Field fault) = field_named fault
-named_in _ = None
-
-abbrev pub with_name : List ℕ → Option (List ℕ) → List ℕ
-with_name words None = words
-with_name words (Some name) = words ++ codes ": " ++ name
 
 abbrev pub fault_code : ApiFault → ℕ
 fault_code api.NoSuchPath = NOT_FOUND
@@ -50,7 +29,7 @@ unfoldable pub refused_words : Refused → List ℕ
 refused_words refused.Bytes = codes "proxy: bad request"
 refused_words refused.Encoding = codes "proxy: unsupported: Content-Encoding"
 refused_words refused.Method = codes "proxy: method not allowed"
-refused_words (refused.Request fault) = with_name (codes "proxy: " ++ api_fault_text fault) (named_in fault)
+refused_words (refused.Request fault) = fault_words fault
 
 -- as an answer of the core's would be
 abbrev pub refused_answer : Refused → Answer

@@ -1,9 +1,7 @@
-ghost use Rattle.std.specs.Prelude.{◌≡◌, ◌++◌, ◌≤◌, IfOk, IfErr, IsErrOf, codes, nat_eq};
+ghost use Rattle.std.specs.Prelude.{◌≡◌, ◌≤◌, IfOk, IfErr, IsErrOf, codes, nat_eq};
 ghost use Rattle.std.specs.Cmp.Lexicographic.{pointwise};
-ghost use Rattle.std.specs.Option.{option_copied};
 ghost use Rattle.outside.specs.Faults.{Rose};
 ghost use Rattle.http_wire.specs.Written.{Writes};
-ghost use Rattle.json_model.specs.Faults.{api_fault_text};
 ghost use Rattle.http_talk.specs.Refusals as spec;
 ghost use Rattle.http_talk.specs.Telling.{IsOfWriting};
 
@@ -14,7 +12,7 @@ use etcd_types::code::{INVALID_ARGUMENT, NOT_FOUND, UNIMPLEMENTED};
 use etcd_types::{Answer, Bytes, NoMemory, Refusal};
 use http::Method;
 use http_wire::{WireFault, write_bodiless_reply, write_reply};
-use json_model::{ApiFault, FieldFault};
+use json_model::ApiFault;
 use outside::Sink;
 use std::alloc::Global;
 
@@ -36,46 +34,6 @@ fn code_of(refused: &Refused) -> u32
     }
 }
 
-/// The name of the field that a fault is of.
-fn field_of(fault: &FieldFault) -> Option<&Bytes>
-    ensures { option_copied result ≡ spec.field_named fault.now }
-{
-    match fault {
-        FieldFault::WrongKind(name)
-        | FieldFault::BadNumber(name)
-        | FieldFault::BadBase64(name)
-        | FieldFault::UnknownField(name)
-        | FieldFault::TwiceNamed(name)
-        | FieldFault::BadEnum(name) => Some(name),
-        FieldFault::NoMemory => None,
-    }
-}
-
-/// The name that a fault has.
-fn name_of(fault: &ApiFault) -> Option<&Bytes>
-    ensures { option_copied result ≡ spec.named_in fault.now }
-{
-    match fault {
-        ApiFault::Unsupported(name) => Some(name),
-        ApiFault::Field(fault) => field_of(fault),
-        ApiFault::NoSuchPath | ApiFault::NotJson | ApiFault::NoMemory => None,
-    }
-}
-
-/// The words of a fault, with its name.
-fn fault_words(alloc: Global, fault: &ApiFault) -> Result<Bytes, NoMemory>
-    ensures { IfOk result (λ words. words ≡ spec.with_name
-        (codes "proxy: " ++ api_fault_text fault.now) (spec.named_in fault.now)) }
-{
-    let kind = format!(in alloc; "proxy: {fault}")?;
-    let mut words = kind.into_bytes();
-    if let Some(name) = name_of(fault) {
-        words.extend_from_slice(b": ")?;
-        words.extend_from_slice(name.as_slice())?;
-    }
-    Ok(Bytes::from_vec(words))
-}
-
 #[tactic(auto, unfolding(crate::specs::Refusals::refused_words))]
 fn words(alloc: Global, refused: &Refused) -> Result<Bytes, NoMemory>
     ensures { IfOk result (λ words. words ≡ spec.refused_words refused.now) }
@@ -84,7 +42,7 @@ fn words(alloc: Global, refused: &Refused) -> Result<Bytes, NoMemory>
         Refused::Bytes => Bytes::from_slice(alloc, b"proxy: bad request"),
         Refused::Encoding => Bytes::from_slice(alloc, b"proxy: unsupported: Content-Encoding"),
         Refused::Method => Bytes::from_slice(alloc, b"proxy: method not allowed"),
-        Refused::Request(fault) => fault_words(alloc, fault),
+        Refused::Request(fault) => fault.words(alloc),
     }
 }
 

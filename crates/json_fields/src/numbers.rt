@@ -4,8 +4,7 @@ ghost use Rattle.std.specs.List.{list_all};
 ghost use Rattle.std.specs.Str.Parse.{starts_with_minus};
 ghost use Rattle.json_model.specs.Numbers.{begins_well, is_canonical, decimal_of, signed_of, negative_of, unless_zero, below};
 
-/// The greatest number of the API, but for a cluster's and a member's.
-const NUMBER_MAX: u64 = i64::MAX as u64;
+use json_model::NUMBER_MAX;
 
 fn begins_well(text: &[u8]) -> bool
     ensures { result ≡ begins_well text.now }

@@ -21,7 +21,9 @@ fn member<'a>(object: &'a Map<String, Value>, name: &str) -> Option<&'a Value>
 }
 
 fn either<'a>(object: &'a Map<String, Value>, names: &Names) -> Option<&'a Value>
-    ensures { option_map (λ v. view v.now) result ≡ or_else (get_member names.now.plain.now (members_view object.now.entries)) (get_member names.now.camel.now (members_view object.now.entries)) }
+    ensures { option_map (λ v. view v.now) result
+        ≡ or_else (get_member names.now.plain.now (members_view object.now.entries))
+        (get_member names.now.camel.now (members_view object.now.entries)) }
 {
     match member(object, names.plain) {
         Some(value) => Some(value),
@@ -60,7 +62,9 @@ pub fn object_at<'a>(
     object: &'a Map<String, Value>,
     names: &Names,
 ) -> Option<&'a Map<String, Value>>
-    ensures { option_map (λ m. members_view m.now.entries) result ≡ option_and_then as_object (spec.found names.now.plain.now names.now.camel.now (members_view object.now.entries)) }
+    ensures { option_map (λ m. members_view m.now.entries) result
+        ≡ option_and_then as_object
+        (spec.found names.now.plain.now names.now.camel.now (members_view object.now.entries)) }
 {
     match found(object, names) {
         Some(value) => value.as_object(),

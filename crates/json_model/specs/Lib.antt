@@ -1,4 +1,5 @@
 pub mod Faults
+pub mod FaultNames
 pub mod Names
 pub mod FieldNames
 pub mod Numbers

@@ -7,6 +7,8 @@
 
 mod extra;
 mod fault;
+mod fault_words;
+mod limits;
 pub mod names;
 mod path;
 pub mod reply_names;
@@ -14,6 +16,7 @@ mod rows;
 
 pub use extra::{Extra, Reading};
 pub use fault::{ApiFault, FieldFault, NotReply};
+pub use limits::{DEPTH_MAX, NUMBER_MAX};
 pub use names::Names;
 pub use path::Path;
 pub use rows::{

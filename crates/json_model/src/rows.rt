@@ -40,21 +40,51 @@ pub fn requests_by_example()
 
 /// A law: worked rows of answers and of messages of watches that are read.
 pub fn replies_by_example()
-    ensures put { answer_of (request.Put (record { key = []; value = []; lease = 0; prev_kv = false; ignore_lease = false })) 200 (codes "{\"header\":{\"cluster_id\":\"14841639068965178418\",\"revision\":3,\"raftTerm\":\"2\"},\"new_field\":[1]}\n")
+    ensures put { answer_of
+        (request.Put (record {
+          key = [];
+          value = [];
+          lease = 0;
+          prev_kv = false;
+          ignore_lease = false;
+        })) 200
+        (codes "{\"header\":{\"cluster_id\":\"14841639068965178418\",\"revision\":3,\"raftTerm\":\"2\"},\"new_field\":[1]}\n")
         ≡ Ok (Done (record { header = record { cluster = 14841639068965178418; member = 0; revision = 3; term = 2 }; body = body.Put None })) }
-    ensures record { answer_of (request.Delete (record { range = record { key = 97 ∷ []; end = [] }; prev_kv = true })) 200 (codes "{\"deleted\":\"1\",\"prev_kvs\":[{\"key\":\"YQ==\",\"create_revision\":\"2\",\"mod_revision\":\"3\",\"version\":\"2\"}]}")
-        ≡ Ok (Done (record { header = record { cluster = 0; member = 0; revision = 0; term = 0 }; body = body.Delete 1 (record { key = 97 ∷ []; value = []; create = 2; modified = 3; version = 2; lease = 0 } ∷ []) })) }
+    ensures record { answer_of
+        (request.Delete (record { range = record { key = 97 ∷ []; end = [] }; prev_kv = true })) 200
+        (codes "{\"deleted\":\"1\",\"prev_kvs\":[{\"key\":\"YQ==\",\"create_revision\":\"2\",\"mod_revision\":\"3\",\"version\":\"2\"}]}")
+        ≡ Ok (Done (record {
+          header = record { cluster = 0; member = 0; revision = 0; term = 0 };
+          body = body.Delete 1 (record {
+            key = 97 ∷ [];
+            value = [];
+            create = 2;
+            modified = 3;
+            version = 2;
+            lease = 0;
+          } ∷ []);
+        })) }
     ensures in_result { answer_of (request.KeepAlive 7) 200 (codes "{\"result\":{\"ID\":\"7\",\"TTL\":\"30\"}}")
         ≡ Ok (Done (record { header = record { cluster = 0; member = 0; revision = 0; term = 0 }; body = body.KeepAlive 7 30 })) }
     ensures no_result { answer_of (request.KeepAlive 7) 200 (codes "{\"ID\":\"7\",\"TTL\":\"30\"}") ≡ Err Unreadable }
     ensures refusal { answer_of request.Leases 400 (codes "{\"error\":\"x\",\"code\":3,\"message\":\"no key\"}") ≡ Ok (Refused (record { code = 3; text = codes "no key" })) }
     ensures no_code { answer_of request.Leases 500 (codes "{\"message\":\"no key\"}") ≡ Err Unreadable }
-    ensures twice { answer_of (request.Put (record { key = []; value = []; lease = 0; prev_kv = false; ignore_lease = false })) 200 (codes "{\"prev_kv\":null,\"prevKv\":null}") ≡ Err Unreadable }
+    ensures twice { answer_of
+        (request.Put (record {
+          key = [];
+          value = [];
+          lease = 0;
+          prev_kv = false;
+          ignore_lease = false;
+        })) 200
+        (codes "{\"prev_kv\":null,\"prevKv\":null}") ≡ Err Unreadable }
     ensures created { item_of (codes "{\"result\":{\"header\":{\"revision\":\"3\"},\"created\":true}}\n")
         ≡ Ok (Created (record { cluster = 0; member = 0; revision = 3; term = 0 })) }
     ensures deletion { item_of (codes "{\"result\":{\"events\":[{\"type\":\"DELETE\",\"kv\":{\"key\":\"YQ==\",\"modRevision\":\"5\"}}]}}")
         ≡ Ok (Events (record { cluster = 0; member = 0; revision = 0; term = 0 }) (record { change = change.Delete (97 ∷ []) 5; prev = None } ∷ [])) }
-    ensures canceled { item_of (codes "{\"result\":{\"created\":true,\"canceled\":true,\"compact_revision\":\"9\"}}") ≡ Ok (Canceled (record { cluster = 0; member = 0; revision = 0; term = 0 }) 9) }
+    ensures canceled { item_of
+        (codes "{\"result\":{\"created\":true,\"canceled\":true,\"compact_revision\":\"9\"}}")
+        ≡ Ok (Canceled (record { cluster = 0; member = 0; revision = 0; term = 0 }) 9) }
 {}
 
 /// A law: worked rows of what is written for requests, answers and messages of watches.
@@ -71,12 +101,36 @@ pub fn written_by_example()
       sort = record { order = 2; target = 5; min_mod = 0; max_mod = 0; min_create = 0; max_create = 0 };
     }))
         ≡ codes "{\"key\":\"YQ==\",\"limit\":\"10\",\"sort_order\":\"DESCEND\",\"sort_target\":5}" }
-    ensures watch { request_text (request.Watch (record { range = record { key = 97 ∷ []; end = [] }; start = 4; no_put = true; no_delete = false; prev_kv = false; progress = false }))
+    ensures watch { request_text
+        (request.Watch (record {
+          range = record { key = 97 ∷ []; end = [] };
+          start = 4;
+          no_put = true;
+          no_delete = false;
+          prev_kv = false;
+          progress = false;
+        }))
         ≡ codes "{\"create_request\":{\"filters\":[\"NOPUT\"],\"key\":\"YQ==\",\"start_revision\":\"4\"}}" }
     ensures no_fields { request_text request.Leases ≡ codes "{}" }
-    ensures reply { answer_text (Done (record { header = record { cluster = 14841639068965178418; member = 0; revision = 3; term = 2 }; body = body.Range 1 false (record { key = 97 ∷ []; value = []; create = 2; modified = 3; version = 2; lease = 0 } ∷ []) }))
+    ensures reply { answer_text
+        (Done (record {
+          header = record { cluster = 14841639068965178418; member = 0; revision = 3; term = 2 };
+          body = body.Range 1 false (record {
+            key = 97 ∷ [];
+            value = [];
+            create = 2;
+            modified = 3;
+            version = 2;
+            lease = 0;
+          } ∷ []);
+        }))
         ≡ codes "{\"count\":\"1\",\"header\":{\"cluster_id\":\"14841639068965178418\",\"raft_term\":\"2\",\"revision\":\"3\"},\"kvs\":[{\"create_revision\":\"2\",\"key\":\"YQ==\",\"mod_revision\":\"3\",\"version\":\"2\"}]}" }
-    ensures time_left { answer_text (Done (record { header = record { cluster = 0; member = 0; revision = 0; term = 0 }; body = body.TimeToLive 7 (negsuc 0) 0 [] })) ≡ codes "{\"ID\":\"7\",\"TTL\":\"-1\",\"header\":{}}" }
+    ensures time_left { answer_text
+        (Done (record {
+          header = record { cluster = 0; member = 0; revision = 0; term = 0 };
+          body = body.TimeToLive 7 (negsuc 0) 0 [];
+        }))
+        ≡ codes "{\"ID\":\"7\",\"TTL\":\"-1\",\"header\":{}}" }
     ensures refusal { answer_text (Refused (record { code = 5; text = codes "no lease" })) ≡ codes "{\"code\":5,\"message\":\"no lease\"}" }
     ensures status { answer_status (Refused (record { code = 5; text = [] })) ≡ 404 }
     ensures deletion { item_text (Events (record { cluster = 0; member = 0; revision = 0; term = 0 }) (record { change = change.Delete (97 ∷ []) 5; prev = None } ∷ []))

@@ -218,6 +218,7 @@ impl Asks {
         ensures callers { AreCallers result call self.now }
         ensures once { once (map (λ a. a.ticket) self.now) ≡ true }
     {
+        // For the prover: no ticket is there twice.
         let _rows = self.rows();
         match self.first_from(&Mark::new(CALL_OUT, call, 0)) {
             Some(ask) => self.callers_at(ask, call),
@@ -254,6 +255,7 @@ impl Asks {
         ensures narrow { all_narrow self.now ≡ true }
         ensures once { once (map (λ a. a.ticket) self.now) ≡ true }
     {
+        // For the prover: no ticket is there twice.
         let _rows = self.rows();
         match kin {
             Kin::Stage(rank, number) => self.next_by_stage(rank, number, from),

@@ -8,13 +8,13 @@ use mark_rows::Mark;
 use read_model::Asked;
 
 /// For so many milliseconds a request waits for its reply.
-const REQUEST_TIME: u64 = 5000;
+const REQUEST_TIME_MS: u64 = 5000;
 
 /// Whether the request has no reply, and its time has passed at this reading.
 fn times_out(ask: &Asked, now: u64) -> bool
     ensures { result ≡ times_out now ask.now }
 {
-    !is_replied(&ask.stage) && now.saturating_sub(ask.asked) >= REQUEST_TIME
+    !is_replied(&ask.stage) && now.saturating_sub(ask.asked) >= REQUEST_TIME_MS
 }
 
 /// The request's ticket, where it times out at this reading.
@@ -39,5 +39,5 @@ pub(crate) fn only_unanswered(ask: &Asked) -> Option<&Asked>
 pub(crate) fn is_late(mark: &Mark, now: u64) -> bool
     ensures { result ≡ is_late mark.now now }
 {
-    mark.kind() == 0 && now.saturating_sub(mark.number()) >= REQUEST_TIME
+    mark.kind() == 0 && now.saturating_sub(mark.number()) >= REQUEST_TIME_MS
 }

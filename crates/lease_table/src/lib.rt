@@ -102,6 +102,7 @@ impl LeaseTable {
     pub fn has_in(&self, range: &KeyRange) -> bool
         ensures { result ≡ list_any (λ e. contains range.now e.0) self.now.entries }
     {
+        // For the prover: the entries are in the order of their keys.
         let _count = self.len();
         self.is_in(range, self.start(range))
     }
@@ -191,6 +192,7 @@ impl LeaseTable {
     pub fn leave_range(&mut self, range: &KeyRange)
         ensures { self.new ≡ leave_range self.old range.now }
     {
+        // For the prover: the entries are in the order of their keys.
         let _count = self.len();
         let mut place = self.start(range);
         while self.is_in(range, place) {
@@ -273,6 +275,7 @@ impl LeaseTable {
     fn turn(&mut self, key: &Bytes, turn: Turn)
         ensures { self.new ≡ change self.old key.now (turned turn) }
     {
+        // For the prover: the entries are in the order of their keys.
         let _count = self.len();
         if let Ok(place) = self.place(key) {
             self.turn_at(place, turn);

@@ -127,7 +127,11 @@ fn guarded(
     owned: &[Owned],
     other: u64,
 ) -> Result<Request, NoMemory>
-    ensures { IfOk result (λ request. request ≡ Txn (record { compare = map (guard prefix.now (create_or other owned.now)) ranges.now; success = success; failure = map (read_owners prefix.now) ranges.now })) }
+    ensures { IfOk result (λ request. request ≡ Txn (record {
+      compare = map (guard prefix.now (create_or other owned.now)) ranges.now;
+      success = success;
+      failure = map (read_owners prefix.now) ranges.now;
+    })) }
 {
     let mut compare = List::new(alloc);
     let mut failure = List::new(alloc);

@@ -7,13 +7,13 @@ use std::sync::atomic::AtomicU64;
 use std::sync::atomic::Ordering::SeqCst;
 
 /// All workers are busy where each was inside calls for so many microseconds.
-const BUSY: u64 = 1_000_000;
+const BUSY_US: u64 = 1_000_000;
 
 /// Between two calls a worker that has more to do takes fewer microseconds than these.
-const BREAK: u64 = 10_000;
+const BREAK_US: u64 = 10_000;
 
 /// A line says that all are busy once in so many milliseconds.
-const LINES: u64 = 60_000;
+const LINES_MS: u64 = 60_000;
 
 /// The calls that a process's links are in the midst of, beside how many workers make calls.
 #[derive(Drop)]
@@ -46,7 +46,7 @@ impl Busy {
     /// A worker begins a call. Its last one ended then, by `micros`, or it made none where that is 0. When that is, by `micros`.
     pub(crate) fn begin<R: Times>(&self, rt: &R, ended: u64) -> u64 {
         let now = micros(rt);
-        if now.saturating_sub(ended) > BREAK {
+        if now.saturating_sub(ended) > BREAK_US {
             self.rested.store(now, SeqCst);
         }
         self.calls.fetch_add(1, SeqCst);
@@ -59,8 +59,8 @@ impl Busy {
         let calls = self.calls.fetch_sub(1, SeqCst);
         let workers = self.workers;
         let is_full = 0 < workers && workers <= calls;
-        let is_long = BUSY <= at.saturating_sub(self.rested.load(SeqCst));
-        if is_full && is_long && self.pace.is_due(rt, LINES) {
+        let is_long = BUSY_US <= at.saturating_sub(self.rested.load(SeqCst));
+        if is_full && is_long && self.pace.is_due(rt, LINES_MS) {
             let when = line_time(rt);
             let _ = eprintln!(rt;
                 "{when:.3} WARN etcd_proxy: all {workers} workers were inside calls for a second, and further calls wait: see --workers"

@@ -16,7 +16,7 @@ use std::sync::{Arc, Wait};
 
 /// How long a scan's member may say nothing until it is asked whether it answers, and how often it is looked then what came of that,
 /// in milliseconds.
-const SLICE: u64 = 500;
+const SLICE_MS: u64 = 500;
 
 /// An answer that is to be there by a moment, and has at most `CALL_LIMIT` bytes. That of a scan may take long: it fails before where its
 /// member turns out to be down.
@@ -77,7 +77,7 @@ impl<R: Times + Wait + Drop> CallAnswer<R> {
         ensures kept { (self.new.room ≡ self.old.room) × (self.new.faults ≡ self.old.faults) }
     {
         for _ in 0..TRIES {
-            let slice = self.until.or_after(&self.rt, SLICE)?;
+            let slice = self.until.or_after(&self.rt, SLICE_MS)?;
             match self.upstream.receive(&self.rt, room, slice) {
                 Err(error) if error.kind() == ErrorKind::TimedOut && self.goes_on() => {}
                 done => return done,

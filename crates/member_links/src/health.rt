@@ -30,9 +30,9 @@ pub enum Asked {
 }
 
 /// A member that is up is asked each five seconds, another one each second, in milliseconds.
-const SPACE: u64 = 1_000;
+const SPACE_MS: u64 = 1_000;
 
-const REST: u64 = 4_000;
+const REST_MS: u64 = 4_000;
 
 // what stands for each
 const UP: u64 = 0;
@@ -94,10 +94,11 @@ impl Pulse {
 
     /// Waits until it is to be asked again.
     pub(crate) fn rest<R: Wait + Times>(&self, rt: &R) {
-        thread::sleep(rt, Duration::from_millis(SPACE));
+        thread::sleep(rt, Duration::from_millis(SPACE_MS));
         if self.health() == Health::Up {
             // for as long as the code is that of `Up`
-            self.code.park_timeout(rt, 0, Duration::from_millis(REST));
+            self.code
+                .park_timeout(rt, 0, Duration::from_millis(REST_MS));
         }
     }
 }

@@ -9,7 +9,7 @@ pub(crate) const MOST: usize = 64;
 
 /// One that rested for so many milliseconds is used no more. Servers that close connections at rest wait for five seconds or
 /// longer.
-const REST: u64 = 3_000;
+const REST_MS: u64 = 3_000;
 
 /// A connection that rests.
 #[derive(Drop)]
@@ -37,7 +37,7 @@ impl Idle {
     pub(crate) fn take<R: Times + Wait>(&self, rt: &R) -> Option<Upstream> {
         let resting = self.all.lock(rt).pop()?;
         let now = time(rt).unwrap_or(u64::MAX);
-        if now.saturating_sub(resting.since) < REST {
+        if now.saturating_sub(resting.since) < REST_MS {
             return Some(resting.upstream);
         }
         self.close(rt);
@@ -50,7 +50,7 @@ impl Idle {
             return;
         };
         let mut all = self.all.lock(rt);
-        all.retain(|resting| now.saturating_sub(resting.since) < REST);
+        all.retain(|resting| now.saturating_sub(resting.since) < REST_MS);
         if all.len() < MOST {
             let _ = all.push(Resting {
                 upstream,

@@ -26,7 +26,7 @@ use std::{io, thread};
 
 /// How long a call rests that found no member, where all are down, in milliseconds: who makes it may make it again at once, and would
 /// turn for ever.
-const REST: u64 = 250;
+const REST_MS: u64 = 250;
 
 /// The link to the members of a cluster over sockets. A call goes to the member that it names, or to the next one where that is down or
 /// takes no byte of it. It uses a connection that an earlier call left, where one is there, and a stream has one of its own.
@@ -167,7 +167,7 @@ impl<R: Net<Stream = TcpStream> + Times + Wait + Eprint + Drop + Clone> SocketLi
             if left == 0 || self.members.streams.is_forgotten(&self.rt, stream) {
                 return;
             }
-            thread::sleep(&self.rt, Duration::from_millis(left.min(REST)));
+            thread::sleep(&self.rt, Duration::from_millis(left.min(REST_MS)));
         }
     }
 
@@ -227,7 +227,7 @@ impl<R: Net<Stream = TcpStream> + Times + Wait + Eprint + Drop + Clone> SocketLi
         };
         let noted = self.members.begin_session(&self.rt, number);
         if noted.is_err() {
-            thread::sleep(&self.rt, Duration::from_millis(REST));
+            thread::sleep(&self.rt, Duration::from_millis(REST_MS));
         }
         noted
     }
@@ -321,7 +321,7 @@ impl<R: Net<Stream = TcpStream> + Times + Wait + Eprint + Drop + Clone> Link for
             Ok(answer) => Ok(answer),
             Err(error) => {
                 if self.inside && self.members.none_answers() {
-                    thread::sleep(&self.rt, Duration::from_millis(REST));
+                    thread::sleep(&self.rt, Duration::from_millis(REST_MS));
                 }
                 self.leave();
                 self.faults = self.faults.saturating_add(1);

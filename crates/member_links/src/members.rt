@@ -23,10 +23,10 @@ use std::sync::atomic::Ordering::SeqCst;
 use std::sync::{Arc, Wait};
 
 /// Between two lines on the standard error are at least so many milliseconds.
-const LINES: u64 = 1_000;
+const LINES_MS: u64 = 1_000;
 
 /// Between two lines on calls that were refused for want of a user are at least so many.
-const USERS: u64 = 60_000;
+const USERS_MS: u64 = 60_000;
 
 /// The members of a cluster, as all links of a process share them.
 #[derive(Drop)]
@@ -172,7 +172,7 @@ impl Members {
     // Whether it may be told now that a member answers, or doesn't, where that isn't what was told of it last. What can't be told
     // now, since a line was written less than a second ago, is told later: one that is down is asked each second.
     fn tells<R: Times>(&self, rt: &R, member: &Member, fails: bool) -> bool {
-        if member.is_told.load(SeqCst) == fails || !self.pace.is_due(rt, LINES) {
+        if member.is_told.load(SeqCst) == fails || !self.pace.is_due(rt, LINES_MS) {
             return false;
         }
         member.is_told.store(fails, SeqCst);
@@ -274,7 +274,7 @@ impl Members {
     /// A member refused a call since it wants to know of a user: it is asked next.
     pub(crate) fn refused<R: Times + Wait + Eprint>(&self, rt: &R, member: &Member) {
         self.doubt(rt, member);
-        if self.users.is_due(rt, USERS) {
+        if self.users.is_due(rt, USERS_MS) {
             let number = member.number;
             let host = member.host.as_str();
             let when = line_time(rt);

@@ -14,16 +14,16 @@ use std::time::Duration;
 use std::{io, thread};
 
 /// A message of which more bytes came is large.
-const LARGE: u64 = 1_048_576;
+const LARGE_BYTES: u64 = 1_048_576;
 
 /// How long a stream waits for another one's large message, in milliseconds.
-const WAIT: u64 = 30_000;
+const WAIT_MS: u64 = 30_000;
 
 /// How long one rests that isn't to be begun again at once, in so many pieces of so many milliseconds: a core opens a stream that was cut again,
 /// and one that always ends at once would turn for ever.
 const PIECES: u32 = 4;
 
-const PIECE: u64 = 250;
+const PIECE_MS: u64 = 250;
 
 /// An answer that comes as long as the member sends. Of all those of a process one at a time goes on with a message that is large. Where it said nothing for five seconds it fails if its member is down, and it fails
 /// behind ten minutes of silence in any case.
@@ -61,8 +61,8 @@ impl<R: Net<Stream = TcpStream> + Times + Wait + Drop> StreamAnswer<R> {
     fn hold(&mut self) -> io::Result<()>
         ensures { self.new.faults ≡ self.old.faults }
     {
-        if self.came > LARGE && !self.holds {
-            let until = Until::after(&self.rt, WAIT)?;
+        if self.came > LARGE_BYTES && !self.holds {
+            let until = Until::after(&self.rt, WAIT_MS)?;
             self.members.large.take(&self.rt, until)?;
             self.holds = true;
             self.heard = time(&self.rt).unwrap_or(self.heard);
@@ -87,7 +87,7 @@ impl<R: Net<Stream = TcpStream> + Times + Wait + Drop> StreamAnswer<R> {
             if self.members.streams.is_forgotten(&self.rt, self.stream) {
                 return;
             }
-            thread::sleep(&self.rt, Duration::from_millis(PIECE));
+            thread::sleep(&self.rt, Duration::from_millis(PIECE_MS));
         }
     }
 

@@ -9,22 +9,22 @@ use std::str;
 use std::sync::{Mutex, Wait};
 
 /// The first of these rests has so many milliseconds with the one that a follower takes, and each further one twice as many.
-const FIRST: u64 = 1_000;
+const FIRST_MS: u64 = 1_000;
 
 /// None has more milliseconds.
-const MOST: u64 = 60_000;
+const MOST_MS: u64 = 60_000;
 
 /// A range whose stream went well for so many milliseconds behind its rest begins with the first one again.
-const FORGIVEN: u64 = 120_000;
+const FORGIVEN_MS: u64 = 120_000;
 
 /// Of one range a line tells once in so many milliseconds.
-const LINES: u64 = 60_000;
+const LINES_MS: u64 = 60_000;
 
 /// So many ranges are kept at most.
 const RANGES: usize = 64;
 
 /// So much of the text of a range is kept at most.
-const TEXT: usize = 512;
+const TEXT_BYTES: usize = 512;
 
 /// A range whose last stream brought a message that is too long.
 #[derive(Drop)]
@@ -52,7 +52,10 @@ pub(crate) fn range_of(alloc: Global, call: &[u8]) -> Result<Vec<u8>, AllocError
     let range = body
         .split_once(",\"start_revision\"")
         .map_or(body.strip_suffix("}}").unwrap_or(body), |parts| parts.0);
-    let kept = range.as_bytes().get(..TEXT).unwrap_or(range.as_bytes());
+    let kept = range
+        .as_bytes()
+        .get(..TEXT_BYTES)
+        .unwrap_or(range.as_bytes());
     Vec::from_slice(alloc, kept)
 }
 
@@ -60,7 +63,7 @@ pub(crate) fn range_of(alloc: Global, call: &[u8]) -> Result<Vec<u8>, AllocError
 fn longer(rest: u64) -> u64
     ensures { result ≡ min (rest * 2) 60000 }
 {
-    rest.saturating_mul(2).min(MOST)
+    rest.saturating_mul(2).min(MOST_MS)
 }
 
 impl Unread {
@@ -69,10 +72,14 @@ impl Unread {
         let well = self
             .since
             .saturating_add(self.rest)
-            .saturating_add(FORGIVEN);
-        self.rest = if now < well { longer(self.rest) } else { FIRST };
+            .saturating_add(FORGIVEN_MS);
+        self.rest = if now < well {
+            longer(self.rest)
+        } else {
+            FIRST_MS
+        };
         self.since = now;
-        let tells = now >= self.told.saturating_add(LINES);
+        let tells = now >= self.told.saturating_add(LINES_MS);
         if tells {
             self.told = now;
         }
@@ -105,11 +112,11 @@ impl UnreadRanges {
             let _ = all.push(Unread {
                 range: kept,
                 since: now,
-                rest: FIRST,
+                rest: FIRST_MS,
                 told: now,
             });
         }
-        (FIRST, true)
+        (FIRST_MS, true)
     }
 
     /// A stream of this range brought a message that is too long, of which so many bytes came. It is told which, and how long it rests.
@@ -147,7 +154,7 @@ impl UnreadRanges {
             if unread.range.as_slice() == range {
                 let end = unread
                     .since
-                    .saturating_add(unread.rest.saturating_sub(FIRST));
+                    .saturating_add(unread.rest.saturating_sub(FIRST_MS));
                 return end.saturating_sub(now);
             }
         }

@@ -73,12 +73,12 @@ fn read_body_at(
         let (lease, ttl) = read_two_numbers(words)?;
         Ok(Body::KeepAlive { lease, ttl })
     } else if is_word(name, "timetolive") {
-        let (lease, ttl, granted, keys) = read_timetolive_body(alloc, words)?;
+        let times = read_timetolive_body(alloc, words)?;
         Ok(Body::TimeToLive {
-            lease,
-            ttl,
-            granted,
-            keys,
+            lease: times.lease,
+            ttl: times.ttl,
+            granted: times.granted,
+            keys: times.keys,
         })
     } else if is_word(name, "leases") {
         let leases = read_leases_body(alloc, words)?;

@@ -51,18 +51,32 @@ pub(crate) fn read_delete_body(
     Ok((deleted, prevs))
 }
 
+/// What a reply says of a lease's time to live.
+#[derive(Drop)]
+pub(crate) struct LeaseTimes {
+    pub lease: u64,
+    pub ttl: i64,
+    pub granted: u64,
+    pub keys: List<Bytes>,
+}
+
 #[tactic(auto, unfolding(crate::specs::Answers::timetolive_body))]
 pub(crate) fn read_timetolive_body(
     alloc: Global,
     words: &mut Words,
-) -> Result<(u64, i64, u64, List<Bytes>), ReadError>
-    ensures { Gives (λ x. ((x.0, (x.1, (x.2, x.3))), words.new)) result (timetolive_body.read words.old) }
+) -> Result<LeaseTimes, ReadError>
+    ensures { Gives (λ x. ((x.lease, (x.ttl, (x.granted, x.keys))), words.new)) result (timetolive_body.read words.old) }
 {
     let lease = read_number(words)?;
     let ttl = read_ttl(words)?;
     let granted = read_number(words)?;
     let keys = read_list(alloc, words)?;
-    Ok((lease, ttl, granted, keys))
+    Ok(LeaseTimes {
+        lease,
+        ttl,
+        granted,
+        keys,
+    })
 }
 
 #[tactic(auto, unfolding(crate::specs::Answers::leases_body))]

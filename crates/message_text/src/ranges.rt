@@ -37,14 +37,14 @@ impl PlainRange {
         let end = read_bytes(alloc, words)?;
         let revision = read_number(words)?;
         let limit = read_number(words)?;
-        let (serializable, keys_only, count_only) = read_range_flags(words)?;
+        let flags = read_range_flags(words)?;
         Ok(PlainRange {
             range: KeyRange { key, end },
             revision,
             limit,
-            serializable,
-            keys_only,
-            count_only,
+            serializable: flags.serializable,
+            keys_only: flags.keys_only,
+            count_only: flags.count_only,
         })
     }
 

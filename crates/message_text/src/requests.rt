@@ -39,14 +39,14 @@ impl Text for WatchAsk {
         let key = read_bytes(alloc, words)?;
         let end = read_bytes(alloc, words)?;
         let start = read_number(words)?;
-        let (prev_kv, no_put, no_delete, progress) = read_watch_flags(words)?;
+        let flags = read_watch_flags(words)?;
         Ok(WatchAsk {
             range: KeyRange { key, end },
             start,
-            no_put,
-            no_delete,
-            prev_kv,
-            progress,
+            no_put: flags.no_put,
+            no_delete: flags.no_delete,
+            prev_kv: flags.prev_kv,
+            progress: flags.progress,
         })
     }
 

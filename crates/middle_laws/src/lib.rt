@@ -2,7 +2,8 @@
 //! middle of it.
 #![tactic(auto)]
 
-ghost use Rattle.middle_laws.specs.Laws.{KeptRecordsAreTrue, DecidedRecordsAreTrue, SourcesAreTrue, GivenAreTrue, CachedReadsShowTheStore, CachedSnapshotsShowTheStore, CachedReadsUnwrap, CachedSnapshotsUnwrap};
+ghost use Rattle.middle_laws.specs.Laws.{KeptRecordsAreTrue, DecidedRecordsAreTrue, SourcesAreTrue, GivenAreTrue, CachedReadsShowTheStore};
+ghost use Rattle.middle_laws.specs.Laws.{CachedSnapshotsShowTheStore, CachedReadsUnwrap, CachedSnapshotsUnwrap};
 
 /// What is held behind the clock work of a step, and where waiting reads are decided again in it, is what the store has.
 pub fn held_records_are_true()

@@ -1,4 +1,6 @@
-ghost use Rattle.namespace_keys.specs.Laws.{WrappedKeysAreAsked, AskedKeysAreWrapped, WrappedKeysAreUnwrapped, UnwrappedKeysWereWrapped, RepliesAreRefusedByName, ItemsAreRefusedByName, ForeignLeaseKeysAreLeftOut, EndsPrefix, EndsFullPrefix, WrapsAllKeys};
+ghost use Rattle.namespace_keys.specs.Laws.{WrappedKeysAreAsked, AskedKeysAreWrapped, WrappedKeysAreUnwrapped, UnwrappedKeysWereWrapped};
+ghost use Rattle.namespace_keys.specs.Laws.{RepliesAreRefusedByName, ItemsAreRefusedByName, ForeignLeaseKeysAreLeftOut, EndsPrefix, EndsFullPrefix};
+ghost use Rattle.namespace_keys.specs.Laws.{WrapsAllKeys};
 
 /// A wrapped range has no key but those of the range asked for, each with the prefix, and it has all of these but one: the
 /// empty key of the range of all keys, whose key and end are one zero byte each.

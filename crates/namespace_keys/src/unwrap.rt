@@ -1,5 +1,6 @@
 ghost use Rattle.std.specs.Prelude.{◌≡◌, IfOk};
-ghost use Rattle.proxy_model.specs.Unwrapped.{key_without, record_without, prev_without, records_without, own_keys, body_without, bodies_without, change_without, event_without, events_without};
+ghost use Rattle.proxy_model.specs.Unwrapped.{key_without, record_without, prev_without, records_without, own_keys, body_without, bodies_without};
+ghost use Rattle.proxy_model.specs.Unwrapped.{change_without, event_without, events_without};
 ghost use Rattle.namespace_keys.specs.Returned.{Unwraps};
 
 use crate::fault::KeyFault;

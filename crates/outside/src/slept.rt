@@ -7,18 +7,18 @@ use std::sync::{Mutex, Wait};
 use std::time::Duration;
 
 // Where the wall clock gains more than so many milliseconds at once, the machine slept, or its wall clock was set forward.
-const LEAST: u64 = 1000;
+const LEAST_MS: u64 = 1000;
 
 // A reading of the wall clock isn't taken with one of the other that came so many milliseconds later.
-const APART: u128 = 100;
+const APART_MS: u128 = 100;
 
 // So many seconds are added to the wall clock's lead, so that it is above 0 though that clock be behind: a hundred years.
-const AHEAD: u64 = 3_155_760_000;
+const AHEAD_SECONDS: u64 = 3_155_760_000;
 
-// How many milliseconds the wall clock is ahead of the other one, and `AHEAD` more.
+// How many milliseconds the wall clock is ahead of the other one, and `AHEAD_SECONDS` more.
 fn lead_of(monotonic: Duration, wall: Duration) -> u64 {
     let lead = wall
-        .saturating_add(Duration::from_secs(AHEAD))
+        .saturating_add(Duration::from_secs(AHEAD_SECONDS))
         .saturating_sub(monotonic);
     u64::try_from(lead.as_millis()).unwrap_or(u64::MAX)
 }
@@ -30,7 +30,7 @@ fn lead_now<R: Times + Wait>(rt: &R) -> Option<u64> {
         let wall = rt.since_1970().ok()?;
         let after = rt.monotonic().ok()?;
         // a thread that rested in between would see a lead that isn't there
-        if after.saturating_sub(before).as_millis() <= APART {
+        if after.saturating_sub(before).as_millis() <= APART_MS {
             return Some(lead_of(after, wall));
         }
     }
@@ -82,7 +82,7 @@ impl Slept {
         if let Some(lead) = lead_now(rt) {
             let before = self.lead.load(SeqCst);
             let gained = lead.saturating_sub(before);
-            if before > 0 && gained > LEAST {
+            if before > 0 && gained > LEAST_MS {
                 self.sum.store(self.sum().saturating_add(gained), SeqCst);
             }
             self.lead.store(lead, SeqCst);

@@ -13,10 +13,10 @@ use std::thread;
 use std::time::Duration;
 
 // How many milliseconds to pause where the system tells no time.
-const PAUSE: u64 = 100;
+const PAUSE_MS: u64 = 100;
 
 // How far a leap goes, in milliseconds: some 35 years.
-const LEAP: u64 = 1 << 40;
+const LEAP_MS: u64 = 1 << 40;
 
 // What the clocks of a process share: where the system's two clocks stood at the start, where they told it; how long the machine
 // slept since; and the greatest reading.
@@ -92,7 +92,7 @@ impl<R: Times + Wait + Drop> SystemClock<R> {
         let _ = self
             .shared
             .greatest
-            .fetch_update(SeqCst, SeqCst, |held| Some(held.saturating_add(LEAP)));
+            .fetch_update(SeqCst, SeqCst, |held| Some(held.saturating_add(LEAP_MS)));
     }
 
     /// How many readings the system refused this clock, or 2^64 - 1 where that is more.
@@ -118,7 +118,7 @@ impl<R: Times + Wait> Clock for SystemClock<R> {
                 self.last = self.last.max(time);
                 return self.last;
             }
-            thread::sleep(&self.rt, Duration::from_millis(PAUSE));
+            thread::sleep(&self.rt, Duration::from_millis(PAUSE_MS));
         }
         unreachable!()
     }
@@ -157,7 +157,7 @@ fn started<R: Times + Wait>(rt: &R) -> (Option<Duration>, Option<Duration>) {
         if read.0.is_some() || read.1.is_some() {
             return read;
         }
-        thread::sleep(rt, Duration::from_millis(PAUSE));
+        thread::sleep(rt, Duration::from_millis(PAUSE_MS));
     }
     unreachable!()
 }

@@ -1,30 +1,14 @@
 ghost use Rattle.std.specs.Prelude.{◌≡◌};
-ghost use Rattle.core_model.specs.Heard.{is_known};
 ghost use Rattle.server_model.specs.Calls.{Heard, Says, end_of, lost_by, tells};
 
 use api_reply::decode_reply;
-use etcd_types::code::{
-    FAILED_PRECONDITION, INVALID_ARGUMENT, NOT_FOUND, OUT_OF_RANGE, PERMISSION_DENIED,
-    UNIMPLEMENTED,
-};
+use call_kinds::is_known;
 use etcd_types::{Answer, Request};
 use http_wire::{AnswerHead, Framing, Wire, WireFault};
 use json_model::NotReply;
 use outside::{AnswerEnd, CALL_LIMIT, Source};
 use server_model::CallFault;
 use std::alloc::Global;
-
-/// Whether a refusal with this code says that nothing was done.
-fn is_known(code: u32) -> bool
-    ensures { result ≡ is_known code }
-{
-    code == INVALID_ARGUMENT
-        || code == NOT_FOUND
-        || code == PERMISSION_DENIED
-        || code == FAILED_PRECONDITION
-        || code == OUT_OF_RANGE
-        || code == UNIMPLEMENTED
-}
 
 /// Whether an answer says what became of its call.
 fn tells(answer: &Answer) -> bool

@@ -1,7 +1,8 @@
 ghost use Rattle.std.specs.Prelude.{◌≡◌, ◌<◌, ◌^◌, true, None, IfOk, OnErr};
 ghost use Rattle.proxy_model.specs.Prefixes.{leasing_range};
 ghost use Rattle.watch_model.specs.Lookups.{watch_at};
-ghost use Rattle.core_model.specs.Asking.{on_ask, asked_at, request_asked, taken_in, leased_ask, read_is_asked, write_is_asked, call_is_asked, answered_or_called, held_body, if_live, is_leased_read};
+ghost use Rattle.core_model.specs.Asking.{on_ask, asked_at, request_asked, taken_in, leased_ask, read_is_asked, write_is_asked, call_is_asked};
+ghost use Rattle.core_model.specs.Asking.{answered_or_called, held_body, if_live, is_leased_read};
 ghost use Rattle.core_model.specs.Kinds.{writes_keys};
 ghost use Rattle.core_model.specs.Lookups.{ask_at, live_number, moment, reads_of, with_reads};
 ghost use Rattle.core_model.specs.Verdicts.{reply_of};
@@ -148,7 +149,9 @@ fn decide_read(machine: &mut Machine, ask: Asked, now: u64) -> Result<Option<Ver
     requires unknown { ask_at ask.ticket machine.old.core.asks ≡ None }
     requires read { is_leased_read machine.old.core.own.waits.prefix ask.request ≡ true }
     ensures reply { IfOk result (λ reply. reply ≡ at_once (decided_ask (moment machine.old.core now) (ground_of (reads_of machine.old.core)) ask).stage) }
-    ensures reads { IfOk result (λ reply. machine.new ≡ on machine.old (with_reads machine.old.core (after_read reply (moment machine.old.core now) ask (reads_of machine.old.core)))) }
+    ensures reads { IfOk result (λ reply. machine.new
+        ≡ on machine.old (with_reads machine.old.core
+        (after_read reply (moment machine.old.core now) ask (reads_of machine.old.core)))) }
     ensures err { OnErr result (machine.new ≡ machine.old) }
 {
     let moment = machine.moment(now);

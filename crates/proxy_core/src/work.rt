@@ -47,7 +47,7 @@ pub(crate) fn has_due(machine: &Machine) -> bool
     )
 }
 
-/// Client streams stand by rising numbers.
+/// For the prover: client streams are there by rising numbers.
 fn see_order(machine: &Machine)
     ensures { numbered 0 machine.now.core.watches.given machine.now.core.watches.streams ≡ true }
 {
@@ -71,7 +71,9 @@ fn made_for(
     write: &Option<Due>,
     job: DueJob<'_>,
 ) -> Result<Option<ToSend>, NoMemory>
-    ensures { IfOk result (λ send. send ≡ to_send machine.now.core.settings.namespace machine.now.core.own.waits.prefix machine.now.core.settings.ttl write.now (job_seen job.entry)) }
+    ensures { IfOk result (λ send. send
+        ≡ to_send machine.now.core.settings.namespace machine.now.core.own.waits.prefix
+        machine.now.core.settings.ttl write.now (job_seen job.entry)) }
 {
     Ok(to_send(
         machine.alloc,

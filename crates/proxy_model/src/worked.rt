@@ -1,5 +1,7 @@
-ghost use Rattle.proxy_model.specs.Worked.{Acquires, WritesAsGuest, WritesAsOwner, AsksRevoke, Rescinds, DeletesRound, DeletesAll, DeletesBehindZero, DeletesInOne, WritesTransaction, WritesShared};
-ghost use Rattle.proxy_model.specs.Worked.{ReadsAcquired, ReadsBlocked, ReadsRevoked, ReadsParts, ReadsNested, RefusesOthers, RefusesFew, ReadsGuards, RefusesGuards, EndsPrefixes, EndsFullPrefixes};
+ghost use Rattle.proxy_model.specs.Worked.{Acquires, WritesAsGuest, WritesAsOwner, AsksRevoke, Rescinds, DeletesRound, DeletesAll, DeletesBehindZero};
+ghost use Rattle.proxy_model.specs.Worked.{DeletesInOne, WritesTransaction, WritesShared};
+ghost use Rattle.proxy_model.specs.Worked.{ReadsAcquired, ReadsBlocked, ReadsRevoked, ReadsParts, ReadsNested, RefusesOthers, RefusesFew};
+ghost use Rattle.proxy_model.specs.Worked.{ReadsGuards, RefusesGuards, EndsPrefixes, EndsFullPrefixes};
 
 /// Worked transactions and answers: the definitions give these by computation.
 pub fn worked_transactions()

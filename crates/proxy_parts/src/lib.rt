@@ -19,5 +19,5 @@ pub use run::{PartDone, run_part};
 pub use seated::Seated;
 pub use seating::Seating;
 pub use server_model::PartEnd;
-pub use ticker::{TICK, keep_ticking, tick};
+pub use ticker::{TICK_MS, keep_ticking, tick};
 pub use worker::{TURNS, keep_working};

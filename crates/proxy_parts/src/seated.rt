@@ -14,7 +14,7 @@ use turn_hub::{Hub, HubFault, Pass};
 
 /// The first rest behind a request lasts so many milliseconds at most, and each further one twice as long as the one before: a client that
 /// leaves soon is noticed soon.
-const FIRST_REST: u64 = 50;
+const FIRST_REST_MS: u64 = 50;
 
 /// A pass at a hub whose core many parts step.
 #[derive(Drop)]
@@ -46,7 +46,7 @@ impl<'a, R: Wait> Seated<'a, R> {
             rt,
             hub,
             pass,
-            rest: FIRST_REST,
+            rest: FIRST_REST_MS,
             begun,
         }
     }
@@ -87,7 +87,7 @@ impl<'a, R: Wait> Turn for Seated<'a, R> {
 
     fn turn<C: Clock>(&mut self, event: CoreEvent, clock: &mut C) -> Result<Outcome, TurnFault> {
         if matches!(event, CoreEvent::Ask { .. }) {
-            self.rest = FIRST_REST;
+            self.rest = FIRST_REST_MS;
         }
         match self.hub.step(self.rt, &mut self.pass, event, clock) {
             Ok(outcome) => Ok(outcome),

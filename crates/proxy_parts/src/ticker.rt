@@ -8,7 +8,7 @@ use server_model::TurnFault;
 use std::sync::Wait;
 
 /// The ticker rests so many milliseconds between two ticks.
-pub const TICK: u64 = 500;
+pub const TICK_MS: u64 = 500;
 
 /// Makes one step on Tick, with one drawn word. It fails where the turn or its core makes no more steps, and for nothing else.
 pub fn tick<T: Turn, C: Clock, D: Draw>(
@@ -46,7 +46,7 @@ pub fn keep_ticking<R: Wait, T: Turn, C: Clock, D: Draw>(
             Ok(()) => {}
             Err(_) => return,
         }
-        clock.pause(TICK);
+        clock.pause(TICK_MS);
     }
     unreachable!()
 }

@@ -12,7 +12,7 @@ use std::sync::Wait;
 pub const TURNS: u64 = 1_000;
 
 /// Where memory was wanting, a worker rests so many milliseconds before it goes on.
-const SHORTAGE: u64 = 100;
+const SHORTAGE_MS: u64 = 100;
 
 /// Works again and again, also where memory was wanting, until no further step can be made.
 pub fn keep_working<R: Wait, T: Seats, L: Link, P: Spawner<Pass = T::Place>, C: Clock>(
@@ -37,7 +37,7 @@ where
     'rounds: for _ in rt.forever() {
         match work(rt, alloc, turn, clock, link, spawner, hosts, TURNS) {
             WorkEnd::Turns => {}
-            WorkEnd::NoMemory => clock.pause(SHORTAGE),
+            WorkEnd::NoMemory => clock.pause(SHORTAGE_MS),
             WorkEnd::Worn => return,
         }
     }

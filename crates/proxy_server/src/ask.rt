@@ -1,7 +1,7 @@
 ghost use Rattle.std.specs.Prelude.{◌≡◌, ◌≤◌, [], IfErr, IsTrue};
 ghost use Rattle.std.specs.Io.KnownBytes.{Keeps};
 ghost use Rattle.outside.specs.Faults.{Rose};
-ghost use Rattle.server_model.specs.Dialog.{is_worn, is_in_use};
+ghost use Rattle.server_model.specs.Dialog.{is_in_use};
 ghost use Rattle.server_model.specs.Numbers.{Asked, AsksOne};
 ghost use Rattle.server_model.specs.Exchanges.{Asks, Left, IsOfTicket};
 ghost use Rattle.proxy_server.specs.Causes.{IsOfAsking};
@@ -16,13 +16,6 @@ use outside::{Clock, Sink, Source};
 use server_model::{Attempt, SessionEnd, Stop, TurnFault};
 use std::alloc::Global;
 use std::sync::Wait;
-
-/// Whether the turn makes no more steps.
-fn is_worn(answer: &Result<Outcome, TurnFault>) -> bool
-    ensures { result ≡ is_worn answer.now }
-{
-    matches!(answer, Err(TurnFault::Worn))
-}
 
 /// Whether the ticket that was asked is in use.
 fn is_in_use(fault: TurnFault) -> bool
@@ -47,8 +40,11 @@ fn leave<T: Turn, C: Clock>(turn: &mut T, clock: &mut C, ticket: u64, end: Sessi
         SessionEnd::Worn => SessionEnd::Worn,
         SessionEnd::TicketTaken(other) => SessionEnd::TicketTaken(other),
         _ => {
-            let left = turn.turn(CoreEvent::Leave { ticket }, clock);
-            if is_worn(&left) {
+            let fault = match turn.turn(CoreEvent::Leave { ticket }, clock) {
+                Ok(_) => return end,
+                Err(fault) => fault,
+            };
+            if fault.is_worn() {
                 SessionEnd::Worn
             } else {
                 end

@@ -1,8 +1,7 @@
 ghost use Rattle.std.specs.Prelude.{◌≡◌, IsTrue};
-ghost use Rattle.server_model.specs.Dialog.{is_worn};
 ghost use Rattle.server_model.specs.StreamParts.{Feeds, IsCut, is_for_memory, end_of};
 
-use core_model::{CoreEvent, Outcome, StepFault};
+use core_model::{CoreEvent, StepFault};
 use etcd_types::WatchItem;
 use outside::{Clock, ReadMark, Source};
 use proxy_server::Turn;
@@ -10,14 +9,7 @@ use server_model::{StreamEnd, TurnFault};
 
 /// How long a stream rests that couldn't be begun, or for which memory was wanting, in milliseconds: a core opens a stream that was cut again,
 /// and would turn for ever.
-const PAUSE: u64 = 1_000;
-
-/// Whether the turn makes no more steps.
-fn is_worn(answer: &Result<Outcome, TurnFault>) -> bool
-    ensures { result ≡ is_worn answer.now }
-{
-    matches!(answer, Err(TurnFault::Worn))
-}
+const PAUSE_MS: u64 = 1_000;
 
 /// Whether memory was wanting for a step.
 fn is_for_memory(fault: TurnFault) -> bool
@@ -38,7 +30,7 @@ fn end_of(fault: TurnFault) -> StreamEnd
 
 /// Lets some time pass before a stream is cut.
 pub(crate) fn linger<C: Clock>(clock: &mut C) {
-    clock.pause(PAUSE);
+    clock.pause(PAUSE_MS);
 }
 
 /// Lets the source of a stream that is about to be cut rest, where it is to.
@@ -64,8 +56,15 @@ pub(crate) fn cut<T: Turn, C: Clock>(
     ensures cut { IsCut (IsTrue (T.worn turn.new)) stream end result
         (T.made turn.old) (T.made turn.new) }
 {
-    let done = turn.turn(CoreEvent::Cut { stream }, clock);
-    if is_worn(&done) { StreamEnd::Worn } else { end }
+    let fault = match turn.turn(CoreEvent::Cut { stream }, clock) {
+        Ok(_) => return end,
+        Err(fault) => fault,
+    };
+    if fault.is_worn() {
+        StreamEnd::Worn
+    } else {
+        end
+    }
 }
 
 /// Feeds a message. None where the stream goes on.

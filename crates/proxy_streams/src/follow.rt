@@ -1,10 +1,11 @@
 ghost use Rattle.std.specs.Prelude.{◌≡◌, IsTrue};
-ghost use Rattle.server_model.specs.Following.{Following, is_cancel};
+ghost use Rattle.server_model.specs.Following.{Following};
 ghost use Rattle.server_model.specs.StreamParts.{IsFollowed};
 
 use crate::feed::{cut, feed_from, linger, rest_if};
 use crate::next::{cut_at, next, open};
 use etcd_types::WatchItem;
+use http_talk::is_cancel;
 use http_wire::Wire;
 use outside::{AnswerEnd, CallKind, Clock, Follow, Link, LinkFault, Source};
 use proxy_server::Turn;
@@ -18,13 +19,6 @@ fn has_events(item: &WatchItem) -> bool {
         WatchItem::Events { events, .. } => !events.as_slice().is_empty(),
         WatchItem::Created(_) | WatchItem::Canceled { .. } => false,
     }
-}
-
-/// Whether a message ends its watch.
-fn is_cancel(item: &WatchItem) -> bool
-    ensures { result ≡ is_cancel item.now }
-{
-    matches!(item, WatchItem::Canceled { .. })
 }
 
 /// Whether a message ends its watch for another cause than a compaction: the core opens such a stream again at once.

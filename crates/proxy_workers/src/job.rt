@@ -14,7 +14,7 @@ use std::alloc::Global;
 
 /// How long a worker pauses where nobody could be started to follow a stream, in milliseconds: a core begins a stream that was cut
 /// again at once, and would turn for ever.
-const PAUSE: u64 = 250;
+const PAUSE_MS: u64 = 250;
 
 /// The host of a member, from 1 on, or nothing where there is none.
 fn host_of(hosts: &List<Bytes>, member: u32) -> &[u8]
@@ -122,7 +122,7 @@ where
         Ok(()) => return None,
         Err(_) => {}
     }
-    clock.pause(PAUSE);
+    clock.pause(PAUSE_MS);
     feed(turn, clock, CoreEvent::Cut { stream }, None)
 }
 

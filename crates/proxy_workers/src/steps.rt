@@ -1,5 +1,4 @@
 ghost use Rattle.std.specs.Prelude.{◌≡◌, Err, IsTrue};
-ghost use Rattle.server_model.specs.Dialog.{is_worn};
 ghost use Rattle.server_model.specs.Working.{IsFed, IsReported, is_full};
 
 use core_model::{CoreEvent, StepFault};
@@ -7,13 +6,6 @@ use etcd_types::Answer;
 use outside::Clock;
 use proxy_server::Turn;
 use server_model::{TurnFault, WorkEnd};
-
-/// Whether the turn makes no more steps.
-fn is_worn(fault: TurnFault) -> bool
-    ensures { result ≡ is_worn (Err fault) }
-{
-    matches!(fault, TurnFault::Worn)
-}
 
 /// Whether memory was wanting for a step.
 fn is_full(fault: TurnFault) -> bool
@@ -39,7 +31,7 @@ pub(crate) fn feed<T: Turn, C: Clock>(
         Ok(_) => return end,
         Err(fault) => fault,
     };
-    if is_worn(fault) {
+    if fault.is_worn() {
         Some(WorkEnd::Worn)
     } else {
         end
@@ -63,7 +55,7 @@ pub(crate) fn report<T: Turn, C: Clock>(
         Ok(_) => return None,
         Err(fault) => fault,
     };
-    if is_worn(fault) {
+    if fault.is_worn() {
         Some(WorkEnd::Worn)
     } else if is_full(fault) {
         feed(

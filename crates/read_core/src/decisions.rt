@@ -78,18 +78,24 @@ pub(crate) fn called(step: u64) -> Stage
     Stage::Calling(Sending::Due { since: step })
 }
 
-/// The session under which a key without entry and acquire may be acquired: where keys such as it are owned at all, no write is over
-/// it, the leasing stream stands created, and its quiet moment has passed.
-pub fn under(
-    session: Option<u64>,
-    ownable: bool,
-    written: bool,
-    created: bool,
-    rested: bool,
-) -> Option<u64>
-    ensures { result ≡ under_if session ownable written created rested }
+/// What is known of a key without entry and acquire.
+#[derive(Clone, Copy, Debug, PartialEq, Eq)]
+pub struct Unowned {
+    /// Keys such as it are owned at all.
+    pub ownable: bool,
+    /// A write is over it.
+    pub written: bool,
+    /// The leasing stream is created.
+    pub created: bool,
+    /// Its quiet moment has passed.
+    pub rested: bool,
+}
+
+/// The session under which a key without entry and acquire may be acquired.
+pub fn under(session: Option<u64>, key: Unowned) -> Option<u64>
+    ensures { result ≡ under_if session key.ownable key.written key.created key.rested }
 {
-    if !written && ownable && created && rested {
+    if !key.written && key.ownable && key.created && key.rested {
         session
     } else {
         None

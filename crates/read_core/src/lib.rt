@@ -7,7 +7,7 @@ mod records;
 mod releases;
 mod standing;
 
-pub use decisions::{Decision, decide, under};
+pub use decisions::{Decision, Unowned, decide, under};
 pub use readers::{lose_reader, reader_changes};
 pub use records::shown;
 pub use releases::{release, release_at};

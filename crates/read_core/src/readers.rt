@@ -64,7 +64,9 @@ pub fn reader_changes(
     held: Option<Header>,
     step: u64,
 ) -> Result<Vec<(u64, Stage)>, NoMemory>
-    ensures { IfOk result (λ changes. restaged changes.items asks.now ≡ map (staged_by (readers_stage key.now (shown header (option_copied kv.entry)) (joined_stage held (option_copied kv.entry) step))) asks.now) }
+    ensures { IfOk result (λ changes. restaged changes.items asks.now
+        ≡ map (staged_by (readers_stage key.now (shown header (option_copied kv.entry))
+        (joined_stage held (option_copied kv.entry) step))) asks.now) }
 {
     let readers = Readers {
         key,

@@ -19,7 +19,7 @@ use acquire_rows::Acquires;
 use etcd_types::{Bytes, NoMemory};
 use known_asks::{Asked, Asks, Stage, Verdict};
 use lease_table::LeaseTable;
-use read_core::{Decision, decide, key_of, under};
+use read_core::{Decision, Unowned, decide, key_of, under};
 use revoke_core::Waits;
 use std::alloc::Global;
 
@@ -110,8 +110,12 @@ fn decide_free(
     acquires: &Acquires,
 ) -> Result<Decision, NoMemory>
     requires { contains (leasing_range waits.now.prefix) key.now ≡ false }
-    ensures stage { IfOk result (λ d. d.stage ≡ (read_turn m.entry.now.header waits.now.step None (is_some (at acquires.now key.now)) (acquirable m.entry.now (owned [] waits.now) key.now)).stage) }
-    ensures under { IfOk result (λ d. d.under ≡ (read_turn m.entry.now.header waits.now.step None (is_some (at acquires.now key.now)) (acquirable m.entry.now (owned [] waits.now) key.now)).under) }
+    ensures stage { IfOk result (λ d. d.stage
+        ≡ (read_turn m.entry.now.header waits.now.step None (is_some (at acquires.now key.now))
+        (acquirable m.entry.now (owned [] waits.now) key.now)).stage) }
+    ensures under { IfOk result (λ d. d.under
+        ≡ (read_turn m.entry.now.header waits.now.step None (is_some (at acquires.now key.now))
+        (acquirable m.entry.now (owned [] waits.now) key.now)).under) }
 {
     if acquires.find(key).is_some() {
         return Ok(decide(alloc, m.header, waits.step(), None, true, None)?);
@@ -126,9 +130,13 @@ fn session_for(m: &Moment, key: &Bytes, waits: &Waits) -> Option<u64>
     requires { contains (leasing_range waits.now.prefix) key.now ≡ false }
     ensures { result ≡ acquirable m.entry.now (owned [] waits.now) key.now }
 {
-    let ownable = !waits.prefix().is_empty() && !key.is_empty();
-    let rested = waits.quiet(key) <= m.now;
-    under(m.session, ownable, waits.is_written(key), m.created, rested)
+    let known = Unowned {
+        ownable: !waits.prefix().is_empty() && !key.is_empty(),
+        written: waits.is_written(key),
+        created: m.created,
+        rested: waits.quiet(key) <= m.now,
+    };
+    under(m.session, known)
 }
 
 /// The verdict of a stage that has one, or the stage.
@@ -217,6 +225,7 @@ fn begin_acquire(
     ensures err_waits { OnErr result (waits.new ≡ waits.old) }
     ensures err_acquires { OnErr result (acquires.new ≡ acquires.old) }
 {
+    // For the prover: the acquires are in the order of their keys.
     let _rows = acquires.as_slice();
     acquires.begin(alloc, key, ticket, session, waits.step())?;
     match waits.begin_acquire(key) {

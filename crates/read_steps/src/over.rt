@@ -61,6 +61,7 @@ impl Reads {
         requires { FitTogether self.old }
         ensures { self.new ≡ left_by m.entry.now ticket self.old }
     {
+        // For the prover: no ticket is there twice.
         let _rows = self.asks.rows();
         end_by_ticket(
             self.alloc,
@@ -139,9 +140,11 @@ fn end_one(
     requires one { OneOwner (owned table.old.entries waits.old) }
     ensures asks { asks.new ≡ one_changed ticket (timed_out_ask now) asks.old }
     ensures one { OneOwner (owned table.new.entries waits.new) }
-    ensures same { ended (times_out now) (reads table.new.entries waits.new acquires.new asks.new) ≡ ended (times_out now) (reads table.old.entries waits.old acquires.old asks.old) }
+    ensures same { ended (times_out now) (reads table.new.entries waits.new acquires.new asks.new)
+        ≡ ended (times_out now) (reads table.old.entries waits.old acquires.old asks.old) }
     ensures nothing { result ≡ false → ground table.new.entries waits.new acquires.new ≡ ground table.old.entries waits.old acquires.old }
 {
+    // For the prover: no ticket is there twice.
     let _rows = asks.rows();
     let more = end_by_ticket(alloc, ticket, asks, waits, table, acquires);
     asks.set_stage(ticket, Stage::Replied(Verdict::TimedOut));
@@ -234,6 +237,7 @@ fn end_by_ticket(
     ensures acquires { acquires.new ≡ (ended (has_ticket ticket) (reads table.old.entries waits.old acquires.old asks.now)).acquires }
     ensures nothing { result ≡ false → ended (has_ticket ticket) (reads table.old.entries waits.old acquires.old asks.now) ≡ ground table.old.entries waits.old acquires.old }
 {
+    // For the prover: no ticket is there twice.
     let _rows = asks.rows();
     match asks.find(ticket) {
         Some(ask) => end_if_more(alloc, ask, waits, table, acquires),
@@ -269,6 +273,7 @@ fn end_due(waits: &mut Waits, acquires: &mut Acquires)
     ensures waits { waits.new ≡ record waits.old { spoiled = without (λ k. is_due_acquire (at acquires.old k)) waits.old.spoiled } }
     ensures acquires { acquires.new ≡ without (λ k. is_due_acquire (at acquires.old k)) acquires.old }
 {
+    // For the prover: the acquires are in the order of their keys.
     let _rows = acquires.as_slice();
     waits.end_acquires(&DueAt { acquires });
     acquires.remove_due();

@@ -1,10 +1,10 @@
 ghost use Rattle.std.specs.Prelude.{◌≡◌, ◌+◌, ◌++◌, ◌∷◌, [], Some, OnOk, IfOk, count_by};
-ghost use Rattle.proxy_model.specs.Snapshot.{is_plain, is_unsorted};
 ghost use Rattle.replay_counts.specs.Tallies.{asked_first, is_in, is_unsent_name, no_tally, noted, noted_all, unsent_of, with_name};
 ghost use Rattle.world_model.specs.Generated.{is_plain_read};
 
-use etcd_types::{List, NoMemory, RangeAsk, Request, Sort};
+use etcd_types::{List, NoMemory, Request};
 use script_text::Item;
+use snapshot_reads::is_plain;
 use std::alloc::Global;
 use std::collections::BTreeSet;
 
@@ -103,26 +103,4 @@ fn is_plain_read(request: &Request) -> bool
         Request::Range(ask) => is_plain(ask),
         _ => false,
     }
-}
-
-fn is_plain(ask: &RangeAsk) -> bool
-    ensures { result ≡ is_plain ask.now }
-{
-    ask.range.is_one()
-        && ask.revision == 0
-        && !ask.serializable
-        && !ask.keys_only
-        && !ask.count_only
-        && is_unsorted(ask.sort)
-}
-
-fn is_unsorted(sort: Sort) -> bool
-    ensures { result ≡ is_unsorted sort }
-{
-    sort.order == 0
-        && sort.target == 0
-        && sort.min_mod == 0
-        && sort.max_mod == 0
-        && sort.min_create == 0
-        && sort.max_create == 0
 }

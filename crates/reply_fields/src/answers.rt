@@ -12,13 +12,11 @@ use crate::refusals::refusal_in;
 use crate::responses::txn_body;
 use etcd_types::{Answer, Body, Reply, Request};
 use json_fields::{FieldFault, child, wrong_kind};
+use json_model::DEPTH_MAX;
 use json_model::names::*;
 use json_model::reply_names::*;
 use serde_json::{Map, Value};
 use std::alloc::Global;
-
-/// JSON nests no deeper, so no body has as many transactions round one another.
-const DEPTH_MAX: u64 = 127;
 
 /// The object in `result`, which has to be there.
 pub(crate) fn result_in<'a>(

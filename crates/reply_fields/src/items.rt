@@ -15,30 +15,39 @@ use json_model::reply_names::*;
 use serde_json::{Map, Value};
 use std::alloc::Global;
 
-/// `created`, `canceled`, and the compaction revision.
+/// What a message of a watch says beside its header and events.
+#[derive(Drop)]
+struct Marks {
+    created: bool,
+    canceled: bool,
+    /// The compaction revision.
+    compact: u64,
+}
+
 #[tactic(auto, unfolding(json_model::specs::WatchItems::marks_in))]
-fn marks_in(alloc: Global, object: &Map<String, Value>) -> Result<(bool, bool, u64), FieldFault>
-    ensures { Gives (λ x. (x.0, x.1, x.2)) result (spec.marks_in (members_view object.now.entries)) }
+fn marks_in(alloc: Global, object: &Map<String, Value>) -> Result<Marks, FieldFault>
+    ensures { Gives (λ x. (x.created, x.canceled, x.compact)) result (spec.marks_in (members_view object.now.entries)) }
 {
     let created = flag(alloc, object, &CREATED)?;
     let canceled = flag(alloc, object, &CANCELED)?;
     let compact = number(alloc, object, &COMPACT_REVISION)?;
-    Ok((created, canceled, compact))
+    Ok(Marks {
+        created,
+        canceled,
+        compact,
+    })
 }
 
 /// A cancellation counts before the rest, and the mark of the first message before events.
-fn item_by(
-    created: bool,
-    canceled: bool,
-    header: Header,
-    compact: u64,
-    events: List<Event>,
-) -> WatchItem
-    ensures { result ≡ spec.item_by created canceled header compact events }
+fn item_by(marks: Marks, header: Header, events: List<Event>) -> WatchItem
+    ensures { result ≡ spec.item_by marks.created marks.canceled header marks.compact events }
 {
-    if canceled {
-        WatchItem::Canceled { header, compact }
-    } else if created {
+    if marks.canceled {
+        WatchItem::Canceled {
+            header,
+            compact: marks.compact,
+        }
+    } else if marks.created {
         WatchItem::Created(header)
     } else {
         WatchItem::Events { header, events }
@@ -54,7 +63,7 @@ pub fn item_in(alloc: Global, object: &Map<String, Value>) -> Result<WatchItem, 
     let message = result_in(alloc, object)?;
     once_message_fields(alloc, message)?;
     let header = header_in(alloc, message)?;
-    let (created, canceled, compact) = marks_in(alloc, message)?;
+    let marks = marks_in(alloc, message)?;
     let events = events_in(alloc, message)?;
-    Ok(item_by(created, canceled, header, compact, events))
+    Ok(item_by(marks, header, events))
 }

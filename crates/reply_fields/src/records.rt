@@ -13,19 +13,20 @@ use json_model::reply_names::*;
 use serde_json::{Map, Value};
 use std::alloc::Global;
 
-/// The cluster, the member, the revision and the term of a header.
 #[tactic(auto, unfolding(json_model::specs::Replies::numbers_in))]
-fn numbers_in(
-    alloc: Global,
-    object: &Map<String, Value>,
-) -> Result<(u64, u64, u64, u64), FieldFault>
-    ensures { Gives (λ x. (x.0, x.1, x.2, x.3)) result (spec.numbers_in (members_view object.now.entries)) }
+fn numbers_in(alloc: Global, object: &Map<String, Value>) -> Result<Header, FieldFault>
+    ensures { Gives (λ x. (x.cluster, x.member, x.revision, x.term)) result (spec.numbers_in (members_view object.now.entries)) }
 {
     let cluster = wide_number(alloc, object, &CLUSTER_ID)?;
     let member = wide_number(alloc, object, &MEMBER_ID)?;
     let revision = number(alloc, object, &REVISION)?;
     let term = number(alloc, object, &RAFT_TERM)?;
-    Ok((cluster, member, revision, term))
+    Ok(Header {
+        cluster,
+        member,
+        revision,
+        term,
+    })
 }
 
 #[tactic(auto, unfolding(json_model::specs::Replies::header_from))]
@@ -33,13 +34,7 @@ fn header_from(alloc: Global, object: &Map<String, Value>) -> Result<Header, Fie
     ensures { Gives (λ header. header) result (spec.header_from (members_view object.now.entries)) }
 {
     once_header_fields(alloc, object)?;
-    let (cluster, member, revision, term) = numbers_in(alloc, object)?;
-    Ok(Header {
-        cluster,
-        member,
-        revision,
-        term,
-    })
+    Ok(numbers_in(alloc, object)?)
 }
 
 /// The header of a reply. A missing one is four zeros.
@@ -53,19 +48,29 @@ pub(crate) fn header_in(alloc: Global, object: &Map<String, Value>) -> Result<He
     }
 }
 
-/// The create revision, the mod revision, the version and the lease of a record.
+/// The numbers of a record.
+#[derive(Drop)]
+struct Revisions {
+    create: u64,
+    modified: u64,
+    version: u64,
+    lease: u64,
+}
+
 #[tactic(auto, unfolding(json_model::specs::Replies::revisions_in))]
-fn revisions_in(
-    alloc: Global,
-    object: &Map<String, Value>,
-) -> Result<(u64, u64, u64, u64), FieldFault>
-    ensures { Gives (λ x. (x.0, x.1, x.2, x.3)) result (spec.revisions_in (members_view object.now.entries)) }
+fn revisions_in(alloc: Global, object: &Map<String, Value>) -> Result<Revisions, FieldFault>
+    ensures { Gives (λ x. (x.create, x.modified, x.version, x.lease)) result (spec.revisions_in (members_view object.now.entries)) }
 {
     let create = number(alloc, object, &CREATE_REVISION)?;
     let modified = number(alloc, object, &MOD_REVISION)?;
     let version = number(alloc, object, &VERSION)?;
     let lease = number(alloc, object, &LEASE)?;
-    Ok((create, modified, version, lease))
+    Ok(Revisions {
+        create,
+        modified,
+        version,
+        lease,
+    })
 }
 
 #[tactic(auto, unfolding(json_model::specs::Replies::record_from))]
@@ -75,14 +80,14 @@ pub(crate) fn record_from(alloc: Global, object: &Map<String, Value>) -> Result<
     once_record_fields(alloc, object)?;
     let key = bytes(alloc, object, &KEY)?;
     let value = bytes(alloc, object, &VALUE)?;
-    let (create, modified, version, lease) = revisions_in(alloc, object)?;
+    let numbers = revisions_in(alloc, object)?;
     Ok(Kv {
         key,
         value,
-        create,
-        modified,
-        version,
-        lease,
+        create: numbers.create,
+        modified: numbers.modified,
+        version: numbers.version,
+        lease: numbers.lease,
     })
 }
 

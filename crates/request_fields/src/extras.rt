@@ -123,7 +123,8 @@ fn list_extra(
     names: &Names,
     depth: u64,
 ) -> Option<Extra>
-    ensures { result ≡ spec.within_list (spec.value_extra reading (spec.txn_extra reading depth)) (found names.now.plain.now names.now.camel.now (members_view object.now.entries)) }
+    ensures { result ≡ spec.within_list (spec.value_extra reading (spec.txn_extra reading depth))
+        (found names.now.plain.now names.now.camel.now (members_view object.now.entries)) }
 {
     match array_at(object, names) {
         Some(items) => items_extra(reading, items.as_slice(), depth),

@@ -45,30 +45,51 @@ fn sorting_in(alloc: Global, object: &Map<String, Value>) -> Result<(u8, u8), Fi
     Ok((order, target))
 }
 
-/// Serializable, keys only, count only.
+/// What a range shows.
+#[derive(Drop)]
+struct RangeFlags {
+    serializable: bool,
+    keys_only: bool,
+    count_only: bool,
+}
+
 #[tactic(auto, unfolding(json_model::specs::Requests::range_flags_in))]
-fn range_flags_in(
-    alloc: Global,
-    object: &Map<String, Value>,
-) -> Result<(bool, bool, bool), FieldFault>
-    ensures { Gives (λ x. (x.0, x.1, x.2)) result (spec.range_flags_in (members_view object.now.entries)) }
+fn range_flags_in(alloc: Global, object: &Map<String, Value>) -> Result<RangeFlags, FieldFault>
+    ensures { Gives (λ x. (x.serializable, x.keys_only, x.count_only)) result (spec.range_flags_in (members_view object.now.entries)) }
 {
     let serializable = flag(alloc, object, &SERIALIZABLE)?;
     let keys_only = flag(alloc, object, &KEYS_ONLY)?;
     let count_only = flag(alloc, object, &COUNT_ONLY)?;
-    Ok((serializable, keys_only, count_only))
+    Ok(RangeFlags {
+        serializable,
+        keys_only,
+        count_only,
+    })
 }
 
 /// The least and the greatest mod revision, and the same of the create revision.
+#[derive(Drop)]
+struct Bounds {
+    min_mod: u64,
+    max_mod: u64,
+    min_create: u64,
+    max_create: u64,
+}
+
 #[tactic(auto, unfolding(json_model::specs::Requests::bounds_in))]
-fn bounds_in(alloc: Global, object: &Map<String, Value>) -> Result<(u64, u64, u64, u64), FieldFault>
-    ensures { Gives (λ x. (x.0, x.1, x.2, x.3)) result (spec.bounds_in (members_view object.now.entries)) }
+fn bounds_in(alloc: Global, object: &Map<String, Value>) -> Result<Bounds, FieldFault>
+    ensures { Gives (λ x. (x.min_mod, x.max_mod, x.min_create, x.max_create)) result (spec.bounds_in (members_view object.now.entries)) }
 {
     let min_mod = number(alloc, object, &MIN_MOD)?;
     let max_mod = number(alloc, object, &MAX_MOD)?;
     let min_create = number(alloc, object, &MIN_CREATE)?;
     let max_create = number(alloc, object, &MAX_CREATE)?;
-    Ok((min_mod, max_mod, min_create, max_create))
+    Ok(Bounds {
+        min_mod,
+        max_mod,
+        min_create,
+        max_create,
+    })
 }
 
 #[tactic(auto, unfolding(json_model::specs::Requests::range_in))]
@@ -79,22 +100,22 @@ pub fn range_in(alloc: Global, object: &Map<String, Value>) -> Result<RangeAsk, 
     let range = key_range_in(alloc, object)?;
     let (limit, revision) = limits_in(alloc, object)?;
     let (order, target) = sorting_in(alloc, object)?;
-    let (serializable, keys_only, count_only) = range_flags_in(alloc, object)?;
-    let (min_mod, max_mod, min_create, max_create) = bounds_in(alloc, object)?;
+    let flags = range_flags_in(alloc, object)?;
+    let bounds = bounds_in(alloc, object)?;
     Ok(RangeAsk {
         range,
         revision,
         limit,
-        serializable,
-        keys_only,
-        count_only,
+        serializable: flags.serializable,
+        keys_only: flags.keys_only,
+        count_only: flags.count_only,
         sort: Sort {
             order,
             target,
-            min_mod,
-            max_mod,
-            min_create,
-            max_create,
+            min_mod: bounds.min_mod,
+            max_mod: bounds.max_mod,
+            min_create: bounds.min_create,
+            max_create: bounds.max_create,
         },
     })
 }

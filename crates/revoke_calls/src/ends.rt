@@ -27,6 +27,7 @@ fn take_left(left: Left, table: &mut LeaseTable)
     ensures { table.new.entries ≡ with_at table.old.entries left.key (wrote_turn left.kv (at table.old.entries left.key)) }
 {
     let Left { key, kv } = left;
+    // For the prover: the entries are in the order of their keys.
     let _count = table.len();
     if !is_writing(table.find(&key)) {
         return;
@@ -39,6 +40,7 @@ pub fn drop_owned(write: &Write, table: &mut LeaseTable)
     requires { is_proper write.now ≡ true }
     ensures { table.new.entries ≡ without (owns_at write.now table.old.entries) table.old.entries }
 {
+    // For the prover: the entries are in the order of their keys.
     let _count = table.len();
     if is_owner(&write.stage) {
         drop_keys(write.ranges.as_slice(), table);
@@ -56,6 +58,7 @@ fn drop_keys(ranges: &[KeyRange], table: &mut LeaseTable)
 fn drop_key(key: &Bytes, table: &mut LeaseTable)
     ensures { table.new.entries ≡ with_at table.old.entries key.now (dropped_turn key.now (at table.old.entries key.now)) }
 {
+    // For the prover: the entries are in the order of their keys.
     let _count = table.len();
     if is_writing(table.find(key)) {
         table.remove(key);
@@ -69,6 +72,7 @@ pub fn keep_shown(write: &Write, owners: &[Owner], table: &mut LeaseTable)
     ensures entries { table.new.entries ≡ kept_entries write.now owners.now table.old.entries }
     ensures room { table.old.spare ≤ table.new.spare }
 {
+    // For the prover: the entries are in the order of their keys.
     let _count = table.len();
     if is_owner(&write.stage) {
         keep_keys(write.ranges.as_slice(), owners, table);
@@ -88,6 +92,7 @@ fn keep_key(key: &Bytes, owners: &[Owner], table: &mut LeaseTable)
     ensures entries { table.new.entries ≡ with_at table.old.entries key.now (kept_turn owners.now key.now (at table.old.entries key.now)) }
     ensures room { table.old.spare ≤ table.new.spare }
 {
+    // For the prover: the entries are in the order of their keys.
     let _count = table.len();
     if is_writing(table.find(key)) {
         if is_shown(owners, key, table) {

@@ -69,6 +69,7 @@ fn settle_keys(ranges: &[KeyRange], fate: Fate, table: &mut LeaseTable)
 fn settle_key(key: &Bytes, fate: Fate, table: &mut LeaseTable)
     ensures { table.new.entries ≡ each (settled_at fate key.now) table.old.entries }
 {
+    // For the prover: the entries are in the order of their keys.
     let _count = table.len();
     if is_writing(table.find(key)) {
         set_fate(key, fate, table);

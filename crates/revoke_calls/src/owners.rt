@@ -39,7 +39,9 @@ fn add_other(
     table: &LeaseTable,
     others: &mut Rows<Owner>,
 ) -> Result<(), NoMemory>
-    ensures { OnOk result (others.new ≡ (if not (is_kept write.now table.now.entries owners.now owner.now.key) then with_at others.old owner.now.key (Some owner.now) else others.old)) }
+    ensures { OnOk result (others.new
+        ≡ (if not (is_kept write.now table.now.entries owners.now owner.now.key)
+        then with_at others.old owner.now.key (Some owner.now) else others.old)) }
 {
     if !is_kept(write, owners, &owner.key, table) {
         others.put(owner.key.copy(alloc)?, copy_owner(alloc, owner)?)?;

@@ -77,6 +77,7 @@ fn revoke_entry(session: Option<u64>, key: Bytes, create: u64, lease: u64, table
     ensures entries { table.new.entries ≡ revoked_entry session key create lease table.old.entries }
     ensures room { table.old.spare ≤ table.new.spare + 1 }
 {
+    // For the prover: the entries are in the order of their keys.
     let _count = table.len();
     if is_of(table.find(&key), create) {
         table.give_up(&key);
@@ -90,6 +91,7 @@ fn take_deleted(key: &Bytes, revision: u64, table: &mut LeaseTable)
     ensures entries { table.new.entries ≡ deleted_entries key.now revision table.old.entries }
     ensures room { table.old.spare ≤ table.new.spare }
 {
+    // For the prover: the entries are in the order of their keys.
     let _count = table.len();
     if is_older(table.find(key), revision) {
         if is_held(table.find(key)) {

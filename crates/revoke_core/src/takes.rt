@@ -19,7 +19,7 @@ use std::alloc::Global;
 use wait_model::{Settled, Write, WriteStage};
 
 /// How long a key rests once it was given up, in milliseconds.
-const REST: u64 = 2000;
+const REST_MS: u64 = 2000;
 
 /// When an answer is taken, and under which session.
 #[derive(Clone, Copy)]
@@ -105,7 +105,7 @@ fn end_entry(
     if !is_of(table.find(&key), create) {
         return Ok(());
     }
-    quiet.put(key.copy(alloc)?, now.saturating_add(REST))?;
+    quiet.put(key.copy(alloc)?, now.saturating_add(REST_MS))?;
     table.remove(&key);
     Ok(())
 }
@@ -155,7 +155,9 @@ fn fail_call(
     table: &mut LeaseTable,
 ) -> Result<(), NoMemory>
     requires { are_proper writes.old.items ≡ true }
-    ensures writes { OnOk result (writes.new.items ≡ failed_writes when.session when.step call owners.now table.old.entries (first_by (sends call) writes.old.items) writes.old.items) }
+    ensures writes { OnOk result (writes.new.items
+        ≡ failed_writes when.session when.step call owners.now table.old.entries
+        (first_by (sends call) writes.old.items) writes.old.items) }
     ensures entries { OnOk result (table.new.entries ≡ failed_if when.session owners.now (first_by (sends call) writes.old.items) table.old.entries) }
     ensures err_writes { OnErr result (writes.new.items ≡ writes.old.items) }
     ensures err_entries { OnErr result (table.new.entries ≡ table.old.entries) }

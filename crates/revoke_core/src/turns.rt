@@ -223,6 +223,7 @@ fn let_go(write: &Write, table: &mut LeaseTable)
 fn let_go_key(request: &Request, key: &Bytes, table: &mut LeaseTable)
     ensures { table.new.entries ≡ each (let_go_at request.now key.now) table.old.entries }
 {
+    // For the prover: the entries are in the order of their keys.
     let _count = table.len();
     if is_held(table.find(key)) && is_leased(request, key) {
         table.leave(key);
@@ -242,6 +243,7 @@ fn begin(write: &Write, table: &mut LeaseTable)
 fn begin_key(key: &Bytes, table: &mut LeaseTable)
     ensures { table.new.entries ≡ each (begun_at key.now) table.old.entries }
 {
+    // For the prover: the entries are in the order of their keys.
     let _count = table.len();
     if is_held(table.find(key)) {
         table.begin_write(key);

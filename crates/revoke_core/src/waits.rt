@@ -188,8 +188,11 @@ impl Waits {
         answer: Answer,
         table: &LeaseTable,
     ) -> Result<ReadAnswer, NotShape>
-        ensures { (session : Option ℕ) (now : ℕ) → IsRead result (λ r. taken call r session now (owned table.now.entries self.now)) (answered call answer session now (owned table.now.entries self.now)) }
+        ensures { (session : Option ℕ) (now : ℕ)
+            → IsRead result (λ r. taken call r session now (owned table.now.entries self.now))
+            (answered call answer session now (owned table.now.entries self.now)) }
     {
+        // For the prover: the entries are in the order of their keys.
         let _count = table.len();
         read_call(
             self.alloc,

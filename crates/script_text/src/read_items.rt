@@ -53,13 +53,13 @@ pub(crate) fn read_item_words(alloc: Global, words: &mut Words) -> Result<Item, 
         let proxy = read_proxy(words)?;
         Ok(Item::Ticked { proxy })
     } else if is_word(name, "sent") {
-        let (proxy, call, member, ticket, request) = read_sent(alloc, words)?;
+        let sent = read_sent(alloc, words)?;
         Ok(Item::Sent {
-            proxy,
-            call,
-            member,
-            ticket,
-            request,
+            proxy: sent.proxy,
+            call: sent.call,
+            member: sent.member,
+            ticket: sent.ticket,
+            request: sent.request,
         })
     } else {
         Ok(read_stream_item(alloc, name, words)?)
@@ -72,12 +72,12 @@ fn read_stream_item(alloc: Global, name: &[u8], words: &mut Words) -> Result<Ite
     ensures { Gives (λ i. (i, words.new)) result (into stream_to (stream_item.read (name.now ∷ words.old))) }
 {
     if is_word(name, "opened") {
-        let (proxy, stream, member, request) = read_opened(alloc, words)?;
+        let opened = read_opened(alloc, words)?;
         Ok(Item::Opened {
-            proxy,
-            stream,
-            member,
-            request,
+            proxy: opened.proxy,
+            stream: opened.stream,
+            member: opened.member,
+            request: opened.request,
         })
     } else if is_word(name, "closed") {
         let (proxy, stream) = read_of_proxy(words)?;
@@ -107,12 +107,12 @@ fn read_stream_item(alloc: Global, name: &[u8], words: &mut Words) -> Result<Ite
             answer,
         })
     } else if is_word(name, "body") {
-        let (proxy, ticket, status, text) = read_body(alloc, words)?;
+        let body = read_body(alloc, words)?;
         Ok(Item::Body {
-            proxy,
-            ticket,
-            status,
-            text,
+            proxy: body.proxy,
+            ticket: body.ticket,
+            status: body.status,
+            text: body.text,
         })
     } else {
         Ok(read_other_item(alloc, name, words)?)
@@ -165,8 +165,18 @@ fn read_of_proxy(words: &mut Words) -> Result<(u64, u64), ReadError>
     Ok((proxy, number))
 }
 
-fn read_sent(alloc: Global, words: &mut Words) -> Result<(u64, u64, u64, u64, Request), ReadError>
-    ensures { Gives (λ x. ((x.0, (x.1, (x.2, (x.3, x.4)))), words.new)) result
+/// A call that was sent.
+#[derive(Drop)]
+struct Sent {
+    proxy: u64,
+    call: u64,
+    member: u64,
+    ticket: u64,
+    request: Request,
+}
+
+fn read_sent(alloc: Global, words: &mut Words) -> Result<Sent, ReadError>
+    ensures { Gives (λ x. ((x.proxy, (x.call, (x.member, (x.ticket, x.request)))), words.new)) result
         ((both proxy (both number (both number (both number request)))).read words.old) }
 {
     let proxy = read_proxy(words)?;
@@ -174,27 +184,61 @@ fn read_sent(alloc: Global, words: &mut Words) -> Result<(u64, u64, u64, u64, Re
     let member = read_number(words)?;
     let ticket = read_number(words)?;
     let request = Request::read(alloc, words)?;
-    Ok((proxy, call, member, ticket, request))
+    Ok(Sent {
+        proxy,
+        call,
+        member,
+        ticket,
+        request,
+    })
 }
 
-fn read_opened(alloc: Global, words: &mut Words) -> Result<(u64, u64, u64, Request), ReadError>
-    ensures { Gives (λ x. ((x.0, (x.1, (x.2, x.3))), words.new)) result
+/// A stream that was opened.
+#[derive(Drop)]
+struct Opened {
+    proxy: u64,
+    stream: u64,
+    member: u64,
+    request: Request,
+}
+
+fn read_opened(alloc: Global, words: &mut Words) -> Result<Opened, ReadError>
+    ensures { Gives (λ x. ((x.proxy, (x.stream, (x.member, x.request))), words.new)) result
         ((both proxy (both number (both number request))).read words.old) }
 {
     let proxy = read_proxy(words)?;
     let stream = read_number(words)?;
     let member = read_number(words)?;
     let request = Request::read(alloc, words)?;
-    Ok((proxy, stream, member, request))
+    Ok(Opened {
+        proxy,
+        stream,
+        member,
+        request,
+    })
 }
 
-fn read_body(alloc: Global, words: &mut Words) -> Result<(u64, u64, u64, Bytes), ReadError>
-    ensures { Gives (λ x. ((x.0, (x.1, (x.2, x.3))), words.new)) result
+/// The status and the text of an answer.
+#[derive(Drop)]
+struct Body {
+    proxy: u64,
+    ticket: u64,
+    status: u64,
+    text: Bytes,
+}
+
+fn read_body(alloc: Global, words: &mut Words) -> Result<Body, ReadError>
+    ensures { Gives (λ x. ((x.proxy, (x.ticket, (x.status, x.text))), words.new)) result
         ((both proxy (both ticket (both number bytes))).read words.old) }
 {
     let proxy = read_proxy(words)?;
     let ticket = read_ticket(words)?;
     let status = read_number(words)?;
     let text = read_bytes(alloc, words)?;
-    Ok((proxy, ticket, status, text))
+    Ok(Body {
+        proxy,
+        ticket,
+        status,
+        text,
+    })
 }

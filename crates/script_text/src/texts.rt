@@ -7,7 +7,8 @@ ghost use Rattle.script_text.specs.declared.item.Item.{Item};
 ghost use Rattle.script_text.specs.Faults.{Reads};
 ghost use Rattle.script_text.specs.Lines.{line_form, line_text, line_at, is_line};
 ghost use Rattle.script_text.specs.Items.{item_form, item_text, item_at, is_item};
-ghost use Rattle.script_text.specs.Laws.{LinesAreReadBack, LinesHaveOneText, TextsOfLinesDiffer, ItemsAreReadBack, ItemsHaveOneText, TextsOfItemsDiffer, LinesPlaceTheFirstWrongWord, ItemsPlaceTheFirstWrongWord};
+ghost use Rattle.script_text.specs.Laws.{LinesAreReadBack, LinesHaveOneText, TextsOfLinesDiffer, ItemsAreReadBack, ItemsHaveOneText};
+ghost use Rattle.script_text.specs.Laws.{TextsOfItemsDiffer, LinesPlaceTheFirstWrongWord, ItemsPlaceTheFirstWrongWord};
 
 use crate::fault::LineFault;
 use crate::item::Item;

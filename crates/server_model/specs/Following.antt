@@ -2,14 +2,14 @@
 -- sends them; one step on Item for each, in order; and at its end one on Cut. It ends behind the message that cancels its watch, since
 -- a member leaves the body of such a stream open. `worn` says that the machine is worn at the end,
 -- `most` how many bytes a line may have, its line feed counted.
-use Rattle.std.specs.Prelude.{◌≡◌, ℕ, Bool, true, false, List, [], ◌∷◌, ◌++◌, map, Option, None, Some, IfSome, Result, Ok, Err, ⊤}
+use Rattle.std.specs.Prelude.{◌≡◌, ℕ, true, false, List, [], ◌∷◌, ◌++◌, map, Option, None, Some, IfSome, Result, Ok, Err, ⊤}
 use Rattle.outside.specs.Faults.{Rose}
 use Rattle.outside.specs.declared.link.AnswerEnd.{AnswerEnd}
 use Rattle.outside.specs.declared.link.AnswerEnd.TheVariants as answer
 use Rattle.etcd_types.specs.declared.watch.WatchItem.{WatchItem}
-use Rattle.etcd_types.specs.declared.watch.WatchItem.TheVariants.{Canceled}
 use Rattle.json_model.specs.declared.fault.NotReply.TheVariants.{Unreadable}
 use Rattle.json_model.specs.WatchItems.{item_of}
+use Rattle.http_talk.specs.Replies.{is_cancel}
 use Rattle.http_wire.specs.declared.fault.WireFault.{WireFault}
 use Rattle.http_wire.specs.declared.fault.WireFault.TheVariants as wire
 use Rattle.http_wire.specs.declared.message.AnswerHead.{AnswerHead}
@@ -59,11 +59,6 @@ lines_of messages = map (λ m. m.line) messages
 
 abbrev pub AreRead : List Message → Type 0
 AreRead messages = Every (λ m. item_of m.line ≡ Ok m.item) messages
-
--- a message that ends the watch
-abbrev pub is_cancel : WatchItem → Bool
-is_cancel (Canceled header compact) = true
-is_cancel _ = false
 
 -- none of them ends the watch
 abbrev pub AllGo : List Message → Type 0

@@ -1,3 +1,6 @@
+ghost use Rattle.std.specs.Prelude.{◌≡◌, Err};
+ghost use Rattle.server_model.specs.Dialog.{is_worn};
+
 use core_model::StepFault;
 use thiserror::Error;
 
@@ -10,6 +13,15 @@ pub enum TurnFault {
     /// The core's own.
     #[error(transparent)]
     Core(StepFault),
+}
+
+impl TurnFault {
+    /// Whether the turn makes no more steps.
+    pub fn is_worn(self) -> bool
+        ensures { result ≡ is_worn (Err self) }
+    {
+        matches!(self, TurnFault::Worn)
+    }
 }
 
 /// Why a call gave no answer.

@@ -99,6 +99,7 @@ impl<V> Slots<V> {
     pub(crate) fn find(&self, key: &Bytes) -> Option<&V>
         ensures { option_copied result ≡ at self.now.rows key.now }
     {
+        // For the prover: the rows are in the order of their keys.
         let _count = self.len();
         match self.place(key) {
             Ok(place) => Some(&self.row(place).1),

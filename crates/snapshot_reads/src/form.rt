@@ -4,13 +4,16 @@ ghost use Rattle.proxy_model.specs.Snapshot.{is_snapshot, names_nothing, is_plai
 
 use etcd_types::{Compare, List, Op, RangeAsk, Sort, TxnAsk};
 
-/// Whether the transaction is of reads and compares of single keys as they are now, and no list has more than 128 of them.
+/// The most compares or operations of one list.
+const LIST_LIMIT: usize = 128;
+
+/// Whether the transaction is of reads and compares of single keys as they are now, and no list is too long.
 pub(crate) fn is_snapshot(txn: &TxnAsk) -> bool
     ensures { result ≡ is_snapshot txn.now }
 {
-    txn.compare.len() <= 128
-        && txn.success.len() <= 128
-        && txn.failure.len() <= 128
+    txn.compare.len() <= LIST_LIMIT
+        && txn.success.len() <= LIST_LIMIT
+        && txn.failure.len() <= LIST_LIMIT
         && compare_ones(&txn.compare)
         && are_plain_reads(&txn.success)
         && are_plain_reads(&txn.failure)
@@ -46,7 +49,8 @@ fn is_plain_read(op: &Op) -> bool
     }
 }
 
-fn is_plain(ask: &RangeAsk) -> bool
+/// Whether it reads one key as it is now, and shows the whole record.
+pub fn is_plain(ask: &RangeAsk) -> bool
     ensures { result ≡ is_plain ask.now }
 {
     ask.range.is_one()

@@ -14,6 +14,7 @@ mod form;
 
 use compares::holds;
 use etcd_types::{Body, Bytes, Compare, Kv, List, NoMemory, Op, TxnAsk};
+pub use form::is_plain;
 use form::{is_snapshot, names_nothing};
 use std::alloc::Global;
 

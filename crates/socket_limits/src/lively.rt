@@ -7,16 +7,16 @@ use libc::net::{
 use std::net::TcpStream;
 use std::os::fd::AsRawFd;
 
-/// After so many seconds in which nothing came the other end is asked whether it is there, again each `PROBE` seconds, and `PROBES` times
-/// in all.
-const QUIET: u32 = 60;
+/// After so many seconds in which nothing came the other end is asked whether it is there, again each `PROBE_SECONDS`, and `PROBES`
+/// times in all.
+const QUIET_SECONDS: u32 = 60;
 
-const PROBE: u32 = 10;
+const PROBE_SECONDS: u32 = 10;
 
 const PROBES: u32 = 3;
 
 /// What isn't acknowledged within so many milliseconds ends the connection.
-const UNHEARD: u32 = 90_000;
+const UNHEARD_MS: u32 = 90_000;
 
 /// An option's value, as the system takes it: an `int` at the front.
 fn value(number: u32) -> [u8; 16] {
@@ -32,9 +32,9 @@ pub fn keep_lively(stream: &TcpStream) {
     // length is within the value, is proved as each other condition is.
     unsafe {
         let _ = setsockopt(socket, SOL_SOCKET, SO_KEEPALIVE, &value(1), 4);
-        let _ = setsockopt(socket, IPPROTO_TCP, TCP_KEEPIDLE, &value(QUIET), 4);
-        let _ = setsockopt(socket, IPPROTO_TCP, TCP_KEEPINTVL, &value(PROBE), 4);
+        let _ = setsockopt(socket, IPPROTO_TCP, TCP_KEEPIDLE, &value(QUIET_SECONDS), 4);
+        let _ = setsockopt(socket, IPPROTO_TCP, TCP_KEEPINTVL, &value(PROBE_SECONDS), 4);
         let _ = setsockopt(socket, IPPROTO_TCP, TCP_KEEPCNT, &value(PROBES), 4);
-        let _ = setsockopt(socket, IPPROTO_TCP, TCP_USER_TIMEOUT, &value(UNHEARD), 4);
+        let _ = setsockopt(socket, IPPROTO_TCP, TCP_USER_TIMEOUT, &value(UNHEARD_MS), 4);
     }
 }

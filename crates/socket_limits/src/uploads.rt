@@ -18,9 +18,9 @@ use std::{io, thread};
 pub(crate) const BYTES: u64 = 268_435_456;
 
 /// Where they have, one that waits for room looks again each so many milliseconds, and one of them is ended each so many.
-const PAUSE: u64 = 20;
+const PAUSE_MS: u64 = 20;
 
-const ENDS: u64 = 100;
+const ENDS_MS: u64 = 100;
 
 /// A large request that still comes.
 #[derive(Drop)]
@@ -218,7 +218,7 @@ impl Uploads {
                 if self.counts(bytes) {
                     return Ok(());
                 }
-                if self.pace.is_due(rt, ENDS) {
+                if self.pace.is_due(rt, ENDS_MS) {
                     self.end_slowest(rt, time(rt)?);
                 }
             }
@@ -226,7 +226,7 @@ impl Uploads {
                 return Err(io::Error::from(ErrorKind::ConnectionAborted));
             }
             until.left(rt)?;
-            thread::sleep(rt, Duration::from_millis(PAUSE));
+            thread::sleep(rt, Duration::from_millis(PAUSE_MS));
         }
         unreachable!()
     }

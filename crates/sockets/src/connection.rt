@@ -21,7 +21,7 @@ use std::time::Duration;
 /// How many pieces are read of what a client still sends when its connection is closed, and how long each is.
 const LINGER_PIECES: u32 = 16;
 
-const LINGER_PIECE: usize = 4_096;
+const LINGER_PIECE_BYTES: usize = 4_096;
 
 /// What both ends of a connection share. The two are used by one thread at a time.
 pub(crate) struct Shared {
@@ -203,7 +203,7 @@ pub fn linger<R: Wait + Times + Drop>(source: SocketSource<R>, sink: SocketSink<
     ) else {
         return 0;
     };
-    let mut room = [0u8; LINGER_PIECE];
+    let mut room = [0u8; LINGER_PIECE_BYTES];
     let mut limit = source.limit;
     let mut came = 0;
     for _ in 0..LINGER_PIECES {

@@ -8,10 +8,10 @@ use std::thread;
 use std::time::Duration;
 
 /// How long the connection that wakes a host may take, in milliseconds.
-const WAKING: u64 = 1_000;
+const WAKING_MS: u64 = 1_000;
 
 /// How often it is looked whether requests are still served, in milliseconds.
-const LOOK: u64 = 10;
+const LOOK_MS: u64 = 10;
 
 /// By what a process is told that it is to serve nobody any more: its host accepts no further connection, since something is wrong, or
 /// since it is to stop.
@@ -89,17 +89,17 @@ impl Halt {
     fn wake<R: Net<Stream = TcpStream> + Wait>(&self, rt: &R) {
         let address = *self.address.lock(rt);
         if let Some(address) = address {
-            let _ = TcpStream::connect_timeout(rt, &address, Duration::from_millis(WAKING));
+            let _ = TcpStream::connect_timeout(rt, &address, Duration::from_millis(WAKING_MS));
         }
     }
 
     /// Waits until no request is being served, so many milliseconds at most.
     pub fn finish<R: Times>(&self, rt: &R, millis: u64) {
-        for _ in 0..millis / LOOK {
+        for _ in 0..millis / LOOK_MS {
             if self.served.load(SeqCst) == 0 {
                 return;
             }
-            thread::sleep(rt, Duration::from_millis(LOOK));
+            thread::sleep(rt, Duration::from_millis(LOOK_MS));
         }
     }
 }

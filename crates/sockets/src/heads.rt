@@ -8,7 +8,7 @@ use std::sync::atomic::AtomicU64;
 use std::sync::atomic::Ordering::SeqCst;
 
 /// Between two lines of a kind are at least so many milliseconds.
-const HOUR: u64 = 3_600_000;
+const HOUR_MS: u64 = 3_600_000;
 
 /// The name of the field in which a user is named, in lower case (RFC 9110, section 11.6.2).
 const USER: &[u8] = b"authorization:";
@@ -79,7 +79,7 @@ impl Heads {
     // A request of another version came.
     fn tell_other<R: Times + Eprint>(&self, rt: &R) {
         self.others.fetch_add(1, SeqCst);
-        if self.versions.is_due(rt, HOUR) {
+        if self.versions.is_due(rt, HOUR_MS) {
             let when = line_time(rt);
             let count = self.others.swap(0, SeqCst);
             let _ = eprintln!(rt;
@@ -89,7 +89,7 @@ impl Heads {
     }
 
     fn tell_user<R: Times + Eprint>(&self, rt: &R) {
-        if self.users.is_due(rt, HOUR) {
+        if self.users.is_due(rt, HOUR_MS) {
             let when = line_time(rt);
             let _ = eprintln!(rt;
                 "{when:.3} WARN etcd_proxy: requests carry Authorization, which isn't passed on: this proxy has no user"

@@ -17,7 +17,7 @@ use std::time::Duration;
 use std::{io, str, thread};
 
 /// How long is paused after an accept that failed in passing, in milliseconds.
-const PAUSE: u64 = 10;
+const PAUSE_MS: u64 = 10;
 
 /// So many connections are accepted at most: each has tickets of its own, and then none are left.
 const MOST: u64 = 1 << 31;
@@ -137,7 +137,7 @@ fn accepted<R: Wait + Times>(rt: &R, listener: &TcpListener) -> io::Result<TcpSt
     for _ in rt.forever() {
         match listener.accept() {
             Ok((stream, _)) => return Ok(stream),
-            Err(error) if passes(&error) => thread::sleep(rt, Duration::from_millis(PAUSE)),
+            Err(error) if passes(&error) => thread::sleep(rt, Duration::from_millis(PAUSE_MS)),
             Err(error) => return Err(error),
         }
     }

@@ -19,10 +19,10 @@ use std::time::Duration;
 use std::{io, thread};
 
 /// A first byte is waited for so many milliseconds at a time: where connections are to make room, one that rests has no more.
-const SLICE: u64 = 30_000;
+const SLICE_MS: u64 = 30_000;
 
 /// A request that has more bytes counts with those of others, and needs a permit once it came.
-const LARGE: u64 = 65_536;
+const LARGE_BYTES: u64 = 65_536;
 
 /// Where a connection's bytes come from. A read waits ten minutes for the first byte behind a request, or half a minute where
 /// connections are to make room; then half a minute in all for the rest of a head, and as much in all for a body. Where more than
@@ -98,7 +98,7 @@ impl<R: Wait + Times + Eprint + Drop> SocketSource<R> {
     {
         let limits = self.shared.limits;
         match self.phase {
-            Phase::Between => Ok(Duration::from_millis(limits.first_byte.min(SLICE).max(1))),
+            Phase::Between => Ok(Duration::from_millis(limits.first_byte.min(SLICE_MS).max(1))),
             Phase::Head(until) | Phase::Body(until) => Ok(until.left(&self.rt)?),
             Phase::Due => {
                 self.phase = Phase::Body(Until::after(&self.rt, limits.body)?);
@@ -111,7 +111,7 @@ impl<R: Wait + Times + Eprint + Drop> SocketSource<R> {
     fn rests_on(&mut self) -> bool
         ensures { self.new.faults ≡ self.old.faults }
     {
-        self.rested = self.rested.saturating_add(SLICE);
+        self.rested = self.rested.saturating_add(SLICE_MS);
         self.phase.is_between()
             && self.rested < self.shared.limits.first_byte
             && !self.shared.is_tight()
@@ -153,7 +153,7 @@ impl<R: Wait + Times + Eprint + Drop> SocketSource<R> {
             Some(upload) if count > 0 => {
                 self.shared.count(&self.rt, upload, count as u64, until)?;
             }
-            None if self.came > LARGE => {
+            None if self.came > LARGE_BYTES => {
                 let upload = self.shared.upload(&self.rt, self.began)?;
                 let counted = self.shared.count(&self.rt, &upload, self.came, until);
                 self.upload = Some(upload);

@@ -1,6 +1,7 @@
 //! Laws of what watches of a store are told, over its definitions and in the subject's own words. Each is a public function
 //! without a body.
-ghost use Rattle.store_laws.specs.Events.WatchRuns.{TellEachOnce, TellAll, TellUpToNext, ProgressIsTrue, RequestsLeaveWatches, ExpiriesLeaveWatches, AppliesLeaveWatches, OpeningsLeaveWatches, MessagesLeaveOtherWatches};
+ghost use Rattle.store_laws.specs.Events.WatchRuns.{TellEachOnce, TellAll, TellUpToNext, ProgressIsTrue, RequestsLeaveWatches, ExpiriesLeaveWatches};
+ghost use Rattle.store_laws.specs.Events.WatchRuns.{AppliesLeaveWatches, OpeningsLeaveWatches, MessagesLeaveOtherWatches};
 ghost use Rattle.store_laws.specs.Events.Previous.{PreviousAreEarlier, PreviousAreExact};
 
 /// The messages of a watch, put one behind the other, are the history's events of its range from its start, each once and

@@ -84,7 +84,8 @@ fn tell_change(
     ensures events { OnOk result ((h : History) → HoldsKept index.now h
         → batch.new.events ++ left_to_tell index.now.compacted ask.now h revision (place + 1) ≡ batch.old.events ++ left_to_tell index.now.compacted ask.now h revision place) }
     ensures next { OnOk result ((h : History) → HoldsKept index.now h
-        → next_after batch.new.next (left_to_tell index.now.compacted ask.now h revision (place + 1)) ≡ next_after batch.old.next (left_to_tell index.now.compacted ask.now h revision place)) }
+        → next_after batch.new.next (left_to_tell index.now.compacted ask.now h revision (place + 1))
+        ≡ next_after batch.old.next (left_to_tell index.now.compacted ask.now h revision place)) }
 {
     let key = &keys[place];
     if !ask.range.contains(key) {

@@ -92,7 +92,9 @@ impl Counts {
         requires few { count_at self.old key.now + 1 < 2 ^ 64 }
         requires within { first ≤ length versions.now }
         ensures count { IfOk result (λ n. n ≡ (if is_repeated revision versions.now first then count_at self.old key.now else 0)) }
-        ensures passed { OnOk result ((k : Values ℕ) → count_at self.new k ≡ (if is_repeated revision versions.now first && same key.now k then count_at self.old key.now + 1 else count_at self.old k)) }
+        ensures passed { OnOk result ((k : Values ℕ) → count_at self.new k
+            ≡ (if is_repeated revision versions.now first && same key.now k
+            then count_at self.old key.now + 1 else count_at self.old k)) }
     {
         if !is_repeated(versions, first, revision) {
             return Ok(0);

@@ -11,8 +11,8 @@ use crate::texts;
 use etcd_types::{Bytes, Compare, KeyRange, List, NoMemory, Op, Refusal, TxnAsk};
 use std::alloc::Global;
 
-/// The most compares or operations of one list.
-const OPERATIONS_LIMIT: u64 = 128;
+/// The most compares or operations of one list, and the most ranges that one transaction can compare.
+pub const OPERATIONS_LIMIT: u64 = 128;
 
 /// The refusal of a transaction before it runs: too many operations, an empty key, a key named twice, in this order.
 #[tactic(auto, using(crate::proofs::OfTransactions::of_transactions))]

@@ -4,7 +4,7 @@
 mod first;
 mod texts;
 
-pub use first::first_refusal_of_txn;
+pub use first::{OPERATIONS_LIMIT, first_refusal_of_txn};
 pub use texts::{
     compacted_revision, duplicate_key, future_revision, key_not_found, key_not_provided,
     lease_exists, lease_not_found, too_many_operations, unsupported,

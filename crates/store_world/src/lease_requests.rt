@@ -6,7 +6,7 @@ ghost use Rattle.store_model.specs.History.{History};
 ghost use Rattle.store_index.specs.Index.{HoldsKept};
 ghost use Rattle.store_world.specs.Store.{Stands, Takes, state_of};
 
-use crate::leases::LONGEST_TTL;
+use crate::leases::LONGEST_TTL_SECONDS;
 use crate::run::add_deletions;
 use crate::store::Store;
 use etcd_types::{Answer, Body, Bytes, Kv, List, NoMemory};
@@ -33,7 +33,7 @@ impl Store {
         } else {
             number
         };
-        let ttl = ttl.max(1).min(LONGEST_TTL);
+        let ttl = ttl.max(1).min(LONGEST_TTL_SECONDS);
         self.leases.add(Lease { number, ttl })?;
         Ok(self.done(member, Body::Grant { lease: number, ttl }))
     }

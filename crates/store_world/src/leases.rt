@@ -9,7 +9,7 @@ use std::marker::Model;
 use store_model::Lease;
 
 /// The longest time to live of a lease, in seconds.
-pub(crate) const LONGEST_TTL: u64 = 9_000_000_000;
+pub(crate) const LONGEST_TTL_SECONDS: u64 = 9_000_000_000;
 
 /// The leases of a store, by rising numbers. Contracts see it as the list of leases. Their numbers
 /// are positive, and no time to live is above the longest.

@@ -84,7 +84,9 @@ impl Store {
 
     fn exec_lists(&mut self, member: u32, txn: &TxnAsk) -> Result<Answer, NoMemory>
         requires room { self.old.index.newest < 2 ^ 63 }
-        ensures step { IfOk result (λ answer. (h : History) → HoldsKept self.old.index h → Takes self.new answer (settled (state_of self.old h) member (run_txn (state_of self.old h) txn.now []))) }
+        ensures step { IfOk result (λ answer. (h : History) → HoldsKept self.old.index h
+            → Takes self.new answer
+            (settled (state_of self.old h) member (run_txn (state_of self.old h) txn.now []))) }
         ensures err { OnErr result (self.new ≡ self.old) }
     {
         let mut made = Changes::new(self.alloc);
@@ -164,7 +166,9 @@ impl Store {
 
     fn commit(&mut self, member: u32, made: Changes, body: Body) -> Result<Answer, NoMemory>
         requires room { self.old.index.newest < 2 ^ 63 }
-        ensures step { IfOk result (λ answer. (h : History) → HoldsKept self.old.index h → Takes self.new answer (done (record (state_of self.old h) { history = with_revision h made }) member body)) }
+        ensures step { IfOk result (λ answer. (h : History) → HoldsKept self.old.index h
+            → Takes self.new answer
+            (done (record (state_of self.old h) { history = with_revision h made }) member body)) }
         ensures err { OnErr result (self.new ≡ self.old) }
     {
         self.add_revision(made)?;
@@ -183,7 +187,9 @@ impl Store {
 
     fn read_applied(&self, member: u32, ask: &RangeAsk) -> Result<Answer, NoMemory>
         requires { HasMember (state_of self.now []) member }
-        ensures { IfOk result (λ answer. (h : History) → HoldsKept self.now.index h → Takes self.now answer (read_applied (state_of self.now h) member (applied_by (state_of self.now h) member) ask.now)) }
+        ensures { IfOk result (λ answer. (h : History) → HoldsKept self.now.index h
+            → Takes self.now answer
+            (read_applied (state_of self.now h) member (applied_by (state_of self.now h) member) ask.now)) }
     {
         let applied = self.applied_by(member);
         if applied < self.index.compacted {

@@ -94,7 +94,9 @@ impl Store {
     }
 
     fn push_for(&self, number: u64, watch: &OpenWatch) -> Result<Push, StoreFault>
-        ensures step { IfOk result (λ push. (h : History) → HoldsKept self.now.index h → IsPush (state_of self.now h) number watch.now push (push_to (state_of self.now h) number watch.now)) }
+        ensures step { IfOk result (λ push. (h : History) → HoldsKept self.now.index h
+            → IsPush (state_of self.now h) number watch.now push
+            (push_to (state_of self.now h) number watch.now)) }
         ensures fault { IfErr result (λ fault. (h : History) → HoldsKept self.now.index h → IsFault fault (push_to (state_of self.now h) number watch.now)) }
     {
         let header = self.watch_header(watch);
@@ -127,7 +129,9 @@ impl Store {
     }
 
     fn progress_for(&self, number: u64, watch: &OpenWatch) -> Result<Push, StoreFault>
-        ensures step { IfOk result (λ push. (h : History) → HoldsKept self.now.index h → IsPush (state_of self.now h) number watch.now push (progress_to (state_of self.now h) number watch.now)) }
+        ensures step { IfOk result (λ push. (h : History) → HoldsKept self.now.index h
+            → IsPush (state_of self.now h) number watch.now push
+            (progress_to (state_of self.now h) number watch.now)) }
         ensures fault { IfErr result (λ fault. (h : History) → HoldsKept self.now.index h → IsFault fault (progress_to (state_of self.now h) number watch.now)) }
     {
         if !watch.ask.progress {
@@ -171,7 +175,9 @@ impl Store {
     fn go_on(&mut self, number: u64, push: Push) -> WatchItem
         requires { IsSome (watch_of (state_of self.old []) number) }
         ensures item { result ≡ push.item }
-        ensures watch { (h : History) (w : OpenWatch) → HoldsKept self.old.index h → watch_of (state_of self.old h) number ≡ Some w → Stands self.new (moved (state_of self.old h) number w push.next) }
+        ensures watch { (h : History) (w : OpenWatch) → HoldsKept self.old.index h
+            → watch_of (state_of self.old h) number ≡ Some w
+            → Stands self.new (moved (state_of self.old h) number w push.next) }
     {
         if let Some(next) = push.next {
             self.set_next(number, next);
@@ -181,7 +187,9 @@ impl Store {
 
     fn set_next(&mut self, number: u64, next: u64)
         requires { IsSome (watch_of (state_of self.old []) number) }
-        ensures { (h : History) (w : OpenWatch) → HoldsKept self.old.index h → watch_of (state_of self.old h) number ≡ Some w → Stands self.new (with_next (state_of self.old h) number w next) }
+        ensures { (h : History) (w : OpenWatch) → HoldsKept self.old.index h
+            → watch_of (state_of self.old h) number ≡ Some w
+            → Stands self.new (with_next (state_of self.old h) number w next) }
     {
         self.watches.set_next((number - 1) as usize, next);
     }

@@ -116,9 +116,17 @@ pub fn read_put_flags(words: &mut Words) -> Result<(bool, bool), ReadError>
     }
 }
 
+/// The flags of a range.
+#[derive(Debug, Clone, Copy, PartialEq, Eq)]
+pub struct RangeFlags {
+    pub serializable: bool,
+    pub keys_only: bool,
+    pub count_only: bool,
+}
+
 /// Reads the flags of a range: `s`, `k` and `c`.
-pub fn read_range_flags(words: &mut Words) -> Result<(bool, bool, bool), ReadError>
-    ensures { Gives (λ f. (f, words.new)) result ((three_flags 115 107 99).read words.old) }
+pub fn read_range_flags(words: &mut Words) -> Result<RangeFlags, ReadError>
+    ensures { Gives (λ f. ((f.serializable, f.keys_only, f.count_only), words.new)) result ((three_flags 115 107 99).read words.old) }
 {
     let word = words.take()?;
     let serializable = has(word, b's');
@@ -128,15 +136,28 @@ pub fn read_range_flags(words: &mut Words) -> Result<(bool, bool, bool), ReadErr
         word,
         &[(b's', serializable), (b'k', keys_only), (b'c', count_only)],
     ) {
-        Ok((serializable, keys_only, count_only))
+        Ok(RangeFlags {
+            serializable,
+            keys_only,
+            count_only,
+        })
     } else {
         Err(words.wrong())
     }
 }
 
+/// The flags of a watch.
+#[derive(Debug, Clone, Copy, PartialEq, Eq)]
+pub struct WatchFlags {
+    pub prev_kv: bool,
+    pub no_put: bool,
+    pub no_delete: bool,
+    pub progress: bool,
+}
+
 /// Reads the flags of a watch: `p`, `u`, `d` and `n`.
-pub fn read_watch_flags(words: &mut Words) -> Result<(bool, bool, bool, bool), ReadError>
-    ensures { Gives (λ f. (f, words.new)) result ((four_flags 112 117 100 110).read words.old) }
+pub fn read_watch_flags(words: &mut Words) -> Result<WatchFlags, ReadError>
+    ensures { Gives (λ f. ((f.prev_kv, f.no_put, f.no_delete, f.progress), words.new)) result ((four_flags 112 117 100 110).read words.old) }
 {
     let word = words.take()?;
     let prev_kv = has(word, b'p');
@@ -152,7 +173,12 @@ pub fn read_watch_flags(words: &mut Words) -> Result<(bool, bool, bool, bool), R
             (b'n', progress),
         ],
     ) {
-        Ok((prev_kv, no_put, no_delete, progress))
+        Ok(WatchFlags {
+            prev_kv,
+            no_put,
+            no_delete,
+            progress,
+        })
     } else {
         Err(words.wrong())
     }

@@ -9,7 +9,8 @@ mod write_words;
 
 pub use fault::ReadError;
 pub use flags::{
-    is_word, push_flag, push_flags, read_flag, read_put_flags, read_range_flags, read_watch_flags,
+    RangeFlags, WatchFlags, is_word, push_flag, push_flags, read_flag, read_put_flags,
+    read_range_flags, read_watch_flags,
 };
 pub use read_words::{MAX_NUMBER, number_of, read_bytes, read_number, read_number_within};
 pub use words::Words;

@@ -12,7 +12,7 @@ use crate::rule::Turns;
 use crate::step::{last_as, look_as, step_as};
 use crate::turn::split_seat;
 use crate::view::{Knows, Opening, Slot, Stowed};
-use crate::waiting::{LONGEST_REST, Rest, Waiting};
+use crate::waiting::{LONGEST_REST_SECONDS, Rest, Waiting};
 use atomic_table::{Table, TableRule};
 use etcd_types::NoMemory;
 use outside::{Clock, Machine};
@@ -179,12 +179,13 @@ impl<M: Machine> Hub<M> {
 
     /// Rests until a step gives the pass's lot something to take, if none has since this pass last stepped. It comes
     /// directly after the step that found nothing: after a later step of the same pass it would miss what came between.
-    /// It may return at any other time too, and does after `LONGEST_REST` seconds at the latest, so look again behind it.
+    /// It may return at any other time too, and does after `LONGEST_REST_SECONDS` seconds at the latest, so look again behind it.
     pub fn wait<R: Wait>(&self, rt: &R, pass: &mut Pass<M>)
         requires { pass.old.hub ≡ self.now }
         ensures { pass.new ≡ pass.old }
     {
-        self.waiting.rest(rt, &pass.rest, LONGEST_REST * 1000);
+        self.waiting
+            .rest(rt, &pass.rest, LONGEST_REST_SECONDS * 1000);
     }
 
     /// The same, but returns after so many milliseconds at the latest, where they are fewer than those.

@@ -29,7 +29,7 @@ pub use history::Entry;
 pub use hub::{Hub, HubOf};
 pub use pass::{Pass, PassOf};
 pub use view::Opening;
-pub use waiting::LONGEST_REST;
+pub use waiting::LONGEST_REST_SECONDS;
 
 #[cfg(test)]
 mod tests;

@@ -32,8 +32,12 @@ pub(crate) fn step_as<R: Wait, M: Machine, C: Clock>(
     requires event { M.may event }
     ensures place { seat.new.table_id ≡ seat.old.table_id }
     ensures rests { AtRest board.now.key seat.new.me }
-    ensures outcome { IfOk result (λ o. Makes M.steps (known_of board.now.table_id board.now.key seat.old.me.0) (known_of board.now.table_id board.now.key seat.new.me.0) event (C.last clock.new) (Ok o)) }
-    ensures fault { IfErr result (λ f. Fails M.steps (known_of board.now.table_id board.now.key seat.old.me.0) (known_of board.now.table_id board.now.key seat.new.me.0) event (C.last clock.new) f) }
+    ensures outcome { IfOk result (λ o. Makes M.steps
+        (known_of board.now.table_id board.now.key seat.old.me.0)
+        (known_of board.now.table_id board.now.key seat.new.me.0) event (C.last clock.new) (Ok o)) }
+    ensures fault { IfErr result (λ f. Fails M.steps
+        (known_of board.now.table_id board.now.key seat.old.me.0)
+        (known_of board.now.table_id board.now.key seat.new.me.0) event (C.last clock.new) f) }
     ensures unread { IfErr result (λ f. IsWorn f → clock.new ≡ clock.old) }
 {
     let mut machine = take_turn(rt, board, waiting, seat);
@@ -74,7 +78,10 @@ pub(crate) fn look_as<R: Wait, M: Machine, T, F: FnOnce(&M) -> T>(
     requires view { F.IsAlwaysCallable view }
     ensures place { seat.new.table_id ≡ seat.old.table_id }
     ensures rests { AtRest board.now.key seat.new.me }
-    ensures looked { (machine : M) × Sees M.steps (known_of board.now.table_id board.now.key seat.old.me.0) (known_of board.now.table_id board.now.key seat.new.me.0) machine × FnOnceReturnsAt F.FnOnce view machine result }
+    ensures looked { (machine : M)
+        × Sees M.steps (known_of board.now.table_id board.now.key seat.old.me.0)
+        (known_of board.now.table_id board.now.key seat.new.me.0) machine
+        × FnOnceReturnsAt F.FnOnce view machine result }
 {
     let machine = take_turn(rt, board, waiting, seat);
     look(board, seat);

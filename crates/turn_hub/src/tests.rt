@@ -1,7 +1,7 @@
 ghost use Rattle.std.specs.Prelude.{◌≡◌};
 ghost use Rattle.std.specs.Arc.{arc_value};
 
-use crate::{Hub, HubFault, LONGEST_REST, Pass};
+use crate::{Hub, HubFault, LONGEST_REST_SECONDS, Pass};
 use outside::{Clock, Machine, MemClock, Roused};
 use std::alloc::Global;
 use std::rt::Clock as Times;
@@ -369,7 +369,7 @@ fn everybody_is_all_of_a_crew(rt: HostRuntime) -> Result<(), Fail> {
         assert!(rt; handle.join(&rt) < 1000, "a pass that waits does not rest");
     }
     assert!(rt;
-        start.elapsed(&rt)? < Duration::from_secs(LONGEST_REST / 2),
+        start.elapsed(&rt)? < Duration::from_secs(LONGEST_REST_SECONDS / 2),
         "one of the crew rests on"
     );
     Ok(())

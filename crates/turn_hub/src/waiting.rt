@@ -13,7 +13,7 @@ use std::time::Duration;
 
 /// How many seconds a pass rests at most, and a thread parks for the turn. A wake-up that was lost would then be a delay,
 /// and no hang.
-pub const LONGEST_REST: u64 = 10;
+pub const LONGEST_REST_SECONDS: u64 = 10;
 
 // How often a lot was roused, and how many passes came to rest in it. In a lot whose passes all wake these are counted from
 // the last time that it was roused, so that a lot whose passes were woken, and didn't run yet, isn't woken again.
@@ -109,7 +109,7 @@ impl Waiting {
         self.called.store(0, SeqCst);
         if board.peek(TURN) != 0 {
             self.frees
-                .park_timeout(rt, seen, Duration::from_secs(LONGEST_REST));
+                .park_timeout(rt, seen, Duration::from_secs(LONGEST_REST_SECONDS));
         }
         self.sleepers.fetch_sub(1, SeqCst);
     }
@@ -146,7 +146,7 @@ impl Waiting {
         self.resting.fetch_add(1, SeqCst);
         if self.everybody.load(SeqCst) == rest.everybody {
             let seen = (rest.changes % (1 << 32)) as u32;
-            let most = Duration::from_millis(millis.min(LONGEST_REST * 1000));
+            let most = Duration::from_millis(millis.min(LONGEST_REST_SECONDS * 1000));
             lot.changes.park_timeout(rt, seen, most);
         }
         self.resting.fetch_sub(1, SeqCst);

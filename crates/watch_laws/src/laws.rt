@@ -1,8 +1,15 @@
-ghost use Rattle.watch_laws.specs.Laws.{JoinHoldsNothingBack, BatchHoldsNothingBack, ProgressHoldsNothingBack, MergeHoldsNothingBack, CutHoldsNothingBack, CancellationHoldsNothingBack, TakeHoldsNothingBack, MergedStandAlone, HistoriesRise, CreatedHoldsNothingBack, QueuesAreBounded};
-ghost use Rattle.watch_laws.specs.Calls.{DeliveryHoldsNothingBack, CreationHoldsNothingBack, CutsHoldNothingBack, CancellationsHoldNothingBack, JobsHoldNothingBack, TakesHoldNothingBack, LeavingHoldsNothingBack, SplitHoldsNothingBack};
-ghost use Rattle.watch_laws.specs.Alone.{JoinsLeaveAlone, CreationsLeaveAlone, DeliveriesLeaveAlone, MergesLeaveAlone, CutsLeaveAlone, CancellationsLeaveAlone, TakesLeaveAlone, LeavingLeavesAlone, SplitsLeaveAlone, JobsLeaveAlone};
-ghost use Rattle.watch_laws.specs.Closings.{ClosingsHaveNone, JoinsLeaveClosings, CreationsLeaveClosings, DeliveriesLeaveClosings, MergesLeaveClosings, CutsLeaveClosings, CancellationsLeaveClosings, TakesLeaveClosings, LeavingLeavesClosings, SplitsLeaveClosings, JobsLeaveClosings};
-ghost use Rattle.watch_laws.specs.Items.{JoinsKeepItems, CreationsKeepItems, DeliveriesKeepItems, MergesKeepItems, CutsKeepItems, CancellationsKeepItems, TakesKeepItems, LeavingKeepsItems, SplitsKeepItems, JobsKeepItems, PushesAreShown};
+ghost use Rattle.watch_laws.specs.Laws.{JoinHoldsNothingBack, BatchHoldsNothingBack, ProgressHoldsNothingBack, MergeHoldsNothingBack};
+ghost use Rattle.watch_laws.specs.Laws.{CutHoldsNothingBack, CancellationHoldsNothingBack, TakeHoldsNothingBack, MergedStandAlone, HistoriesRise};
+ghost use Rattle.watch_laws.specs.Laws.{CreatedHoldsNothingBack, QueuesAreBounded};
+ghost use Rattle.watch_laws.specs.Calls.{DeliveryHoldsNothingBack, CreationHoldsNothingBack, CutsHoldNothingBack, CancellationsHoldNothingBack};
+ghost use Rattle.watch_laws.specs.Calls.{JobsHoldNothingBack, TakesHoldNothingBack, LeavingHoldsNothingBack, SplitHoldsNothingBack};
+ghost use Rattle.watch_laws.specs.Alone.{JoinsLeaveAlone, CreationsLeaveAlone, DeliveriesLeaveAlone, MergesLeaveAlone, CutsLeaveAlone};
+ghost use Rattle.watch_laws.specs.Alone.{CancellationsLeaveAlone, TakesLeaveAlone, LeavingLeavesAlone, SplitsLeaveAlone, JobsLeaveAlone};
+ghost use Rattle.watch_laws.specs.Closings.{ClosingsHaveNone, JoinsLeaveClosings, CreationsLeaveClosings, DeliveriesLeaveClosings};
+ghost use Rattle.watch_laws.specs.Closings.{MergesLeaveClosings, CutsLeaveClosings, CancellationsLeaveClosings, TakesLeaveClosings};
+ghost use Rattle.watch_laws.specs.Closings.{LeavingLeavesClosings, SplitsLeaveClosings, JobsLeaveClosings};
+ghost use Rattle.watch_laws.specs.Items.{JoinsKeepItems, CreationsKeepItems, DeliveriesKeepItems, MergesKeepItems, CutsKeepItems};
+ghost use Rattle.watch_laws.specs.Items.{CancellationsKeepItems, TakesKeepItems, LeavingKeepsItems, SplitsKeepItems, JobsKeepItems, PushesAreShown};
 ghost use Rattle.watch_laws.specs.Joins.{NewWhereNoneIsJoined, JoinedIsFurthest, JoinedCanBe};
 ghost use Rattle.watch_laws.specs.Truths.{ProgressIsTrue};
 

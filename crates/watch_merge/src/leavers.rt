@@ -42,7 +42,12 @@ pub fn leave_all(
     requires ready { AllReady cancellation watches.old.items }
     requires room { vec_len streams.old + seats cancellation watches.old.items ≤ vec_capacity streams.old }
     requires numbers { given < 2 ^ 63 }
-    ensures { watches_left cancellation step streams.old.items given (map shown watches.old.items) ≡ record { streams = streams.new.items; given = result; watches = map shown watches.new.items } }
+    ensures { watches_left cancellation step streams.old.items given (map shown watches.old.items)
+        ≡ record {
+          streams = streams.new.items;
+          given = result;
+          watches = map shown watches.new.items;
+        } }
 {
     let mut numbers = given;
     for at in 0..watches.len() {
@@ -113,7 +118,8 @@ fn open_again(step: u64, given: u64, streams: &mut Vec<Stream>, watch: &mut Watc
     requires spare { watch.old.spare ≡ Some watch.old.ask.range }
     requires room { vec_len streams.old < vec_capacity streams.old }
     requires numbers { given < 2 ^ 64 - 1 }
-    ensures opened { (last : _) → seated_at streams.old.items given step last (shown watch.old) None ≡ record { streams = streams.new.items; given = result; watch = shown watch.new } }
+    ensures opened { (last : _) → seated_at streams.old.items given step last (shown watch.old) None
+        ≡ record { streams = streams.new.items; given = result; watch = shown watch.new } }
     ensures one { vec_len streams.new ≤ vec_len streams.old + 1 }
     ensures room { vec_capacity streams.old ≤ vec_capacity streams.new }
     ensures given { result ≤ given + 1 }

@@ -2,7 +2,8 @@
 //! program's clauses cite.
 #![tactic(auto)]
 
-ghost use Rattle.world_laws.specs.Laws.{EachTranscriptHasTheStoresAnswers, EachTranscriptHasTheStoresMessages, RefusedLinesLeaveTheWorld, WordsAreLineNumbers, TranscriptsGoOn, EachLineGainsItsOwn, StreamsAreWatches, StoresLive, StoresAreSound};
+ghost use Rattle.world_laws.specs.Laws.{EachTranscriptHasTheStoresAnswers, EachTranscriptHasTheStoresMessages, RefusedLinesLeaveTheWorld};
+ghost use Rattle.world_laws.specs.Laws.{WordsAreLineNumbers, TranscriptsGoOn, EachLineGainsItsOwn, StreamsAreWatches, StoresLive, StoresAreSound};
 
 /// For every script and any number of proxies, each answer of its transcript is the store's, and so is each message of a stream.
 pub fn answers_are_the_stores()

@@ -1,4 +1,7 @@
-ghost use Rattle.world_model.specs.Worked.{PutIsPassedOn, LostCallIsExecuted, CallIsExecutedOnce, RestartedTakesNoAnswer, TicketsAreAProxys, WatchIsCreated, CutDropsMessages, SecondReadIsCached, SessionIsNotDue, SessionExpires, ClocksOutliveStarts, SessionIsTold, LiveBelowDeadline, NotLiveAtDeadline, EndsByStep, CachedReadIsUnsent, CachedReadShowsStore, RevisionsAreGiven, OneIsGenerated, OneIsSummed};
+ghost use Rattle.world_model.specs.Worked.{PutIsPassedOn, LostCallIsExecuted, CallIsExecutedOnce, RestartedTakesNoAnswer, TicketsAreAProxys};
+ghost use Rattle.world_model.specs.Worked.{WatchIsCreated, CutDropsMessages, SecondReadIsCached, SessionIsNotDue, SessionExpires};
+ghost use Rattle.world_model.specs.Worked.{ClocksOutliveStarts, SessionIsTold, LiveBelowDeadline, NotLiveAtDeadline, EndsByStep, CachedReadIsUnsent};
+ghost use Rattle.world_model.specs.Worked.{CachedReadShowsStore, RevisionsAreGiven, OneIsGenerated, OneIsSummed};
 
 /// Worked scripts without leasing: the definitions give these by computation.
 pub fn worked_scripts()

@@ -46,7 +46,11 @@ impl<'a> After<'a> {
     /// The stage that the request comes into, whose key this is; nothing where it stays.
     fn stage_at(&self, alloc: Global, ask: &Asked, key: &Bytes) -> Result<Option<Stage>, NoMemory>
         requires { key.now ≡ ask_key ask.now }
-        ensures { IfOk result (λ stage. stage ≡ again_stage self.now.header self.now.step (read_entries self.now.session self.now.read.now (option_copied self.now.write) self.now.table.now.entries) self.now.acquires.now ask.now) }
+        ensures { IfOk result (λ stage. stage
+            ≡ again_stage self.now.header self.now.step
+            (read_entries self.now.session self.now.read.now (option_copied self.now.write)
+            self.now.table.now.entries)
+            self.now.acquires.now ask.now) }
     {
         if !waits(&ask.stage) {
             return Ok(None);
@@ -67,7 +71,10 @@ pub(crate) struct AfterAt<'a> {
 }
 
 impl<'a> Restage for AfterAt<'a> {
-    ghost stage_of = { λ s. at_key s.key.now (again_stage s.after.header s.after.step (read_entries s.after.session s.after.read.now (option_copied s.after.write) s.after.table.now.entries) s.after.acquires.now) };
+    ghost stage_of = { λ s. at_key s.key.now (again_stage s.after.header s.after.step
+        (read_entries s.after.session s.after.read.now (option_copied s.after.write)
+        s.after.table.now.entries)
+        s.after.acquires.now) };
 
     fn stage(&self, alloc: Global, ask: &Asked) -> Result<Option<Stage>, NoMemory> {
         let empty = Bytes::new(alloc);

@@ -53,8 +53,17 @@ pub fn answer_call(
 ) -> Result<(), NotShape>
     requires step { told.when.step ≡ waits.old.step }
     requires stand { AllWait table.old.entries acquires.now asks.old }
-    ensures answered { (standing created : Bool) → ReadsOk standing (parts table.old.entries waits.old acquires.now asks.old) → Leaves result (parts table.new.entries waits.new acquires.now asks.new) (wait_answered (moment created told.when) told.call told.answer (parts table.old.entries waits.old acquires.now asks.old)) }
-    ensures in_place { (created : Bool) → Leaves result (parts table.new.entries waits.new acquires.now asks.new) (placed_by (moment created told.when) (answered told.call told.answer told.when.session told.when.now (owned table.old.entries waits.old)) (parts table.old.entries waits.old acquires.now asks.old)) }
+    ensures answered { (standing created : Bool)
+        → ReadsOk standing (parts table.old.entries waits.old acquires.now asks.old)
+        → Leaves result (parts table.new.entries waits.new acquires.now asks.new)
+        (wait_answered (moment created told.when) told.call told.answer
+        (parts table.old.entries waits.old acquires.now asks.old)) }
+    ensures in_place { (created : Bool)
+        → Leaves result (parts table.new.entries waits.new acquires.now asks.new)
+        (placed_by (moment created told.when)
+        (answered told.call told.answer told.when.session told.when.now
+        (owned table.old.entries waits.old))
+        (parts table.old.entries waits.old acquires.now asks.old)) }
     ensures err_asks { OnErr result (asks.new ≡ asks.old) }
     ensures err_waits { OnErr result (waits.new ≡ waits.old) }
     ensures err_entries { OnErr result (table.new.entries ≡ table.old.entries) }
@@ -108,7 +117,9 @@ fn changes_after(
     acquires: &Acquires,
 ) -> Result<Vec<(u64, Stage)>, NoMemory>
     requires { AllWait table.now.entries acquires.now asks.now }
-    ensures { IfOk result (λ changes. restaged changes.items asks.now ≡ map (staged_by (stage_after when call read.now (owned table.now.entries waits.now) acquires.now)) asks.now) }
+    ensures { IfOk result (λ changes. restaged changes.items asks.now
+        ≡ map (staged_by (stage_after when call read.now
+        (owned table.now.entries waits.now) acquires.now)) asks.now) }
 {
     let write = waits.sender(call);
     let rule = After {

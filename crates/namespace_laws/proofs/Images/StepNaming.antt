@@ -1,5 +1,5 @@
 -- Every step keeps named all that may be sent, and what it sends goes out under the namespace.
-use Rattle.std.proofs.Common.{◌≡◌, ℕ, Bool, true, false, List, None, Some, Result, Ok, Err, refl, sym, ◌∙◌, ap, subst}
+use Rattle.std.proofs.Common.{◌≡◌, ℕ, List, None, Some, Result, Ok, Err, refl, sym, ◌∙◌, ap, subst}
 use Rattle.core_model.specs.declared.event.CoreEvent.{CoreEvent}
 use Rattle.core_model.specs.declared.event.CoreEvent.TheVariants as event
 use Rattle.core_model.specs.declared.event.Job.{Job}
@@ -18,8 +18,7 @@ use Rattle.core_model.specs.State.{Core}
 use Rattle.core_model.specs.Step.{opening_at, on_item, on_cut, happened, is_worn, stepped}
 use Rattle.core_model.specs.Stepped.{Stepped, faults, counted, counted_by}
 use Rattle.core_model.specs.Takes.{on_take, on_leave}
-use Rattle.core_laws.specs.Steps.Outcomes.{may_have, Gives, gave, faulted}
-use Rattle.core_laws.proofs.Steps.Outcomes.{worn_does_nothing, steps_give}
+use Rattle.core_laws.proofs.Steps.Jobs.{gives_job}
 use Rattle.namespace_laws.specs.Images.Named.{CoreNamed}
 use Rattle.namespace_laws.specs.Images.Laws.{StartsNamed, StepsStayNamed, JobsGoUnder}
 use Rattle.namespace_laws.proofs.Images.CoreNaming.{Leaves, still, clock_named, ask_stays_named, answer_named, loss_named, tick_named, opening_named, item_named, cut_named, take_named, leave_named}
@@ -78,29 +77,6 @@ work_goes p c now h =
     let sent = (sent_named p now (first_job d) d (first_due p d n) n).under in
     either (λ (s : Stepped). OutcomeUnder c.settings.namespace s.outcome) (is_worn c) (faults c fault.Worn) (counted (happened now event.Work d)) tt
     (counted_under c.settings.namespace (happened now event.Work d) (subst (λ (ns : List ℕ). OutcomeUnder ns (happened now event.Work d).outcome) (ap (λ (s : Settings). s.namespace) (clock_settings now c)) sent))
-
-is_work : (e : CoreEvent) (j : Job) → may_have e (outcome.Job (Some j)) ≡ true → e ≡ event.Work
-is_work event.Work j h = refl
-is_work (event.Ask ticket q word) j h = absurd (cc)
-is_work (event.Answer call a) j h = absurd (cc)
-is_work (event.Lost call) j h = absurd (cc)
-is_work (event.Tick word) j h = absurd (cc)
-is_work (event.Item number x) j h = absurd (cc)
-is_work (event.Cut number) j h = absurd (cc)
-is_work (event.Take ticket) j h = absurd (cc)
-is_work (event.Leave ticket) j h = absurd (cc)
-
--- only where work is asked for, there is a job
-gives_job : (c : Core) (e : CoreEvent) (now : ℕ) (j : Job) → (stepped c e now).outcome ≡ Ok (outcome.Job (Some j)) → e ≡ event.Work
-gives_job c e now j is = by_worn (is_worn c) refl
-  where
-    by_given : Gives (may_have e) (clock_work now c) (stepped c e now) → e ≡ event.Work
-    by_given (gave o f fits) = let same : o ≡ outcome.Job (Some j) = cc in is_work e j (ap (may_have e) (sym same) ∙ fits)
-    by_given (faulted f g w) = let other : (stepped c e now).outcome ≡ Err f = ap (λ (s : Stepped). s.outcome) g in absurd (cc)
-
-    by_worn : (b : Bool) → is_worn c ≡ b → e ≡ event.Work
-    by_worn true w = let other : (stepped c e now).outcome ≡ Err fault.Worn = ap (λ (s : Stepped). s.outcome) (worn_does_nothing c e now w) in absurd (cc)
-    by_worn false w = by_given (steps_give c e now w)
 
 pub jobs_go_under : JobsGoUnder
 jobs_go_under p c e now j h is =

@@ -14,7 +14,8 @@ use Rattle.text_laws.proofs.Posts.Requests.{requests_fit, refusals_fit}
 use Rattle.script_text.specs.declared.line.Line.{Line}
 use Rattle.script_text.specs.declared.line.Line.TheVariants as line
 use Rattle.script_text.specs.Lines.{is_line}
-use Rattle.world_model.specs.PostRefusals.{field_named, named_in, with_name, post_refusal}
+use Rattle.json_model.specs.FaultNames.{field_named, named_in, with_name}
+use Rattle.world_model.specs.PostRefusals.{post_refusal}
 use Rattle.text_laws.specs.Items.Texts.{Each, AreRead}
 use Rattle.text_laws.proofs.Items.Parts.{parts_of}
 use Rattle.text_laws.specs.Scripts.Answered.{PostIsRefusedInBytes}

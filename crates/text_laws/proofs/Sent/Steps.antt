@@ -1,5 +1,5 @@
 -- Every step keeps a proxy fit, and what it sends has a text.
-use Rattle.std.proofs.Common.{◌≡◌, ℕ, ◌+◌, ◌≤◌, Bool, true, false, None, Some, Result, Ok, Err, refl, sym, ◌∙◌, ap, subst, arith}
+use Rattle.std.proofs.Common.{◌≡◌, ℕ, ◌+◌, ◌≤◌, None, Some, Result, Ok, Err, refl, sym, ◌∙◌, ap, subst, arith}
 use Rattle.text_model.specs.Words.{max_number}
 use Rattle.core_model.specs.declared.event.CoreEvent.{CoreEvent}
 use Rattle.core_model.specs.declared.event.CoreEvent.TheVariants as event
@@ -17,8 +17,7 @@ use Rattle.core_model.specs.State.{Core}
 use Rattle.core_model.specs.Step.{opening_at, on_item, on_cut, happened, is_worn, stepped}
 use Rattle.core_model.specs.Stepped.{Stepped, faults, counted, counted_by}
 use Rattle.core_model.specs.Takes.{on_take, on_leave}
-use Rattle.core_laws.specs.Steps.Outcomes.{may_have, Gives, gave, faulted}
-use Rattle.core_laws.proofs.Steps.Outcomes.{worn_does_nothing, steps_give}
+use Rattle.core_laws.proofs.Steps.Jobs.{gives_job}
 use Rattle.text_laws.proofs.Values.Alls.{either}
 use Rattle.text_laws.specs.Sent.Laws.{StartsFit, StepsFit}
 use Rattle.text_laws.specs.Sent.Sends.{CoreFits, EventFits, SentFits, OutcomeFits}
@@ -77,29 +76,6 @@ work_sends c now h =
     let n = clock_fits now c h in
     either (λ (s : Stepped). OutcomeFits s.outcome) (is_worn c) (faults c fault.Worn) (counted (happened now event.Work d)) tt
     (counted_sent (happened now event.Work d) (work_fits now (first_job d) d (first_due d n) n).sent)
-
-is_work : (e : CoreEvent) (j : Job) → may_have e (outcome.Job (Some j)) ≡ true → e ≡ event.Work
-is_work event.Work j h = refl
-is_work (event.Ask ticket q word) j h = absurd (cc)
-is_work (event.Answer call a) j h = absurd (cc)
-is_work (event.Lost call) j h = absurd (cc)
-is_work (event.Tick word) j h = absurd (cc)
-is_work (event.Item number x) j h = absurd (cc)
-is_work (event.Cut number) j h = absurd (cc)
-is_work (event.Take ticket) j h = absurd (cc)
-is_work (event.Leave ticket) j h = absurd (cc)
-
--- only where work is asked for, there is a job
-gives_job : (c : Core) (e : CoreEvent) (now : ℕ) (j : Job) → (stepped c e now).outcome ≡ Ok (outcome.Job (Some j)) → e ≡ event.Work
-gives_job c e now j is = by_worn (is_worn c) refl
-  where
-    by_given : Gives (may_have e) (clock_work now c) (stepped c e now) → e ≡ event.Work
-    by_given (gave o f fits) = let same : o ≡ outcome.Job (Some j) = cc in is_work e j (ap (may_have e) (sym same) ∙ fits)
-    by_given (faulted f g w) = let other : (stepped c e now).outcome ≡ Err f = ap (λ (s : Stepped). s.outcome) g in absurd (cc)
-
-    by_worn : (b : Bool) → is_worn c ≡ b → e ≡ event.Work
-    by_worn true w = let other : (stepped c e now).outcome ≡ Err fault.Worn = ap (λ (s : Stepped). s.outcome) (worn_does_nothing c e now w) in absurd (cc)
-    by_worn false w = by_given (steps_give c e now w)
 
 jobs_fit : (c : Core) (e : CoreEvent) (now : ℕ) (j : Job) → CoreFits c → (stepped c e now).outcome ≡ Ok (outcome.Job (Some j)) → SentFits j
 jobs_fit c e now j h is =

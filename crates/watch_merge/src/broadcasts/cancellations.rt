@@ -56,7 +56,10 @@ impl Broadcasts {
     fn leave_stream(&mut self, cancellation: Cancellation) -> Result<(), NoMemory>
         requires known { (cancellation.next == 0) ≡ false }
         requires numbers { self.old.given < 2 ^ 63 }
-        ensures ok { OnOk result (self.new ≡ left_as self.old (watches_left cancellation self.old.step (without_stream cancellation.stream self.old.streams) self.old.given self.old.watches)) }
+        ensures ok { OnOk result (self.new
+            ≡ left_as self.old (watches_left cancellation self.old.step
+            (without_stream cancellation.stream self.old.streams)
+            self.old.given self.old.watches)) }
         ensures err { OnErr result (self.new ≡ self.old) }
     {
         ready_to_leave(self.alloc, cancellation, &mut self.watches)?;

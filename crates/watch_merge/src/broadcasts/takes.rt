@@ -64,7 +64,9 @@ impl Broadcasts {
     fn take_only(&mut self, at: usize) -> Result<Option<WatchItem>, NoMemory>
         requires bound { at < length self.old.watches }
         requires some { (w : Watch) → w ≡ get_or self.old.watches at w → is_nil w.queue ≡ false }
-        ensures ok { IfOk result (λ item. (w : Watch) → w ≡ get_or self.old.watches at w → taken_to self.old w w.queue (with_watch self.old (record w { queue = drop 1 w.queue })) ≡ (self.new, item)) }
+        ensures ok { IfOk result (λ item. (w : Watch) → w ≡ get_or self.old.watches at w
+            → taken_to self.old w w.queue
+            (with_watch self.old (record w { queue = drop 1 w.queue })) ≡ (self.new, item)) }
         ensures err { OnErr result (self.new ≡ self.old) }
     {
         let ticket = self.watches[at].ticket;
@@ -87,7 +89,10 @@ impl Broadcasts {
     ) -> Result<Option<WatchItem>, NoMemory>
         requires bound { at < length self.old.watches }
         requires some { (w : Watch) → w ≡ get_or self.old.watches at w → is_nil w.queue ≡ false }
-        ensures ok { IfOk result (λ item. (w : Watch) → w ≡ get_or self.old.watches at w → taken_to self.old w w.queue (with_watch self.old (seated_as last number next created (record w { queue = drop 1 w.queue }))) ≡ (self.new, item)) }
+        ensures ok { IfOk result (λ item. (w : Watch) → w ≡ get_or self.old.watches at w
+            → taken_to self.old w w.queue (with_watch self.old
+            (seated_as last number next created (record w { queue = drop 1 w.queue })))
+            ≡ (self.new, item)) }
         ensures err { OnErr result (self.new ≡ self.old) }
     {
         let ticket = self.watches[at].ticket;
@@ -104,7 +109,9 @@ impl Broadcasts {
         requires bound { at < length self.old.watches }
         requires some { (w : Watch) → w ≡ get_or self.old.watches at w → is_nil w.queue ≡ false }
         requires numbers { self.old.given < 2 ^ 63 }
-        ensures ok { IfOk result (λ item. (w : Watch) → w ≡ get_or self.old.watches at w → taken_to self.old w w.queue (opened_for self.old (record w { queue = drop 1 w.queue })) ≡ (self.new, item)) }
+        ensures ok { IfOk result (λ item. (w : Watch) → w ≡ get_or self.old.watches at w
+            → taken_to self.old w w.queue
+            (opened_for self.old (record w { queue = drop 1 w.queue })) ≡ (self.new, item)) }
         ensures err { OnErr result (self.new ≡ self.old) }
     {
         self.streams.reserve(1)?;
