@@ -6,7 +6,8 @@ use Rattle.etcd_types.specs.declared.request.Request.TheVariants as request
 use Rattle.etcd_types.specs.declared.request.WatchAsk.{WatchAsk}
 use Rattle.etcd_types.specs.declared.watch.Event.{Event}
 use Rattle.etcd_types.specs.declared.watch.WatchItem.{WatchItem}
-use Rattle.store_model.specs.History.{newest}
+use Rattle.etcd_types.specs.declared.watch.WatchItem.TheVariants as message
+use Rattle.store_model.specs.History.{History, newest}
 use Rattle.store_model.specs.State.{State}
 use Rattle.store_laws.proofs.Lives.SoundProofs.{starts_sound}
 use Rattle.core_model.specs.declared.event.CoreEvent.TheVariants as event
@@ -41,7 +42,7 @@ use Rattle.held_laws.proofs.Places.{taken_of, PlaceOk, counted_side, stepping}
 use Rattle.held_laws.proofs.Pushes.{Whole}
 use Rattle.held_laws.proofs.Runs.{Took as TookLine, TookIf, took as took_line, last_as, last_from, last_grows, Kept, kept_on, runs, few}
 use Rattle.received_laws.proofs.Sights.{AreOfLines, lines_front, effect_lines, seen_grown}
-use Rattle.received_laws.proofs.Starting.{StartOk}
+use Rattle.received_laws.proofs.Starting.{QueueOk, queue_later, queue_push, StartOk}
 use Rattle.held_laws.proofs.Stories.{story_by, IsShort}
 use Rattle.received_laws.proofs.Taking.{kept_ask, well_formed, decided_start, received_front, progress_true, cancellation_true}
 use Rattle.held_laws.proofs.Telling.{own_only, own_or_whole, own_strips, whole_strips}
@@ -61,6 +62,8 @@ pub record FrontOk (whole : Whole) (namespace : List ℕ) (items : List Item) (p
   pub front : TellsFront whole.items ask namespace (queued_events (taken_of p items ticket)) (history_events whole.history namespace ask start)
   -- a start that was left open isn't past the revision behind the newest
   pub decided : (ask.start == 0) ≡ true → start ≤ newest (seen items).store.history + 1
+  -- a message without events tells no revision above the newest
+  pub progress : QueueOk (newest (seen items).store.history) (taken_of p items ticket)
   pub own : AreTaken (story_by (own_only namespace) namespace whole) whole ask start (taken_of p items ticket)
   pub every : AreTaken (story_by (own_or_whole namespace) namespace whole) whole ask start (taken_of p items ticket)
 
@@ -83,6 +86,7 @@ same_front whole namespace items more p ticket grown lives same (inr k) = inr (r
   asked_start = k.asked_start;
   front = subst (λ (ts : List WatchItem). TellsFront whole.items k.ask namespace (queued_events ts) (history_events whole.history namespace k.ask k.start)) (sym same) k.front;
   decided = λ z. let l = k.decided z in omega (arith, l, grown);
+  progress = subst (QueueOk (newest (seen (items ++ more)).store.history)) (sym same) (queue_later (newest (seen items).store.history) (newest (seen (items ++ more)).store.history) (taken_of p items ticket) grown k.progress);
   own = subst (AreTaken (story_by (own_only namespace) namespace whole) whole k.ask k.start) (sym same) k.own;
   every = subst (AreTaken (story_by (own_or_whole namespace) namespace whole) whole k.ask k.start) (sym same) k.every;
 })
@@ -112,8 +116,8 @@ messages_taken story whole namespace items p x ticket i s ask same h =
     (subst (λ (a : WatchAsk). AreMessages story whole a v.start ((taken_of p items ticket ++ i ∷ []) ++ s.behind)) same (subst (AreMessages story whole v.ask v.start) queue has))
 
 front_taken : (whole : Whole) (namespace : List ℕ) (items more : List Item) (p : ℕ) (x : Place) (ticket : ℕ) (i : WatchItem) → Standing x ticket i → (high : ℕ) → high ≤ newest (seen (items ++ more)).store.history → EachWatch (StartOk high) x.core.watches.watches → PlaceOk namespace whole (own_only namespace) items p x → PlaceOk namespace whole (own_or_whole namespace) items p x
-    → life p (items ++ more) ≡ life p items ++ more → taken_of p (items ++ more) ticket ≡ taken_of p items ticket ++ i ∷ [] → FrontOk whole namespace (items ++ more) p ticket
-front_taken whole namespace items more p x ticket i s high grown starts one two lives gained =
+    → life p (items ++ more) ≡ life p items ++ more → taken_of p (items ++ more) ticket ≡ taken_of p items ticket ++ i ∷ [] → QueueOk (newest (seen (items ++ more)).store.history) (taken_of p items ticket) → FrontOk whole namespace (items ++ more) p ticket
+front_taken whole namespace items more p x ticket i s high grown starts one two lives gained before =
     let v = s.watch in
     let next = own_next x.core.watches.streams v in
     let k = all_known namespace whole items p x ticket v one two s.there in
@@ -128,7 +132,11 @@ front_taken whole namespace items more p x ticket i s high grown starts one two 
       start = v.start;
       asked_start = k.start;
       front = subst (λ (ts : List WatchItem). TellsFront whole.items k.ask namespace (queued_events ts) (history_events whole.history namespace k.ask v.start)) (sym gained) front;
-      decided = λ z. let l = found (StartOk high) ticket x.core.watches.watches v s.there starts (ap (λ (a : WatchAsk). a.start == 0) k.same ∙ z) in omega (arith, l, grown);
+      decided = λ z. let l = (found (StartOk high) ticket x.core.watches.watches v s.there starts).0 (ap (λ (a : WatchAsk). a.start == 0) k.same ∙ z) in omega (arith, l, grown);
+      progress =
+          let now = newest (seen (items ++ more)).store.history in
+          let q : QueueOk high (i ∷ s.behind) = subst (QueueOk high) s.queue (found (StartOk high) ticket x.core.watches.watches v s.there starts).1 in
+          subst (QueueOk now) (sym gained) (queue_push now old i before (queue_later high now (i ∷ s.behind) grown q).0);
       own =
           subst (AreTaken (story_by (own_only namespace) namespace whole) whole k.ask v.start) (sym gained)
           (messages_taken (story_by (own_only namespace) namespace whole) whole namespace items p x ticket i s k.ask k.same one.messages.watches);
@@ -164,6 +172,10 @@ changed_fronts whole namespace items more w p ticket grown new one two h (inr (i
     stands : Standing t.place t.ticket t.message
     stands = took_of namespace t.place _ t.ticket t.message (stepping namespace t.place.core (event.Take t.ticket) t.place.clock (outcome.Item t.message) first.namespace_is t.out).touch
 
+    before : IsFrontOk whole namespace items p ticket → QueueOk (newest (seen (items ++ more)).store.history) (taken_of p items ticket)
+    before (inl none) = subst (QueueOk (newest (seen (items ++ more)).store.history)) (sym none) tt
+    before (inr k) = queue_later (newest (seen items).store.history) (newest (seen (items ++ more)).store.history) (taken_of p items ticket) grown k.progress
+
     higher : newest w.store.history ≤ newest (seen (items ++ more)).store.history
     higher = let same : newest (seen items).store.history ≡ newest w.store.history = ap (λ (t : State). newest t.history) one.told.store in omega (arith, same, grown)
 
@@ -172,7 +184,7 @@ changed_fronts whole namespace items more w p ticket grown new one two h (inr (i
         let gains : taken_of p (items ++ more) t.ticket ≡ taken_of p items t.ticket ++ t.message ∷ [] =
         taken_gains w items more p t t.ticket ∙ ap (λ b. taken_of p items t.ticket ++ cond b (t.message ∷ []) []) (ap (λ (n : ℕ). n == t.ticket) (sym (same_ticket ticket t.ticket e)) ∙ e) in
         subst (λ (n : ℕ). IsFrontOk whole namespace (items ++ more) p n) (sym (same_ticket ticket t.ticket e))
-        (inr (front_taken whole namespace items more p t.place t.ticket t.message stands (newest w.store.history) higher (new.newest.places p t.place t.at).watches first second (t.lives items) gains))
+        (inr (front_taken whole namespace items more p t.place t.ticket t.message stands (newest w.store.history) higher (new.newest.places p t.place t.at).watches first second (t.lives items) gains (subst (λ (n : ℕ). QueueOk (newest (seen (items ++ more)).store.history) (taken_of p items n)) (same_ticket ticket t.ticket e) (before h))))
     by false e =
         same_front whole namespace items more p ticket grown (t.lives items) (taken_gains w items more p t ticket ∙ ap (λ b. taken_of p items ticket ++ cond b (t.message ∷ []) []) e ∙ append-nil (taken_of p items ticket)) h
 
@@ -272,11 +284,21 @@ none_asked : {A : Type 0} (earlier later : List Item) (p ticket : ℕ) (q : Requ
 none_asked [] later p ticket q e f = absurd (cc)
 none_asked (i ∷ earlier) later p ticket q e f = absurd (cc)
 
-in_world : (members : ℕ) (namespace leasing : List ℕ) (lines : List Line) (earlier later : List Item) (p ticket : ℕ) (ask : WatchAsk) → length lines < 2 ^ 60
+-- of a transcript, of the items so far, of what a watch asked and of the messages that it took
+abbrev About : Type 1
+About = List Item → List Item → WatchAsk → List WatchItem → Type 0
+
+-- what follows from a front
+abbrev Gives : About → Type 0
+Gives Q =
+    (whole : Whole) (items : List Item) (p ticket : ℕ) (ask : WatchAsk) → IsShort whole → whole.history ≡ (seen whole.items).store.history → asked_as p ticket (life p items) ≡ Some (request.Watch ask)
+    → IsFrontOk whole (namespace_of whole.items) items p ticket → Q whole.items items ask (taken_of p items ticket)
+
+in_world : (Q : About) → Gives Q → (members : ℕ) (namespace leasing : List ℕ) (lines : List Line) (earlier later : List Item) (p ticket : ℕ) (ask : WatchAsk) → length lines < 2 ^ 60
     → item.World members namespace leasing ∷ transcript_from (Some (starting_world members namespace leasing)) lines ≡ earlier ++ later → asked_as p ticket (life p earlier) ≡ Some (request.Watch ask)
-    → HasReceived (item.World members namespace leasing ∷ transcript_from (Some (starting_world members namespace leasing)) lines) earlier ask (taken_for p ticket (life p earlier))
-in_world members namespace leasing lines [] later p ticket ask n c e = absurd (cc)
-in_world members namespace leasing lines (i ∷ front) later p ticket ask n c e =
+    → Q (item.World members namespace leasing ∷ transcript_from (Some (starting_world members namespace leasing)) lines) earlier ask (taken_for p ticket (life p earlier))
+in_world Q gives members namespace leasing lines [] later p ticket ask n c e = absurd (cc)
+in_world Q gives members namespace leasing lines (i ∷ front) later p ticket ask n c e =
     let first = starting_world members namespace leasing in
     let start : List Item = item.World members namespace leasing ∷ [] in
     let items = start ++ transcript_from (Some first) lines in
@@ -289,7 +311,7 @@ in_world members namespace leasing lines (i ∷ front) later p ticket ask n c e 
     let told : (seen items).store ≡ last.store = (runs namespace whole (own_only namespace) (own_strips namespace) short lines start first refl refl one).told.store in
     let here : IsFrontOk whole namespace (i ∷ front) p ticket =
     subst (λ (j : Item). IsFrontOk whole namespace (j ∷ front) p ticket) (heads (item.World members namespace leasing) i (transcript_from (Some first) lines) (front ++ later) c) (at p ticket) in
-    received whole (i ∷ front) p ticket ask (ap (λ (s : State). s.history) (sym told)) e here
+    gives whole (i ∷ front) p ticket ask short (ap (λ (s : State). s.history) (sym told)) e here
   where
     tails : (x y : Item) (xs ys : List Item) → x ∷ xs ≡ y ∷ ys → xs ≡ ys
     tails x y xs ys e = cc
@@ -297,27 +319,69 @@ in_world members namespace leasing lines (i ∷ front) later p ticket ask n c e 
     heads : (x y : Item) (xs ys : List Item) → x ∷ xs ≡ y ∷ ys → x ≡ y
     heads x y xs ys e = cc
 
-receives_at : (lines : List Line) (earlier later : List Item) (p ticket : ℕ) (ask : WatchAsk) → length lines < 2 ^ 60 → transcript lines ≡ earlier ++ later
-    → asked_as p ticket (life p earlier) ≡ Some (request.Watch ask) → HasReceived (transcript lines) earlier ask (taken_for p ticket (life p earlier))
-receives_at [] earlier later p ticket ask n c e = none_asked earlier later p ticket (request.Watch ask) c e
-receives_at (line.World members namespace leasing ∷ lines) earlier later p ticket ask n c e = in_world members namespace leasing lines earlier later p ticket ask (omega (arith, n)) c e
-receives_at (line.Start p' ∷ lines) earlier later p ticket ask n c e = none_asked earlier later p ticket (request.Watch ask) c e
-receives_at (line.Clock p' millis ∷ lines) earlier later p ticket ask n c e = none_asked earlier later p ticket (request.Watch ask) c e
-receives_at (line.Ask p' ticket' q ∷ lines) earlier later p ticket ask n c e = none_asked earlier later p ticket (request.Watch ask) c e
-receives_at (line.Post p' ticket' path body ∷ lines) earlier later p ticket ask n c e = none_asked earlier later p ticket (request.Watch ask) c e
-receives_at (line.Tick p' ∷ lines) earlier later p ticket ask n c e = none_asked earlier later p ticket (request.Watch ask) c e
-receives_at (line.Send p' ∷ lines) earlier later p ticket ask n c e = none_asked earlier later p ticket (request.Watch ask) c e
-receives_at (line.Exec number ∷ lines) earlier later p ticket ask n c e = none_asked earlier later p ticket (request.Watch ask) c e
-receives_at (line.Answer number ∷ lines) earlier later p ticket ask n c e = none_asked earlier later p ticket (request.Watch ask) c e
-receives_at (line.Lose number ∷ lines) earlier later p ticket ask n c e = none_asked earlier later p ticket (request.Watch ask) c e
-receives_at (line.Push number ∷ lines) earlier later p ticket ask n c e = none_asked earlier later p ticket (request.Watch ask) c e
-receives_at (line.Progress number ∷ lines) earlier later p ticket ask n c e = none_asked earlier later p ticket (request.Watch ask) c e
-receives_at (line.Deliver number ∷ lines) earlier later p ticket ask n c e = none_asked earlier later p ticket (request.Watch ask) c e
-receives_at (line.Cut number ∷ lines) earlier later p ticket ask n c e = none_asked earlier later p ticket (request.Watch ask) c e
-receives_at (line.Take p' ticket' ∷ lines) earlier later p ticket ask n c e = none_asked earlier later p ticket (request.Watch ask) c e
-receives_at (line.Leave p' ticket' ∷ lines) earlier later p ticket ask n c e = none_asked earlier later p ticket (request.Watch ask) c e
-receives_at (line.Expire lease ∷ lines) earlier later p ticket ask n c e = none_asked earlier later p ticket (request.Watch ask) c e
-receives_at (line.Apply member revision ∷ lines) earlier later p ticket ask n c e = none_asked earlier later p ticket (request.Watch ask) c e
+receives_at : (Q : About) → Gives Q → (lines : List Line) (earlier later : List Item) (p ticket : ℕ) (ask : WatchAsk) → length lines < 2 ^ 60 → transcript lines ≡ earlier ++ later
+    → asked_as p ticket (life p earlier) ≡ Some (request.Watch ask) → Q (transcript lines) earlier ask (taken_for p ticket (life p earlier))
+receives_at Q gives [] earlier later p ticket ask n c e = none_asked earlier later p ticket (request.Watch ask) c e
+receives_at Q gives (line.World members namespace leasing ∷ lines) earlier later p ticket ask n c e = in_world Q gives members namespace leasing lines earlier later p ticket ask (omega (arith, n)) c e
+receives_at Q gives (line.Start p' ∷ lines) earlier later p ticket ask n c e = none_asked earlier later p ticket (request.Watch ask) c e
+receives_at Q gives (line.Clock p' millis ∷ lines) earlier later p ticket ask n c e = none_asked earlier later p ticket (request.Watch ask) c e
+receives_at Q gives (line.Ask p' ticket' q ∷ lines) earlier later p ticket ask n c e = none_asked earlier later p ticket (request.Watch ask) c e
+receives_at Q gives (line.Post p' ticket' path body ∷ lines) earlier later p ticket ask n c e = none_asked earlier later p ticket (request.Watch ask) c e
+receives_at Q gives (line.Tick p' ∷ lines) earlier later p ticket ask n c e = none_asked earlier later p ticket (request.Watch ask) c e
+receives_at Q gives (line.Send p' ∷ lines) earlier later p ticket ask n c e = none_asked earlier later p ticket (request.Watch ask) c e
+receives_at Q gives (line.Exec number ∷ lines) earlier later p ticket ask n c e = none_asked earlier later p ticket (request.Watch ask) c e
+receives_at Q gives (line.Answer number ∷ lines) earlier later p ticket ask n c e = none_asked earlier later p ticket (request.Watch ask) c e
+receives_at Q gives (line.Lose number ∷ lines) earlier later p ticket ask n c e = none_asked earlier later p ticket (request.Watch ask) c e
+receives_at Q gives (line.Push number ∷ lines) earlier later p ticket ask n c e = none_asked earlier later p ticket (request.Watch ask) c e
+receives_at Q gives (line.Progress number ∷ lines) earlier later p ticket ask n c e = none_asked earlier later p ticket (request.Watch ask) c e
+receives_at Q gives (line.Deliver number ∷ lines) earlier later p ticket ask n c e = none_asked earlier later p ticket (request.Watch ask) c e
+receives_at Q gives (line.Cut number ∷ lines) earlier later p ticket ask n c e = none_asked earlier later p ticket (request.Watch ask) c e
+receives_at Q gives (line.Take p' ticket' ∷ lines) earlier later p ticket ask n c e = none_asked earlier later p ticket (request.Watch ask) c e
+receives_at Q gives (line.Leave p' ticket' ∷ lines) earlier later p ticket ask n c e = none_asked earlier later p ticket (request.Watch ask) c e
+receives_at Q gives (line.Expire lease ∷ lines) earlier later p ticket ask n c e = none_asked earlier later p ticket (request.Watch ask) c e
+receives_at Q gives (line.Apply member revision ∷ lines) earlier later p ticket ask n c e = none_asked earlier later p ticket (request.Watch ask) c e
 
 pub receives : (lines : List Line) → length lines < 2 ^ 60 → WatchesReceive (transcript lines)
-receives lines n earlier later p ticket ask c e = receives_at lines earlier later p ticket ask n c e
+receives lines n earlier later p ticket ask c e = receives_at HasReceived (λ whole items p ticket ask short s e k. received whole items p ticket ask s e k) lines earlier later p ticket ask n c e
+
+-- ---- the first message
+
+abbrev pub is_begun : List WatchItem → Bool
+is_begun [] = true
+is_begun (message.Created h ∷ is) = true
+is_begun (message.Events h es ∷ is) = false
+is_begun (message.Canceled h compaction ∷ is) = false
+
+messages_begun : (story : Story) (whole : Whole) (ask : WatchAsk) (start : ℕ) (taken : List WatchItem) → AreMessages story whole ask start taken → is_begun taken ≡ true
+messages_begun story whole ask start [] h = refl
+messages_begun story whole ask start (message.Created g ∷ is) h = refl
+messages_begun story whole ask start (message.Events g es ∷ is) h = absurd h
+messages_begun story whole ask start (message.Canceled g compaction ∷ is) h = absurd h
+
+front_begun : Gives (λ whole items ask taken. is_begun taken ≡ true)
+front_begun whole items p ticket ask short s e (inl none) = ap is_begun none
+front_begun whole items p ticket ask short s e (inr k) = messages_begun (story_by (own_only (namespace_of whole.items)) (namespace_of whole.items) whole) whole (kept_ask k.ask) k.start (taken_of p items ticket) k.own
+
+-- it is that the watch was created
+pub begins_created : (lines : List Line) → length lines < 2 ^ 60 → (earlier later : List Item) (p ticket : ℕ) (ask : WatchAsk) → transcript lines ≡ earlier ++ later → asked_as p ticket (life p earlier) ≡ Some (request.Watch ask)
+    → is_begun (taken_for p ticket (life p earlier)) ≡ true
+begins_created lines n earlier later p ticket ask c e = receives_at (λ whole items ask taken. is_begun taken ≡ true) front_begun lines earlier later p ticket ask n c e
+
+-- ---- messages without events
+
+front_progress : Gives (λ whole items ask taken. QueueOk (newest (seen items).store.history) taken)
+front_progress whole items p ticket ask short s e (inl none) = subst (QueueOk (newest (seen items).store.history)) (sym none) tt
+front_progress whole items p ticket ask short s e (inr k) = k.progress
+
+-- each tells a revision that there is
+pub progress_within : (lines : List Line) → length lines < 2 ^ 60 → (earlier later : List Item) (p ticket : ℕ) (ask : WatchAsk) → transcript lines ≡ earlier ++ later → asked_as p ticket (life p earlier) ≡ Some (request.Watch ask)
+    → QueueOk (newest (seen earlier).store.history) (taken_for p ticket (life p earlier))
+progress_within lines n earlier later p ticket ask c e = receives_at (λ whole items ask taken. QueueOk (newest (seen items).store.history) taken) front_progress lines earlier later p ticket ask n c e
+
+-- revisions are numbers of 64 bits
+front_fits : Gives (λ whole items ask taken. newest (seen whole).store.history + 2 ≤ 0xffff_ffff_ffff_ffff)
+front_fits whole items p ticket ask short s e k = subst (λ (h : History). newest h + 2 ≤ 0xffff_ffff_ffff_ffff) s short
+
+pub revisions_fit : (lines : List Line) → length lines < 2 ^ 60 → (earlier later : List Item) (p ticket : ℕ) (ask : WatchAsk) → transcript lines ≡ earlier ++ later → asked_as p ticket (life p earlier) ≡ Some (request.Watch ask)
+    → newest (seen (transcript lines)).store.history + 2 ≤ 0xffff_ffff_ffff_ffff
+revisions_fit lines n earlier later p ticket ask c e = receives_at (λ whole items ask taken. newest (seen whole).store.history + 2 ≤ 0xffff_ffff_ffff_ffff) front_fits lines earlier later p ticket ask n c e

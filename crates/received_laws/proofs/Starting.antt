@@ -15,7 +15,7 @@ use Rattle.proxy_model.specs.Upstream.{created}
 use Rattle.watch_model.specs.declared.place.WatchPlace.{WatchPlace}
 use Rattle.watch_model.specs.declared.place.WatchPlace.TheVariants as place
 use Rattle.watch_model.specs.State.{Stream, Watch, Broadcasts}
-use Rattle.watch_model.specs.Queues.{chosen, would_pass, with_progress}
+use Rattle.watch_model.specs.Queues.{chosen, would_pass, is_progress, with_progress}
 use Rattle.watch_model.specs.Lookups.{same_range, stream_at, place_stream, with_stream, without_stream, is_in, is_begun, is_closing, member_changed, without_watch, watch_changed}
 use Rattle.watch_model.specs.Joining.{created_header, told as told_watch, told_if, decided, new_watch, best_of, opening_from_now, or_else, stream_to_join, Seated, seated_at, seated}
 use Rattle.watch_model.specs.Merging.{merged_watch, merged}
@@ -38,8 +38,20 @@ use Rattle.held_laws.proofs.Knowing.{either_some}
 use Rattle.held_laws.proofs.Told.{both}
 use Rattle.core_laws.proofs.Watches.Touches.{Side, told_unwrapped, told_stream, Touch, leaves, hears, ticks, joins, heard_leasing, broke_leasing, cut_leasing, told, cut, took, left_it, opens_leasing, sends}
 
+-- a message without events tells no newer revision
+abbrev pub ProgressOk : ℕ → WatchItem → Type 0
+ProgressOk high (item.Created g) = Unit {0}
+ProgressOk high (item.Events g []) = g.revision ≤ high
+ProgressOk high (item.Events g (e ∷ es)) = Unit {0}
+ProgressOk high (item.Canceled g compaction) = Unit {0}
+
+abbrev pub QueueOk : ℕ → List WatchItem → Type 0
+QueueOk high [] = Unit {0}
+QueueOk high (i ∷ is) = ProgressOk high i × QueueOk high is
+
+-- a start that was left open, and the messages in its queue
 abbrev pub StartOk : ℕ → Watch → Type 0
-StartOk high w = (w.ask.start == 0) ≡ true → w.start ≤ high + 1
+StartOk high w = ((w.ask.start == 0) ≡ true → w.start ≤ high + 1) × QueueOk high w.queue
 
 pub record StartsOk (high : ℕ) (a : Side) : Type 0 where
   pub header : a.header.revision ≤ high
@@ -57,9 +69,28 @@ IsWithin high _ = Unit {0}
 
 -- ---- a greater newest revision
 
+progress_later : (low high : ℕ) (i : WatchItem) → low ≤ high → ProgressOk low i → ProgressOk high i
+progress_later low high (item.Created g) l h = tt
+progress_later low high (item.Events g []) l h = omega (arith, l, h)
+progress_later low high (item.Events g (e ∷ es)) l h = tt
+progress_later low high (item.Canceled g compaction) l h = tt
+
+pub queue_later : (low high : ℕ) (is : List WatchItem) → low ≤ high → QueueOk low is → QueueOk high is
+queue_later low high [] l h = tt
+queue_later low high (i ∷ is) l h = (progress_later low high i l h.0, queue_later low high is l h.1)
+
+pub queue_push : (high : ℕ) (is : List WatchItem) (i : WatchItem) → QueueOk high is → ProgressOk high i → QueueOk high (is ++ i ∷ [])
+queue_push high [] i h k = (k, tt)
+queue_push high (j ∷ is) i h k = (h.0, queue_push high is i h.1 k)
+
+queue_progress : (high : ℕ) (is : List WatchItem) (i : WatchItem) → QueueOk high is → ProgressOk high i → QueueOk high (with_progress is i)
+queue_progress high [] i h k = (k, tt)
+queue_progress high (j ∷ []) i h k = elim (is_progress j) as (λ b. QueueOk high (cond b (i ∷ []) (j ∷ i ∷ []))) [ true ↦ (k, tt) | false ↦ (h.0, (k, tt)) ]
+queue_progress high (j ∷ m ∷ is) i h k = (h.0, queue_progress high (m ∷ is) i h.1 k)
+
 each_later : (low high : ℕ) (ws : List Watch) → low ≤ high → EachWatch (StartOk low) ws → EachWatch (StartOk high) ws
 each_later low high [] l h = tt
-each_later low high (w ∷ ws) l h = ((λ e. let k = h.0 e in omega (arith, l, k)), each_later low high ws l h.1)
+each_later low high (w ∷ ws) l h = (((λ e. let k = h.0.0 e in omega (arith, l, k)), queue_later low high w.queue l h.0.1), each_later low high ws l h.1)
 
 pub starts_later : (low high : ℕ) (a : Side) → low ≤ high → StartsOk low a → StartsOk high a
 starts_later low high a l h = record { header = (let k = h.header in omega (arith, l, k)); watches = each_later low high a.broadcasts.watches l h.watches }
@@ -72,20 +103,20 @@ Leaves f = (high : ℕ) (w : Watch) → StartOk high w → StartOk high (f w)
 queued_leaves : (g : Header) (own : ℕ) (es : List Event) → Leaves (queued g own es)
 queued_leaves g own [] high w h = h
 queued_leaves g own (e ∷ es) high w h =
-    elim (would_pass w.queue (length (e ∷ es))) as (λ b. StartOk high (cond b (record w { next = own; place = place.Split }) (record w { queue = w.queue ++ item.Events g (e ∷ es) ∷ [] }))) [ true ↦ h | false ↦ h ]
+    elim (would_pass w.queue (length (e ∷ es))) as (λ b. StartOk high (cond b (record w { next = own; place = place.Split }) (record w { queue = w.queue ++ item.Events g (e ∷ es) ∷ [] }))) [ true ↦ h | false ↦ (h.0, queue_push high w.queue (item.Events g (e ∷ es)) h.1 tt) ]
 
-progressed_leaves : (next : ℕ) (g : Header) → Leaves (progressed next g)
-progressed_leaves next g high w h = elim (w.ask.progress && nat_le (max w.next next) (g.revision + 1)) as (λ b. StartOk high (cond b (record w { queue = with_progress w.queue (item.Events g []) }) w)) [ true ↦ h | false ↦ h ]
+progressed_leaves : (high next : ℕ) (g : Header) → g.revision ≤ high → (w : Watch) → StartOk high w → StartOk high (progressed next g w)
+progressed_leaves high next g l w h = elim (w.ask.progress && nat_le (max w.next next) (g.revision + 1)) as (λ b. StartOk high (cond b (record w { queue = with_progress w.queue (item.Events g []) }) w)) [ true ↦ (h.0, queue_progress high w.queue (item.Events g []) h.1 l) | false ↦ h ]
 
 told_leaves : (last : Header) → Leaves (told_watch last)
-told_leaves last high w h = elim w.told as (λ b. StartOk high (cond b w (record w { told = true; queue = w.queue ++ item.Created (created_header last w) ∷ [] }))) [ true ↦ h | false ↦ h ]
+told_leaves last high w h = elim w.told as (λ b. StartOk high (cond b w (record w { told = true; queue = w.queue ++ item.Created (created_header last w) ∷ [] }))) [ true ↦ h | false ↦ (h.0, queue_push high w.queue (item.Created (created_header last w)) h.1 tt) ]
 
 told_if_leaves : (b : Bool) (last : Header) → Leaves (told_if b last)
 told_if_leaves true last high w h = told_leaves last high w h
 told_if_leaves false last high w h = h
 
-each_member : (high n : ℕ) (f : Watch → Watch) (ws : List Watch) → Leaves f → EachWatch (StartOk high) ws → EachWatch (StartOk high) (map (member_changed n f) ws)
-each_member high n f ws k h = each_mapped (StartOk high) (StartOk high) (member_changed n f) (λ w p. elim (is_in n w.place) as (λ c. StartOk high (cond c (f w) w)) [ true ↦ k high w p | false ↦ p ]) ws h
+each_member : (high n : ℕ) (f : Watch → Watch) (ws : List Watch) → ((w : Watch) → StartOk high w → StartOk high (f w)) → EachWatch (StartOk high) ws → EachWatch (StartOk high) (map (member_changed n f) ws)
+each_member high n f ws k h = each_mapped (StartOk high) (StartOk high) (member_changed n f) (λ w p. elim (is_in n w.place) as (λ c. StartOk high (cond c (f w) w)) [ true ↦ k w p | false ↦ p ]) ws h
 
 merged_starts : (high : ℕ) (range : KeyRange) (b : Broadcasts) → EachWatch (StartOk high) b.watches → EachWatch (StartOk high) (merged range b).watches
 merged_starts high range b h = each_mapped (StartOk high) (StartOk high) (merged_watch range b.streams) (λ w p. p) b.watches h
@@ -97,24 +128,24 @@ cut_starts high b s h =
       | false ↦ each_mapped (StartOk high) (StartOk high) (renumbered s.number (b.given + 1)) (λ w p. elim (is_in s.number w.place) as (λ c. StartOk high (cond c (record w { place = place.In (b.given + 1) }) w)) [ true ↦ p | false ↦ p ]) b.watches h
     ]
 
-message_starts : (high : ℕ) (b : Broadcasts) (s : Stream) (g : Header) (es : List Event) → EachWatch (StartOk high) b.watches → EachWatch (StartOk high) (delivered_message b s g es).watches
-message_starts high b s g [] h =
+message_starts : (high : ℕ) (b : Broadcasts) (s : Stream) (g : Header) (es : List Event) → g.revision ≤ high → EachWatch (StartOk high) b.watches → EachWatch (StartOk high) (delivered_message b s g es).watches
+message_starts high b s g [] l h =
     let f = progressed s.stream.next g in
     elim (nat_le s.stream.next (g.revision + 1)) as (λ c. EachWatch (StartOk high) (cond c (record b { streams = with_stream s.number (advanced g.revision) b.streams; watches = map (member_changed s.number f) b.watches }) b).watches) [
-      | true ↦ each_member high s.number f b.watches (progressed_leaves s.stream.next g) h
+      | true ↦ each_member high s.number f b.watches (progressed_leaves high s.stream.next g l) h
       | false ↦ h
     ]
-message_starts high b s g (e ∷ es) h =
+message_starts high b s g (e ∷ es) l h =
     let f = given_batch s.stream.next g (e ∷ es) in
     emptied_steady (StartOk high) s.number (record b { streams = with_stream s.number (advanced (last_revision 0 (e ∷ es))) b.streams; watches = map (member_changed s.number f) b.watches })
-    (each_member high s.number f b.watches (λ n w p. queued_leaves g (max w.next s.stream.next) (shown_events w.ask (chosen w.ask (max w.next s.stream.next) (e ∷ es))) n w p) h)
+    (each_member high s.number f b.watches (λ w p. queued_leaves g (max w.next s.stream.next) (shown_events w.ask (chosen w.ask (max w.next s.stream.next) (e ∷ es))) high w p) h)
 
-delivered_starts : (high : ℕ) (b : Broadcasts) (s : Stream) (g : Header) (es : List Event) → EachWatch (StartOk high) b.watches → EachWatch (StartOk high) (delivered_stream b s g es).watches
-delivered_starts high b s g es h =
+delivered_starts : (high : ℕ) (b : Broadcasts) (s : Stream) (g : Header) (es : List Event) → g.revision ≤ high → EachWatch (StartOk high) b.watches → EachWatch (StartOk high) (delivered_stream b s g es).watches
+delivered_starts high b s g es l h =
     let d = delivered_message b s g es in
     elim (is_begun s.phase) as (λ c. EachWatch (StartOk high) (cond c (cond (is_told s es) (merged s.stream.range d) (cut_stream b s)) b).watches) [
       | true ↦ elim (is_told s es) as (λ c. EachWatch (StartOk high) (cond c (merged s.stream.range d) (cut_stream b s)).watches) [
-        | true ↦ merged_starts high s.stream.range d (message_starts high b s g es h)
+        | true ↦ merged_starts high s.stream.range d (message_starts high b s g es l h)
         | false ↦ cut_starts high b s h
       ]
       | false ↦ h
@@ -123,7 +154,7 @@ delivered_starts high b s g es h =
 -- ---- changes that decide it
 
 decided_starts : (high n : ℕ) (w : Watch) → ((w.next == 0) ≡ true → n ≤ high + 1) → StartOk high w → StartOk high (decided n w)
-decided_starts high n w l h = elim (w.next == 0) as (λ b. (w.next == 0) ≡ b → StartOk high (cond b (record w { start = n; next = n }) w)) [ true ↦ λ e q. l e | false ↦ λ e. h ] refl
+decided_starts high n w l h = elim (w.next == 0) as (λ b. (w.next == 0) ≡ b → StartOk high (cond b (record w { start = n; next = n }) w)) [ true ↦ λ e. ((λ q. l e), h.1) | false ↦ λ e. h ] refl
 
 capped_most : (n : ℕ) → capped n ≤ n
 capped_most n = omega arith
@@ -194,7 +225,7 @@ left_starts high n next g compact step last ss given w l h =
     let out : Seated = record { streams = ss; given = given; watch = w } in
     let gone : Seated = record { streams = ss; given = given; watch = ended g compact v } in
     elim (is_in n w.place) as (λ b. StartOk high (cond b (left_one g compact step last ss given v) out).watch) [
-      | true ↦ elim (nat_lt v.next compact) as (λ c. StartOk high (cond c gone (seated ss given step last v)).watch) [ true ↦ h | false ↦ seat_starts high ss given step last v l h ]
+      | true ↦ elim (nat_lt v.next compact) as (λ c. StartOk high (cond c gone (seated ss given step last v)).watch) [ true ↦ (h.0, queue_push high v.queue (item.Canceled g compact) h.1 tt) | false ↦ seat_starts high ss given step last v l h ]
       | false ↦ h
     ]
 
@@ -232,14 +263,14 @@ told_starts story have high b s last namespace x at l m o h =
     by (item.Events g es) l = events (events_without namespace es)
       where
         events : (r : Unwrapped (List Event)) → EachWatch (StartOk high) (told_unwrapped b s last (r >>= λ us. Ok (item.Events g us))).watches
-        events (Ok us) = delivered_starts high b s g us h
+        events (Ok us) = delivered_starts high b s g us l h
         events (Err foreign) = cut_starts high b s h
 
 replaced_starts : (high ticket : ℕ) (v : Watch) (ws : List Watch) → StartOk high v → EachWatch (StartOk high) ws → EachWatch (StartOk high) (map (watch_changed ticket (λ u. v)) ws)
 replaced_starts high ticket v ws p h = each_mapped (StartOk high) (StartOk high) (watch_changed ticket (λ u. v)) (λ w q. elim (w.ticket == ticket) as (λ c. StartOk high (cond c v w)) [ true ↦ p | false ↦ q ]) ws h
 
 taken_starts : (high : ℕ) (b : Broadcasts) (last : Header) (w : Watch) → last.revision ≤ high → StartOk high w → EachWatch (StartOk high) b.watches → EachWatch (StartOk high) (taken_from b last w w.queue).0.watches
-taken_starts high b last w l p h = by w.queue
+taken_starts high b last w l p h = by w.queue p.1
   where
     after : (v : Watch) (is : List WatchItem) (q : WatchPlace) → StartOk high v → EachWatch (StartOk high) (after_take b last v is q).watches
     after v [] place.Split p = let x = seated b.streams b.given b.step last v in replaced_starts high x.watch.ticket x.watch b.watches (seat_starts high b.streams b.given b.step last v l p) h
@@ -249,13 +280,13 @@ taken_starts high b last w l p h = by w.queue
     after v (i ∷ is) (place.In n) p = replaced_starts high v.ticket v b.watches p h
     after v (i ∷ is) place.Ended p = replaced_starts high v.ticket v b.watches p h
 
-    by : (q : List WatchItem) → EachWatch (StartOk high) (taken_from b last w q).0.watches
-    by [] = h
-    by (i ∷ is) =
+    by : (q : List WatchItem) → QueueOk high q → EachWatch (StartOk high) (taken_from b last w q).0.watches
+    by [] k = h
+    by (i ∷ is) k =
         let v : Watch = record w { queue = is } in
         elim (is_last i) as (λ c. EachWatch (StartOk high) (cond c (record b { watches = without_watch w.ticket b.watches }) (after_take b last v is w.place)).watches) [
           | true ↦ each_other (StartOk high) w.ticket b.watches h
-          | false ↦ after v is w.place p
+          | false ↦ after v is w.place (p.0, k.1)
         ]
 
 pub touch_starts : (story : Story) (have : Received) (high : ℕ) (namespace : List ℕ) (a d : Side) (e : CoreEvent) (o : Result Outcome StepFault) → IsWithin high e → Holds story have a.broadcasts → Touch namespace a e d o → StartsOk high a → StartsOk high d
@@ -265,7 +296,7 @@ touch_starts story have high namespace a _ _ _ t k (ticks word) h = record { hea
 touch_starts story have high namespace a _ _ _ t k (joins ticket ask word f) h =
     let b = a.broadcasts in
     let x = seated b.streams b.given b.step a.header (new_watch ticket ask) in
-    record { header = h.header; watches = each_inserted (StartOk high) x.watch b.watches (seat_starts high b.streams b.given b.step a.header (new_watch ticket ask) h.header (λ z. open_start ask.start high z)) h.watches }
+    record { header = h.header; watches = each_inserted (StartOk high) x.watch b.watches (seat_starts high b.streams b.given b.step a.header (new_watch ticket ask) h.header ((λ z. open_start ask.start high z), tt)) h.watches }
   where
     open_start : (n high : ℕ) → (n == 0) ≡ true → n ≤ high + 1
     open_start n high z = grind (arith, nat_tests)

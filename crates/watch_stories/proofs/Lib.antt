@@ -11,3 +11,4 @@ pub mod Steps
 pub mod Lines
 pub mod Worlds
 pub mod Scripts
+pub mod Ends

@@ -17,7 +17,8 @@ use Rattle.watch_model.specs.declared.stream.StreamPhase.TheVariants as phase
 use Rattle.watch_model.specs.Cuts.{ended, leaving}
 use Rattle.watch_model.specs.Joining.{created_header, told, told_if, decided, new_watch}
 use Rattle.watch_model.specs.Lookups.{next_of, is_begun}
-use Rattle.watch_model.specs.Queues.{item_events, queued_events, with_progress}
+use Rattle.proxy_model.specs.Limits.{capped}
+use Rattle.watch_model.specs.Queues.{item_events, queued_events, is_progress, with_progress}
 use Rattle.watch_model.specs.State.{Stream, Watch}
 use Rattle.watch_laws.proofs.Steps.{no_more_events}
 use Rattle.world_model.specs.Answers.{seen}
@@ -56,6 +57,39 @@ only_progress s (message.Canceled f c ∷ []) g h = (h.0, tt)
 only_progress s (message.Created f ∷ j ∷ is) g h = only_progress s (j ∷ is) g h
 only_progress s (message.Events f es ∷ j ∷ is) g h = only_progress s (j ∷ is) g h
 only_progress s (message.Canceled f c ∷ j ∷ is) g h = (h.0, only_progress s (j ∷ is) g h.1)
+
+-- ---- messages without events tell no revision from this one on
+
+abbrev pub ItemUpTo : ℕ → WatchItem → Type 0
+ItemUpTo n (message.Created g) = Unit {0}
+ItemUpTo n (message.Events g []) = capped (g.revision + 1) ≤ n
+ItemUpTo n (message.Events g (e ∷ es)) = Unit {0}
+ItemUpTo n (message.Canceled g compaction) = Unit {0}
+
+abbrev pub AreUpTo : ℕ → List WatchItem → Type 0
+AreUpTo n [] = Unit {0}
+AreUpTo n (i ∷ is) = ItemUpTo n i × AreUpTo n is
+
+item_later : (n m : ℕ) (i : WatchItem) → n ≤ m → ItemUpTo n i → ItemUpTo m i
+item_later n m (message.Created g) l h = tt
+item_later n m (message.Events g []) l h = omega (arith, l, h)
+item_later n m (message.Events g (e ∷ es)) l h = tt
+item_later n m (message.Canceled g compaction) l h = tt
+
+pub up_later : (n m : ℕ) (is : List WatchItem) → n ≤ m → AreUpTo n is → AreUpTo m is
+up_later n m [] l h = tt
+up_later n m (i ∷ is) l h = (item_later n m i l h.0, up_later n m is l h.1)
+
+pub up_push : (n : ℕ) (got q : List WatchItem) (i : WatchItem) → AreUpTo n (got ++ q) → ItemUpTo n i → AreUpTo n (got ++ (q ++ i ∷ []))
+up_push n [] [] i h k = (k, tt)
+up_push n [] (j ∷ q) i h k = (h.0, up_push n [] q i h.1 k)
+up_push n (j ∷ got) q i h k = (h.0, up_push n got q i h.1 k)
+
+pub up_progress : (n : ℕ) (got q : List WatchItem) (i : WatchItem) → AreUpTo n (got ++ q) → ItemUpTo n i → AreUpTo n (got ++ with_progress q i)
+up_progress n [] [] i h k = (k, tt)
+up_progress n [] (j ∷ []) i h k = elim (is_progress j) as (λ b. AreUpTo n (cond b (i ∷ []) (j ∷ i ∷ []))) [ true ↦ (k, tt) | false ↦ (h.0, (k, tt)) ]
+up_progress n [] (j ∷ m ∷ q) i h k = (h.0, up_progress n [] (m ∷ q) i h.1 k)
+up_progress n (j ∷ got) q i h k = (h.0, up_progress n got q i h.1 k)
 
 -- where it isn't over there is none
 abbrev pub IsOn : Spot → Type 0
@@ -118,6 +152,7 @@ pub record Has (v : View) (o : Option Stream) (w : Watch) : Type 0 where
   pub told : w.told ≡ true → point.told ≡ true
   pub spot : StandsAt v.kept o w.place point.spot
   pub given : point.given ≡ queued_events (taken_of v.proxy v.items w.ticket ++ w.queue)
+  pub bounded : AreUpTo point.next (taken_of v.proxy v.items w.ticket ++ w.queue)
   pub cancels : OnlyOver point.spot w.queue
   pub fits : Fits o w
 
@@ -134,6 +169,7 @@ pub record Joins (v : View) (w : Watch) : Type 0 where
   pub told : w.told ≡ true → point.told ≡ true
   pub spot : point.spot ≡ joins
   pub given : point.given ≡ queued_events (taken_of v.proxy v.items w.ticket ++ w.queue)
+  pub bounded : AreUpTo point.next (taken_of v.proxy v.items w.ticket ++ w.queue)
   pub cancels : OnlyOver point.spot w.queue
 
 -- ---- queues
@@ -227,6 +263,7 @@ told_has v t last w own o c h m = by w.told refl
       told = λ q. refl;
       spot = h.spot;
       given = h.given ∙ sym (queued_none (taken_of v.proxy v.items w.ticket) w.queue i refl);
+      bounded = up_push h.point.next (taken_of v.proxy v.items w.ticket) w.queue i h.bounded tt;
       cancels = only_push h.point.spot w.queue i h.cancels tt;
       fits = h.fits;
     })
@@ -257,6 +294,9 @@ given_later : (v : View) (more : List Item) (ticket : ℕ) (q : List WatchItem) 
     → queued_events (taken_of v.proxy v.items ticket ++ q) ≡ queued_events (taken_of v.proxy (v.items ++ more) ticket ++ q)
 given_later v more ticket q s = ap (λ (l : List WatchItem). queued_events (l ++ q)) (sym (taken_still v.proxy ticket v.items more s))
 
+up_still : (v : View) (more : List Item) (ticket n : ℕ) (q : List WatchItem) → IsSilent v.proxy more → AreUpTo n (taken_of v.proxy v.items ticket ++ q) → AreUpTo n (taken_of v.proxy (v.items ++ more) ticket ++ q)
+up_still v more ticket n q s h = subst (λ (l : List WatchItem). AreUpTo n (l ++ q)) (sym (taken_still v.proxy ticket v.items more s)) h
+
 pub rest_has : (v : View) (i : Item) (o : Option Stream) (w : Watch) → IsSilent v.proxy (i ∷ []) → begins v.proxy i ≡ false → (h : Has v o w) → concerns i h.point.spot ≡ false → Has (later v (i ∷ [])) o w
 rest_has v i o w s b h c = record {
   ask = h.ask;
@@ -270,6 +310,7 @@ rest_has v i o w s b h c = record {
   told = h.told;
   spot = h.spot;
   given = h.given ∙ given_later v (i ∷ []) w.ticket w.queue s;
+  bounded = up_still v (i ∷ []) w.ticket h.point.next w.queue s h.bounded;
   cancels = h.cancels;
   fits = h.fits;
 }
@@ -318,6 +359,9 @@ seat_has v w s o b range behind bound j =
         given =
             j.given
             ∙ (λ i. queued_events (taken_of v.proxy v.items (sym (decided_same (λ u. u.ticket) s.stream.next w (λ a b. refl)) i) ++ sym (decided_same (λ u. u.queue) s.stream.next w (λ a b. refl)) i));
+        bounded =
+            subst (AreUpTo (max x.next m)) (λ i. taken_of v.proxy v.items (sym (decided_same (λ u. u.ticket) s.stream.next w (λ a b. refl)) i) ++ sym (decided_same (λ u. u.queue) s.stream.next w (λ a b. refl)) i)
+            (up_later x.next (max x.next m) (taken_of v.proxy v.items w.ticket ++ w.queue) (omega arith) j.bounded);
         cancels = subst (OnlyOver (member n)) (sym (decided_same (λ u. u.queue) s.stream.next w (λ a b. refl))) (only_moved x.spot (member n) w.queue (joins_on x.spot j.spot) j.cancels);
         fits = (range ∙ ap (λ (a : WatchAsk). a.range) (sym (decided_same (λ u. u.ask) s.stream.next w (λ a b. refl))), λ z. decided_zero s.stream.next w z);
       },
@@ -354,6 +398,9 @@ due_has v w s since e range behind bound j =
       given =
           j.given
           ∙ (λ i. queued_events (taken_of v.proxy v.items (sym (decided_same (λ u. u.ticket) m w (λ a b. refl)) i) ++ sym (decided_same (λ u. u.queue) m w (λ a b. refl)) i));
+      bounded =
+          subst (AreUpTo (max x.next m)) (λ i. taken_of v.proxy v.items (sym (decided_same (λ u. u.ticket) m w (λ a b. refl)) i) ++ sym (decided_same (λ u. u.queue) m w (λ a b. refl)) i)
+          (up_later x.next (max x.next m) (taken_of v.proxy v.items w.ticket ++ w.queue) (omega arith) j.bounded);
       cancels = subst (OnlyOver waits) (sym (decided_same (λ u. u.queue) m w (λ a b. refl))) (only_moved x.spot waits w.queue (joins_on x.spot j.spot) j.cancels);
       fits = (range ∙ ap (λ (a : WatchAsk). a.range) (sym (decided_same (λ u. u.ask) m w (λ a b. refl))), λ z. decided_zero m w z);
     }
@@ -375,6 +422,7 @@ fresh_has v w s since own e range f j =
       told = j.told;
       spot = subst (λ (q : StreamPhase). AtPhase v.kept own q waits) (sym e) refl;
       given = j.given;
+      bounded = up_later x.next (max x.next w.next) (taken_of v.proxy v.items w.ticket ++ w.queue) (omega arith) j.bounded;
       cancels = only_moved x.spot waits w.queue (joins_on x.spot j.spot) j.cancels;
       fits = (range, λ z. f ∙ zero_is w.next z);
     }
@@ -402,9 +450,9 @@ pub heard_has : (v : View) (n own : ℕ) (t u : Stream) (w : Watch) (i : WatchIt
     → t.stream.next ≤ u.stream.next → u.stream.range ≡ t.stream.range
     → Hears v.namespace h.ask (heard v n).items (stream_next v.proxy n v.items) (stream_next v.proxy n (heard v n).items) h.point i y
     → y.start ≡ (brought (stream_next v.proxy n (heard v n).items) h.point).start → y.next ≡ (brought (stream_next v.proxy n (heard v n).items) h.point).next
-    → y.told ≡ h.point.told → y.spot ≡ h.point.spot → y.given ≡ queued_events (taken_of v.proxy v.items w.ticket ++ q) → OnlyOver h.point.spot q
+    → y.told ≡ h.point.told → y.spot ≡ h.point.spot → y.given ≡ queued_events (taken_of v.proxy v.items w.ticket ++ q) → OnlyOver h.point.spot q → AreUpTo y.next (taken_of v.proxy v.items w.ticket ++ q)
     → (k : Has (heard v n) (Some u) (record (decided u.stream.next w) { queue = q })) × (k.point.spot ≡ member n)
-heard_has v n own t u w i q y h o at b number spot message ahead range hear start next told same given only =
+heard_has v n own t u w i q y h o at b number spot message ahead range hear start next told same given only upto =
     let m = stream_next v.proxy n (heard v n).items in
     let here : m ≡ u.stream.next = ap (λ (k : ℕ). stream_next v.proxy k (heard v n).items) (sym number) ∙ open_next (heard v n) own u o in
     let x = h.point in
@@ -426,6 +474,7 @@ heard_has v n own t u w i q y h o at b number spot message ahead range hear star
             subst (λ (p : WatchPlace). StandsAt v.kept (Some u) p y.spot) (sym (decided_same (λ u. u.place) u.stream.next w (λ a b. refl) ∙ at))
             (subst (AtPhase v.kept own u.phase) (sym (same ∙ spot)) (by u.phase b));
         given = given ∙ given_later v (item.Delivered n ∷ []) w.ticket q (delivered_silent v.proxy n) ∙ ap (λ (k : ℕ). queued_events (taken_of v.proxy (heard v n).items k ++ q)) (sym ticket);
+        bounded = subst (λ (k : ℕ). AreUpTo y.next (taken_of v.proxy (heard v n).items k ++ q)) (sym ticket) (up_still v (item.Delivered n ∷ []) w.ticket y.next q (delivered_silent v.proxy n) upto);
         cancels = subst (λ (s : Spot). OnlyOver s q) (sym same) only;
         fits = (range ∙ h.fits.0 ∙ ap (λ (a : WatchAsk). a.range) (sym (decided_same (λ u. u.ask) u.stream.next w (λ a b. refl))), λ z. decided_zero u.stream.next w z);
       },
@@ -451,6 +500,7 @@ pub record Leaves (v : View) (n : ℕ) (t : Stream) (w : Watch) (s : Spot) : Typ
   pub zero : (point.start == 0) ≡ (point.next == 0)
   pub told : w.told ≡ true → point.told ≡ true
   pub given : point.given ≡ queued_events (taken_of v.proxy (heard v n).items w.ticket ++ w.queue)
+  pub bounded : AreUpTo point.next (taken_of v.proxy (heard v n).items w.ticket ++ w.queue)
   pub on : IsOn point.spot
   pub cancels : OnlyOver point.spot w.queue
   pub fits : Fits (Some t) w
@@ -468,6 +518,7 @@ leaves_has v n t w i s h spot message hear = record {
   zero = h.zero;
   told = h.told;
   given = h.given ∙ given_later v (item.Delivered n ∷ []) w.ticket w.queue (delivered_silent v.proxy n);
+  bounded = up_still v (item.Delivered n ∷ []) w.ticket h.point.next w.queue (delivered_silent v.proxy n) h.bounded;
   on = member_on n h.point.spot spot;
   cancels = h.cancels;
   fits = h.fits;
@@ -487,6 +538,7 @@ split_has v n own t w e l = record {
   told = l.told;
   spot = (refl, refl);
   given = l.given;
+  bounded = l.bounded;
   cancels = only_moved l.point.spot apart w.queue l.on l.cancels;
   fits = tt;
 }
@@ -505,6 +557,7 @@ ended_has v n t w g compaction l = record {
   told = l.told;
   spot = (refl, (g, compaction, refl));
   given = l.given ∙ sym (queued_none (taken_of v.proxy (heard v n).items w.ticket) w.queue (message.Canceled g compaction) refl);
+  bounded = up_push l.point.next (taken_of v.proxy (heard v n).items w.ticket) w.queue (message.Canceled g compaction) l.bounded tt;
   cancels = only_push (over g compaction) w.queue (message.Canceled g compaction) (only_moved l.point.spot (over g compaction) w.queue l.on l.cancels) (refl, tt);
   fits = tt;
 }
@@ -523,6 +576,7 @@ leaving_joins v n t w l = record {
   told = l.told;
   spot = refl;
   given = l.given;
+  bounded = l.bounded;
   cancels = only_moved l.point.spot joins w.queue l.on l.cancels;
 }
 
@@ -540,6 +594,7 @@ broken_has v n own since t r w e range f l = record {
   told = l.told;
   spot = subst (λ (q : StreamPhase). AtPhase v.kept own q waits) (sym f) refl;
   given = l.given;
+  bounded = l.bounded;
   cancels = only_moved l.point.spot waits w.queue l.on l.cancels;
   fits = (range ∙ l.fits.0, λ z. e ∙ l.fits.1 z);
 }
@@ -559,6 +614,7 @@ cut_has v n own since t r w e range f h spot = record {
   told = h.told;
   spot = subst (λ (q : StreamPhase). AtPhase v.kept own q waits) (sym f) refl;
   given = h.given ∙ given_later v (item.Cut n ∷ []) w.ticket w.queue silent;
+  bounded = up_still v (item.Cut n ∷ []) w.ticket h.point.next w.queue silent h.bounded;
   cancels = only_moved h.point.spot waits w.queue (member_on n h.point.spot spot) h.cancels;
   fits = (range ∙ h.fits.0, λ z. e ∙ h.fits.1 z);
 }
@@ -584,6 +640,7 @@ merged_has v s k own w a b begun next range h spot = record {
   told = h.told;
   spot = by k.phase begun;
   given = h.given;
+  bounded = h.bounded;
   cancels = only_moved h.point.spot (member b.number) w.queue (member_on a.number h.point.spot spot) h.cancels;
   fits = (range, λ z. next ∙ h.fits.1 z);
 }
@@ -611,6 +668,7 @@ rekept_has v kept o w k h = record {
   told = h.told;
   spot = by o w.place k h.spot;
   given = h.given;
+  bounded = h.bounded;
   cancels = h.cancels;
   fits = h.fits;
 }
@@ -642,6 +700,7 @@ opened_has v i kept own since t u w o s b is at due begun same h = record {
   told = h.told;
   spot = subst (λ (p : WatchPlace). StandsAt kept (Some u) p (member o.number)) (sym at) (by u.phase begun);
   given = h.given ∙ given_later v (i ∷ []) w.ticket w.queue s;
+  bounded = up_still v (i ∷ []) w.ticket h.point.next w.queue s h.bounded;
   cancels = only_moved h.point.spot (member o.number) w.queue (waits_on h.point.spot waiting) h.cancels;
   fits = (ap (λ (x : Upstream). x.range) same ∙ h.fits.0, λ z. ap (λ (x : Upstream). x.next) same ∙ h.fits.1 z);
 }
@@ -701,6 +760,7 @@ untaken_has v ticket i o w d h = record {
   told = h.told;
   spot = h.spot;
   given = h.given ∙ ap (λ (l : List WatchItem). queued_events (l ++ w.queue)) (sym (taken_other v ticket w.ticket i d));
+  bounded = subst (λ (l : List WatchItem). AreUpTo h.point.next (l ++ w.queue)) (sym (taken_other v ticket w.ticket i d)) h.bounded;
   cancels = h.cancels;
   fits = h.fits;
 }
@@ -709,6 +769,10 @@ given_taken : (v : View) (ticket : ℕ) (i : WatchItem) (q is : List WatchItem) 
 given_taken v ticket i q is e =
     ap (λ (l : List WatchItem). queued_events (taken_of v.proxy v.items ticket ++ l)) e ∙ ap queued_events (sym (append_assoc (taken_of v.proxy v.items ticket) (i ∷ []) is))
     ∙ ap (λ (l : List WatchItem). queued_events (l ++ is)) (sym (taken_itself v ticket i))
+
+up_taken : (v : View) (ticket n : ℕ) (i : WatchItem) (q is : List WatchItem) → q ≡ i ∷ is → AreUpTo n (taken_of v.proxy v.items ticket ++ q) → AreUpTo n (taken_of v.proxy (taking v ticket i).items ticket ++ is)
+up_taken v ticket n i q is e h =
+    subst (AreUpTo n) (ap (λ (l : List WatchItem). taken_of v.proxy v.items ticket ++ l) e ∙ sym (append_assoc (taken_of v.proxy v.items ticket) (i ∷ []) is) ∙ ap (λ (l : List WatchItem). l ++ is) (sym (taken_itself v ticket i))) h
 
 pub took_has : (v : View) (i : WatchItem) (is : List WatchItem) (o : Option Stream) (w : Watch) → w.queue ≡ i ∷ is → Has v o w → Has (taking v w.ticket i) o (record w { queue = is })
 took_has v i is o w q h = record {
@@ -723,6 +787,7 @@ took_has v i is o w q h = record {
   told = h.told;
   spot = h.spot;
   given = h.given ∙ given_taken v w.ticket i w.queue is q;
+  bounded = up_taken v w.ticket h.point.next i w.queue is q h.bounded;
   cancels = only_rest h.point.spot i is (subst (OnlyOver h.point.spot) q h.cancels);
   fits = rest o h.fits;
 }
@@ -747,6 +812,7 @@ took_joins v i is w q at h =
       told = h.told;
       spot = refl;
       given = h.given ∙ given_taken v w.ticket i w.queue is q;
+      bounded = up_taken v w.ticket h.point.next i w.queue is q h.bounded;
       cancels = only_moved h.point.spot joins is (apart_on h.point.spot s) (only_rest h.point.spot i is (subst (OnlyOver h.point.spot) q h.cancels));
     }
 
@@ -766,5 +832,6 @@ new_joins v ticket ask asked none = record {
   told = λ q. absurd (cc);
   spot = refl;
   given = ap queued_events (sym (append-nil (taken_of v.proxy (v.items ++ item.Asked v.proxy ticket (request.Watch ask) ∷ []) ticket) ∙ none));
+  bounded = subst (AreUpTo ask.start) (sym (append-nil (taken_of v.proxy (v.items ++ item.Asked v.proxy ticket (request.Watch ask) ∷ []) ticket) ∙ none)) tt;
   cancels = tt;
 }

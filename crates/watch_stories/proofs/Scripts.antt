@@ -24,9 +24,10 @@ use Rattle.core_model.specs.declared.event.Outcome.{Outcome}
 use Rattle.core_model.specs.declared.event.Outcome.TheVariants as outcome
 use Rattle.core_model.specs.Step.{stepped}
 use Rattle.world_model.specs.Gains.{Replies, body_if, line_if, all_fetched, reply_items}
+use Rattle.world_model.specs.Lives.{namespace_of}
 use Rattle.world_model.specs.Places.{nth, is_among, with_core}
 use Rattle.world_model.specs.State.{Place, World, starting_world}
-use Rattle.world_model.specs.Transcript.{Taken, taken, items_and_then, transcript_from}
+use Rattle.world_model.specs.Transcript.{Taken, taken, items_and_then, transcript_from, transcript}
 use Rattle.world_laws.proofs.Effects.{Turn, ticks, asks_it, posts_it, calls, opens, closes, answers, loses, delivers, cuts, takes, waits, leaves, Begins, first, again, Effect, starts, sets, refuses_post, executes, expires, applies, pushes, turns}
 use Rattle.core_laws.proofs.Watches.Touches.{Side, Touch, leaves as leaves_all, took}
 use Rattle.held_laws.proofs.Growing.{Grows}
@@ -46,7 +47,7 @@ use Rattle.received_laws.proofs.Within.{InFirst, InSecond, cut_at}
 use Rattle.watch_stories.specs.Laws.{EachScriptsTakesAreOfStories}
 use Rattle.watch_stories.specs.Stories.{Shows, IsOfAStory}
 use Rattle.watch_stories.proofs.Facts.{View}
-use Rattle.watch_stories.proofs.Points.{Has, OnlyOver}
+use Rattle.watch_stories.proofs.Points.{Has, AreUpTo, OnlyOver}
 use Rattle.watch_stories.proofs.Turns.{view, WorldHas, At, ok_of, both_of}
 use Rattle.watch_stories.proofs.Worlds.{effect_has}
 
@@ -86,7 +87,15 @@ took_of : (namespace : List ℕ) (x : Place) (d : Side) (ticket : ℕ) (i : Watc
 took_of namespace x _ _ _ (took ticket w i is e q) = record { watch = w; behind = is; there = e; queue = q }
 took_of namespace x _ ticket i (leaves_all e o q) = absurd (cc)
 
-taken_story : (namespace : List ℕ) (whole : Whole) (items : List Item) (w : World) (p : ℕ) (x : Place) (ticket : ℕ) (i : WatchItem) → At namespace whole items w p x → (stepped x.core (event.Take ticket) x.clock).outcome ≡ Ok (outcome.Item i) → IsOfAStory namespace p ticket items i
+-- with what is known of the messages that were taken with it
+abbrev pub IsStory : List ℕ → ℕ → ℕ → List Item → WatchItem → Type 0
+IsStory namespace p ticket items i = (h : IsOfAStory namespace p ticket items i) × AreUpTo h.point.next (taken_of p items ticket ++ i ∷ [])
+
+up_front : (n : ℕ) (xs ys : List WatchItem) → AreUpTo n (xs ++ ys) → AreUpTo n xs
+up_front n [] ys h = tt
+up_front n (x ∷ xs) ys h = (h.0, up_front n xs ys h.1)
+
+taken_story : (namespace : List ℕ) (whole : Whole) (items : List Item) (w : World) (p : ℕ) (x : Place) (ticket : ℕ) (i : WatchItem) → At namespace whole items w p x → (stepped x.core (event.Take ticket) x.clock).outcome ≡ Ok (outcome.Item i) → IsStory namespace p ticket items i
 taken_story namespace whole items w p x ticket i a out =
     let ok = ok_of namespace whole items w p x a in
     let s = took_of namespace x _ ticket i (stepping namespace x.core (event.Take ticket) x.clock (outcome.Item i) ok.namespace_is out).touch in
@@ -99,16 +108,19 @@ taken_story namespace whole items w p x ticket i a out =
     let m = found (HasMessages story whole (taken_of p items)) ticket ws u s.there ok.messages.watches in
     let same : u.ticket ≡ ticket = watch_itself ticket ws u s.there in
     let got = taken_of p items u.ticket in
-    subst (λ (t : ℕ). IsOfAStory namespace p t items i) same (record {
-      ask = h.ask;
-      asked = h.asked;
-      point = h.point;
-      story = h.story;
-      told = h.told (told_is u.told got u.queue s.behind m.untold s.queue);
-      rest = queued_events s.behind;
-      given = h.given ∙ ap (λ (l : List WatchItem). queued_events (got ++ l)) s.queue ∙ ap queued_events (sym (append_assoc got (i ∷ []) s.behind)) ∙ queued-append (got ++ i ∷ []) s.behind;
-      shows = shows_is story whole items p v (place_stream x.core.watches.streams u.place) u i s.behind got h s.queue m.messages;
-    })
+    subst (λ (t : ℕ). IsStory namespace p t items i) same (
+      (record {
+        ask = h.ask;
+        asked = h.asked;
+        point = h.point;
+        story = h.story;
+        told = h.told (told_is u.told got u.queue s.behind m.untold s.queue);
+        rest = queued_events s.behind;
+        given = h.given ∙ ap (λ (l : List WatchItem). queued_events (got ++ l)) s.queue ∙ ap queued_events (sym (append_assoc got (i ∷ []) s.behind)) ∙ queued-append (got ++ i ∷ []) s.behind;
+        shows = shows_is story whole items p v (place_stream x.core.watches.streams u.place) u i s.behind got h s.queue m.messages;
+      }),
+      (up_front h.point.next (got ++ i ∷ []) s.behind (subst (AreUpTo h.point.next) (ap (λ (l : List WatchItem). got ++ l) s.queue ∙ sym (append_assoc got (i ∷ []) s.behind)) h.bounded)),
+    )
   where
     told_is : (b : Bool) (got q is : List WatchItem) → (b ≡ false → got ++ q ≡ []) → q ≡ i ∷ is → b ≡ true
     told_is true got q is n e = refl
@@ -159,7 +171,7 @@ line_none true p ticket i = (refl, tt)
 
 -- each message that is taken by it
 abbrev TakesHave : List ℕ → List Item → List Item → Type 0
-TakesHave namespace items gained = (front back : List Item) (p ticket : ℕ) (i : WatchItem) → gained ≡ front ++ item.Taken p ticket i ∷ back → IsOfAStory namespace p ticket (items ++ front) i
+TakesHave namespace items gained = (front back : List Item) (p ticket : ℕ) (i : WatchItem) → gained ≡ front ++ item.Taken p ticket i ∷ back → IsStory namespace p ticket (items ++ front) i
 
 none_have : (namespace : List ℕ) (items gained : List Item) → NoTake gained → TakesHave namespace items gained
 none_have namespace items gained n front back p ticket i e = none_within gained front p ticket i back n e
@@ -169,10 +181,10 @@ begins_none w p _ _ _ (first e) = (refl, tt)
 begins_none w p _ _ _ (again x e) = (refl, tt)
 
 -- the message is the first of these items
-first_have : (namespace : List ℕ) (items : List Item) (p ticket : ℕ) (i : WatchItem) (rest : List Item) → NoTake rest → IsOfAStory namespace p ticket items i → TakesHave namespace items (item.Taken p ticket i ∷ rest)
+first_have : (namespace : List ℕ) (items : List Item) (p ticket : ℕ) (i : WatchItem) (rest : List Item) → NoTake rest → IsStory namespace p ticket items i → TakesHave namespace items (item.Taken p ticket i ∷ rest)
 first_have namespace items p ticket i rest n h [] back q t j e =
-    subst (λ (l : List Item). IsOfAStory namespace q t l j) (sym (append-nil items))
-    (subst (λ (m : WatchItem). IsOfAStory namespace q t items m) (message_is e) (subst (λ (k : ℕ). IsOfAStory namespace q k items i) (ticket_is e) (subst (λ (k : ℕ). IsOfAStory namespace k ticket items i) (proxy_is e) h)))
+    subst (λ (l : List Item). IsStory namespace q t l j) (sym (append-nil items))
+    (subst (λ (m : WatchItem). IsStory namespace q t items m) (message_is e) (subst (λ (k : ℕ). IsStory namespace q k items i) (ticket_is e) (subst (λ (k : ℕ). IsStory namespace k ticket items i) (proxy_is e) h)))
   where
     proxy_is : item.Taken p ticket i ∷ rest ≡ item.Taken q t j ∷ back → p ≡ q
     proxy_is e = cc
@@ -241,7 +253,7 @@ all_takes namespace whole short (l ∷ lines) items w e a one new h front back p
         → whole.items ≡ items ++ items_and_then t (λ after. transcript_from (Some after) lines) → items_and_then t (λ after. transcript_from (Some after) lines) ≡ front ++ item.Taken p ticket i ∷ back
         → ((items : List Item) (v : World) → whole.history ≡ (last_from v lines).store.history → whole.items ≡ items ++ transcript_from (Some v) lines → Kept namespace whole (own_only namespace) items v → NewestOk v → WorldHas namespace items v
         → TakesHave namespace items (transcript_from (Some v) lines))
-        → IsOfAStory namespace p ticket (items ++ front) i
+        → IsStory namespace p ticket (items ++ front) i
     by (Err why) t e a c ih = nothing_there front back (item.Taken p ticket i) c
     by (Ok gained) t e a c ih = cut (cut_at gained.1 rest front (item.Taken p ticket i ∷ back) c)
       where
@@ -265,10 +277,10 @@ all_takes namespace whole short (l ∷ lines) items w e a one new h front back p
             tails x y xs ys e = cc
 
         -- in the line's items, or the first behind them
-        within : (left : List Item) → gained.1 ≡ front ++ left → IsOfAStory namespace p ticket (items ++ front) i
+        within : (left : List Item) → gained.1 ≡ front ++ left → IsStory namespace p ticket (items ++ front) i
         within [] d =
             let here : gained.1 ≡ front = d ∙ append-nil front in
-            subst (λ (l : List Item). IsOfAStory namespace p ticket l i) (append-nil (items ++ gained.1) ∙ ap (λ (l : List Item). items ++ l) here)
+            subst (λ (l : List Item). IsStory namespace p ticket l i) (append-nil (items ++ gained.1) ∙ ap (λ (l : List Item). items ++ l) here)
             (later [] back p ticket i (same_rest front rest (item.Taken p ticket i ∷ back) (ap (λ (l : List Item). l ++ rest) (sym here) ∙ c)))
         within (y ∷ left) d =
             let more = same_rest front ((y ∷ left) ++ rest) (item.Taken p ticket i ∷ back) (sym (append_assoc front (y ∷ left) rest) ∙ ap (λ (l : List Item). l ++ rest) (sym d) ∙ c) in
@@ -277,10 +289,10 @@ all_takes namespace whole short (l ∷ lines) items w e a one new h front back p
             heads : (x y : Item) (xs ys : List Item) → x ∷ xs ≡ y ∷ ys → x ≡ y
             heads x y xs ys e = cc
 
-        cut : InFirst gained.1 front ⊎ InSecond gained.1 rest front (item.Taken p ticket i ∷ back) → IsOfAStory namespace p ticket (items ++ front) i
+        cut : InFirst gained.1 front ⊎ InSecond gained.1 rest front (item.Taken p ticket i ∷ back) → IsStory namespace p ticket (items ++ front) i
         cut (inl k) = within k.rest k.parts
         cut (inr k) =
-            subst (λ (l : List Item). IsOfAStory namespace p ticket l i) (append_assoc items gained.1 k.begin ∙ ap (λ (l : List Item). items ++ l) (sym k.whole)) (later k.begin back p ticket i k.parts)
+            subst (λ (l : List Item). IsStory namespace p ticket l i) (append_assoc items gained.1 k.begin ∙ ap (λ (l : List Item). items ++ l) (sym k.whole)) (later k.begin back p ticket i k.parts)
 
 -- ---- whole scripts
 
@@ -301,7 +313,7 @@ starting_has : (members : ℕ) (namespace leasing : List ℕ) → WorldHas names
 starting_has members namespace leasing = record { places = λ p x e. absurd (cc); fresh = λ n e. record { pushes = refl; delivered = refl; unopened = λ q. refl } }
 
 in_world : (members : ℕ) (namespace leasing : List ℕ) (lines : List Line) (before after : List Item) (p ticket : ℕ) (i : WatchItem) → length lines < 2 ^ 60
-    → item.World members namespace leasing ∷ transcript_from (Some (starting_world members namespace leasing)) lines ≡ before ++ item.Taken p ticket i ∷ after → IsOfAStory namespace p ticket before i
+    → item.World members namespace leasing ∷ transcript_from (Some (starting_world members namespace leasing)) lines ≡ before ++ item.Taken p ticket i ∷ after → IsStory namespace p ticket before i
 in_world members namespace leasing lines [] after p ticket i n c = absurd (cc)
 in_world members namespace leasing lines (j ∷ front) after p ticket i n c =
     let first' = starting_world members namespace leasing in
@@ -312,7 +324,7 @@ in_world members namespace leasing lines (j ∷ front) after p ticket i n c =
     let short : IsShort whole = few lines first' items (omega arith) n in
     let one : Kept namespace whole (own_only namespace) start first' = record { ok = begun_world namespace leasing members whole (own_only namespace); told = record { store = refl; calls = refl } } in
     let at = all_takes namespace whole short lines start first' refl refl one (starting_newest members namespace leasing) (starting_has members namespace leasing) front after p ticket i (tails (item.World members namespace leasing) j (transcript_from (Some first') lines) (front ++ item.Taken p ticket i ∷ after) c) in
-    subst (λ (k : Item). IsOfAStory namespace p ticket (k ∷ front) i) (heads (item.World members namespace leasing) j (transcript_from (Some first') lines) (front ++ item.Taken p ticket i ∷ after) c) at
+    subst (λ (k : Item). IsStory namespace p ticket (k ∷ front) i) (heads (item.World members namespace leasing) j (transcript_from (Some first') lines) (front ++ item.Taken p ticket i ∷ after) c) at
   where
     tails : (x y : Item) (xs ys : List Item) → x ∷ xs ≡ y ∷ ys → xs ≡ ys
     tails x y xs ys e = cc
@@ -320,23 +332,26 @@ in_world members namespace leasing lines (j ∷ front) after p ticket i n c =
     heads : (x y : Item) (xs ys : List Item) → x ∷ xs ≡ y ∷ ys → x ≡ y
     heads x y xs ys e = cc
 
+pub takes_stand : (lines : List Line) → length lines < 2 ^ 60 → (before after : List Item) (p ticket : ℕ) (i : WatchItem) → transcript lines ≡ before ++ item.Taken p ticket i ∷ after → IsStory (namespace_of (transcript lines)) p ticket before i
+takes_stand [] n before after p ticket i c = nothing_there before after (item.Taken p ticket i) c
+takes_stand (line.World members namespace leasing ∷ lines) n before after p ticket i c = in_world members namespace leasing lines before after p ticket i (omega (arith, n)) c
+takes_stand (line.Start p' ∷ lines) n before after p ticket i c = nothing_there before after (item.Taken p ticket i) c
+takes_stand (line.Clock p' millis ∷ lines) n before after p ticket i c = nothing_there before after (item.Taken p ticket i) c
+takes_stand (line.Ask p' ticket' q ∷ lines) n before after p ticket i c = nothing_there before after (item.Taken p ticket i) c
+takes_stand (line.Post p' ticket' path body ∷ lines) n before after p ticket i c = nothing_there before after (item.Taken p ticket i) c
+takes_stand (line.Tick p' ∷ lines) n before after p ticket i c = nothing_there before after (item.Taken p ticket i) c
+takes_stand (line.Send p' ∷ lines) n before after p ticket i c = nothing_there before after (item.Taken p ticket i) c
+takes_stand (line.Exec number ∷ lines) n before after p ticket i c = nothing_there before after (item.Taken p ticket i) c
+takes_stand (line.Answer number ∷ lines) n before after p ticket i c = nothing_there before after (item.Taken p ticket i) c
+takes_stand (line.Lose number ∷ lines) n before after p ticket i c = nothing_there before after (item.Taken p ticket i) c
+takes_stand (line.Push number ∷ lines) n before after p ticket i c = nothing_there before after (item.Taken p ticket i) c
+takes_stand (line.Progress number ∷ lines) n before after p ticket i c = nothing_there before after (item.Taken p ticket i) c
+takes_stand (line.Deliver number ∷ lines) n before after p ticket i c = nothing_there before after (item.Taken p ticket i) c
+takes_stand (line.Cut number ∷ lines) n before after p ticket i c = nothing_there before after (item.Taken p ticket i) c
+takes_stand (line.Take p' ticket' ∷ lines) n before after p ticket i c = nothing_there before after (item.Taken p ticket i) c
+takes_stand (line.Leave p' ticket' ∷ lines) n before after p ticket i c = nothing_there before after (item.Taken p ticket i) c
+takes_stand (line.Expire lease ∷ lines) n before after p ticket i c = nothing_there before after (item.Taken p ticket i) c
+takes_stand (line.Apply member revision ∷ lines) n before after p ticket i c = nothing_there before after (item.Taken p ticket i) c
+
 pub takes_are : EachScriptsTakesAreOfStories
-takes_are [] n before after p ticket i c = nothing_there before after (item.Taken p ticket i) c
-takes_are (line.World members namespace leasing ∷ lines) n before after p ticket i c = in_world members namespace leasing lines before after p ticket i (omega (arith, n)) c
-takes_are (line.Start p' ∷ lines) n before after p ticket i c = nothing_there before after (item.Taken p ticket i) c
-takes_are (line.Clock p' millis ∷ lines) n before after p ticket i c = nothing_there before after (item.Taken p ticket i) c
-takes_are (line.Ask p' ticket' q ∷ lines) n before after p ticket i c = nothing_there before after (item.Taken p ticket i) c
-takes_are (line.Post p' ticket' path body ∷ lines) n before after p ticket i c = nothing_there before after (item.Taken p ticket i) c
-takes_are (line.Tick p' ∷ lines) n before after p ticket i c = nothing_there before after (item.Taken p ticket i) c
-takes_are (line.Send p' ∷ lines) n before after p ticket i c = nothing_there before after (item.Taken p ticket i) c
-takes_are (line.Exec number ∷ lines) n before after p ticket i c = nothing_there before after (item.Taken p ticket i) c
-takes_are (line.Answer number ∷ lines) n before after p ticket i c = nothing_there before after (item.Taken p ticket i) c
-takes_are (line.Lose number ∷ lines) n before after p ticket i c = nothing_there before after (item.Taken p ticket i) c
-takes_are (line.Push number ∷ lines) n before after p ticket i c = nothing_there before after (item.Taken p ticket i) c
-takes_are (line.Progress number ∷ lines) n before after p ticket i c = nothing_there before after (item.Taken p ticket i) c
-takes_are (line.Deliver number ∷ lines) n before after p ticket i c = nothing_there before after (item.Taken p ticket i) c
-takes_are (line.Cut number ∷ lines) n before after p ticket i c = nothing_there before after (item.Taken p ticket i) c
-takes_are (line.Take p' ticket' ∷ lines) n before after p ticket i c = nothing_there before after (item.Taken p ticket i) c
-takes_are (line.Leave p' ticket' ∷ lines) n before after p ticket i c = nothing_there before after (item.Taken p ticket i) c
-takes_are (line.Expire lease ∷ lines) n before after p ticket i c = nothing_there before after (item.Taken p ticket i) c
-takes_are (line.Apply member revision ∷ lines) n before after p ticket i c = nothing_there before after (item.Taken p ticket i) c
+takes_are lines n before after p ticket i c = (takes_stand lines n before after p ticket i c).0

@@ -45,7 +45,7 @@ use Rattle.watch_stories.specs.Streams.{next_behind, stream_next, breaks_batch, 
 use Rattle.watch_stories.specs.Stories.{joins, waits, member, apart, over, is_member, brought, creates, gives, splits, ends, leaves, breaks_off}
 use Rattle.watch_stories.proofs.Items.{Fed, next_is}
 use Rattle.watch_stories.proofs.Facts.{View, later, IsOpen, IsOfWorld, OkAt, AreOpen, open_at, still_of_world, delivered_open, open_next, Fewer, fewer_open, push_fewer}
-use Rattle.watch_stories.proofs.Points.{AtPhase, StandsAt, Has, Joins, OnlyOver, only_push, only_progress, queued_push, queued_progress, told_has, rest_has, heard, heard_has, leaves_has, split_has, ended_has, leaving_joins, broken_has}
+use Rattle.watch_stories.proofs.Points.{AtPhase, StandsAt, Has, Joins, AreUpTo, up_later, up_push, up_progress, OnlyOver, only_push, only_progress, queued_push, queued_progress, told_has, rest_has, heard, heard_has, leaves_has, split_has, ended_has, leaving_joins, broken_has}
 use Rattle.watch_stories.proofs.Watches.{Sees, same_has, member_spot, merged_fewer, merged_sees, emptied_fewer, emptied_sees, SeatHas, seat_sees}
 
 none_here : {A : Type 0} (t : Stream) → ◌≡◌ {A = Option Stream} None (Some t) → A
@@ -272,6 +272,10 @@ without_open v streams b n world s i rest h own t e = by (own == s.number) refl
     by true q = none_here t (sym (none_without s.number own b.streams q) ∙ e)
     by false q = all own t (others-with_stream s.number (λ t. record t { stream = record t.stream { next = next_behind s.stream.next i } }) (λ t. refl) b.streams (place.In own) q ∙ without_at s.number own b.streams t e)
 
+-- its next revision doesn't fall with a message
+raised : (v : View) (n : ℕ) (o : Option Stream) (w : Watch) (h : Has v o w) → AreUpTo (max h.point.next (stream_next v.proxy n (heard v n).items)) (taken_of v.proxy v.items w.ticket ++ w.queue)
+raised v n o w h = up_later h.point.next (max h.point.next (stream_next v.proxy n (heard v n).items)) (taken_of v.proxy v.items w.ticket ++ w.queue) (omega arith) h.bounded
+
 -- ---- the created message
 
 created_next : (u : Upstream) (revision : ℕ) → u.next ≤ (created u revision).next
@@ -295,7 +299,7 @@ created_member v streams b n world s u g rest a o number begun ahead range may w
     let m = stream_next v.proxy n (heard v n).items in
     let here : m ≡ u.stream.next = ap (λ (x : ℕ). stream_next v.proxy x (heard v n).items) (sym number) ∙ open_next (heard v n) s.number u o in
     heard_has v n s.number s u w (message.Created g) w.queue (brought m h.point) h o at begun number (spot_is v streams b n world s (message.Created g) rest a w at h) (message_is v streams b n world s (message.Created g) rest a)
-    ahead range (creates g (λ z. subst (λ (x : ℕ). x ≤ newest (seen (heard v n).items).store.history + 1) (sym here) (may (undecided z)))) refl refl refl refl h.given h.cancels
+    ahead range (creates g (λ z. subst (λ (x : ℕ). x ≤ newest (seen (heard v n).items).store.history + 1) (sym here) (may (undecided z)))) refl refl refl refl h.given h.cancels (raised v n (Some s) w h)
   where
     zero : (a b c : ℕ) → (a == 0) ≡ true → a ≡ max b c → (c == 0) ≡ true
     zero a b c e f = let l : c ≤ a = omega (arith, f) in at_zero a c e l
@@ -483,12 +487,13 @@ breaks_sees v streams b n world s i rest a broken =
 member_given : (v : View) (streams : List OpenedStream) (b : Broadcasts) (n : ℕ) (world : OpenedStream) (s u : Stream) (g : Header) (es us : List Event) (rest : List WatchItem) (q : List WatchItem) → Hearing v streams b n world s (message.Events g es) rest
     → events_without v.namespace es ≡ Ok us → (o : IsOpen (heard v n) s.number u) → o.number ≡ n → is_begun u.phase ≡ true → s.stream.next ≤ u.stream.next → u.stream.range ≡ s.stream.range → (s.stream.next == 0) ≡ false
     → (w : Watch) → w.place ≡ place.In s.number → (h : Has v (Some s) w)
-    → h.point.given ++ shown_events h.ask (chosen h.ask h.point.next us) ≡ queued_events (taken_of v.proxy v.items w.ticket ++ q) → OnlyOver h.point.spot q → Has (heard v n) (Some u) (record w { queue = q })
-member_given v streams b n world s u g es us rest q a e o number begun ahead range z w at h given only =
+    → h.point.given ++ shown_events h.ask (chosen h.ask h.point.next us) ≡ queued_events (taken_of v.proxy v.items w.ticket ++ q) → OnlyOver h.point.spot q
+    → AreUpTo (max h.point.next (stream_next v.proxy n (heard v n).items)) (taken_of v.proxy v.items w.ticket ++ q) → Has (heard v n) (Some u) (record w { queue = q })
+member_given v streams b n world s u g es us rest q a e o number begun ahead range z w at h given only upto =
     let m = stream_next v.proxy n (heard v n).items in
     let i = message.Events g es in
     let k = heard_has v n s.number s u w i q (record (brought m h.point) { given = h.point.given ++ shown_events h.ask (chosen h.ask h.point.next us) }) h o at begun number (spot_is v streams b n world s i rest a w at h) (message_is v streams b n world s i rest a)
-    ahead range (gives g es us e) refl refl refl refl given only in
+    ahead range (gives g es us e) refl refl refl refl given only upto in
     subst (Has (heard v n) (Some u)) (kept (w.next == 0) refl) k.0
   where
     contrary : {A : Type 0} (a : ℕ) → (a == 0) ≡ false → a ≡ 0 → A
@@ -533,7 +538,7 @@ batch_member v streams b n world s u g es us rest a e o number begun ahead range
     by : (cs : List Event) → shown_events w.ask (chosen w.ask own us) ≡ cs → Has (heard v n) (place_stream ss (queued g own cs w).place) (queued g own cs w)
     by [] c =
         same_has (heard v n) (Some u) (place_stream ss w.place) w placed
-        (member_given v streams b n world s u g es us rest w.queue a e o number begun ahead range z w at h (ap (λ (l : List Event). h.point.given ++ l) (sym shown ∙ c) ∙ append-nil h.point.given ∙ h.given) h.cancels)
+        (member_given v streams b n world s u g es us rest w.queue a e o number begun ahead range z w at h (ap (λ (l : List Event). h.point.given ++ l) (sym shown ∙ c) ∙ append-nil h.point.given ∙ h.given) h.cancels (raised v n (Some s) w h))
     by (x ∷ xs) c = elim (would_pass w.queue (length (x ∷ xs))) as (λ d. let y : Watch = cond d (record w { next = own; place = place.Split }) (record w { queue = w.queue ++ message.Events g (x ∷ xs) ∷ [] }) in Has (heard v n) (place_stream ss y.place) y) [
       | true ↦
           split_has v n own s w refl
@@ -543,26 +548,33 @@ batch_member v streams b n world s u g es us rest a e o number begun ahead range
           same_has (heard v n) (Some u) (place_stream ss w.place) (record w { queue = w.queue ++ message.Events g (x ∷ xs) ∷ [] }) placed
           (member_given v streams b n world s u g es us rest (w.queue ++ message.Events g (x ∷ xs) ∷ []) a e o number begun ahead range z w at h
           (ap (λ (l : List Event). h.point.given ++ l) (sym shown ∙ c) ∙ ap (λ (l : List Event). l ++ (x ∷ xs)) h.given ∙ sym (queued_push (taken_of v.proxy v.items w.ticket) w.queue (message.Events g (x ∷ xs))))
-          (only_push h.point.spot w.queue (message.Events g (x ∷ xs)) h.cancels tt))
+          (only_push h.point.spot w.queue (message.Events g (x ∷ xs)) h.cancels tt)
+          (up_push (max h.point.next (stream_next v.proxy n (heard v n).items)) (taken_of v.proxy v.items w.ticket) w.queue (message.Events g (x ∷ xs)) (raised v n (Some s) w h) tt))
     ]
 
 progress_member : (v : View) (streams : List OpenedStream) (b : Broadcasts) (n : ℕ) (world : OpenedStream) (s u : Stream) (g : Header) (es : List Event) (rest : List WatchItem) → Hearing v streams b n world s (message.Events g es) rest
-    → events_without v.namespace es ≡ Ok [] → (o : IsOpen (heard v n) s.number u) → o.number ≡ n → is_begun u.phase ≡ true → s.stream.next ≤ u.stream.next → u.stream.range ≡ s.stream.range → (s.stream.next == 0) ≡ false
+    → capped (g.revision + 1) ≤ u.stream.next → events_without v.namespace es ≡ Ok [] → (o : IsOpen (heard v n) s.number u) → o.number ≡ n → is_begun u.phase ≡ true → s.stream.next ≤ u.stream.next → u.stream.range ≡ s.stream.range → (s.stream.next == 0) ≡ false
     → (ss : List Stream) → stream_at s.number ss ≡ Some u → (w : Watch) → w.place ≡ place.In s.number → Has v (Some s) w
     → Has (heard v n) (place_stream ss (progressed s.stream.next g w).place) (progressed s.stream.next g w)
-progress_member v streams b n world s u g es rest a e o number begun ahead range z ss there w at h =
+progress_member v streams b n world s u g es rest a far e o number begun ahead range z ss there w at h =
     elim (w.ask.progress && nat_le (max w.next s.stream.next) (g.revision + 1)) as (λ d. let y : Watch = cond d (record w { queue = with_progress w.queue (message.Events g []) }) w in Has (heard v n) (place_stream ss y.place) y) [
       | true ↦
           same_has (heard v n) (Some u) (place_stream ss w.place) (record w { queue = with_progress w.queue (message.Events g []) }) placed
           (member_given v streams b n world s u g es [] rest (with_progress w.queue (message.Events g [])) a e o number begun ahead range z w at h
-          (append-nil h.point.given ∙ h.given ∙ sym (queued_progress (taken_of v.proxy v.items w.ticket) w.queue g)) (only_progress h.point.spot w.queue g h.cancels))
+          (append-nil h.point.given ∙ h.given ∙ sym (queued_progress (taken_of v.proxy v.items w.ticket) w.queue g)) (only_progress h.point.spot w.queue g h.cancels)
+          (up_progress (max h.point.next (stream_next v.proxy n (heard v n).items)) (taken_of v.proxy v.items w.ticket) w.queue (message.Events g []) (raised v n (Some s) w h) reached))
       | false ↦
           same_has (heard v n) (Some u) (place_stream ss w.place) w placed
-          (member_given v streams b n world s u g es [] rest w.queue a e o number begun ahead range z w at h (append-nil h.point.given ∙ h.given) h.cancels)
+          (member_given v streams b n world s u g es [] rest w.queue a e o number begun ahead range z w at h (append-nil h.point.given ∙ h.given) h.cancels (raised v n (Some s) w h))
     ]
   where
     placed : place_stream ss w.place ≡ Some u
     placed = ap (place_stream ss) at ∙ there
+
+    reached : capped (g.revision + 1) ≤ max h.point.next (stream_next v.proxy n (heard v n).items)
+    reached =
+        let here : stream_next v.proxy n (heard v n).items ≡ u.stream.next = ap (λ (x : ℕ). stream_next v.proxy x (heard v n).items) (sym number) ∙ open_next (heard v n) s.number u o in
+        omega (arith, here, far)
 
 -- the broadcasts behind it, before those of equal next become one
 record Heard (v : View) (streams : List OpenedStream) (d : Broadcasts) : Type 0 where
@@ -663,12 +675,12 @@ message_heard v streams b n world s g es [] rest a e t =
       | true ↦ λ q.
           changed_heard v streams b n world s (message.Events g es) rest f (progressed s.stream.next g) (λ t. refl) a refl refl next
           (λ o number w at h.
-          progress_member v streams b n world s (f s) g es rest a e o number a.begun (omega arith) refl z (with_stream s.number f b.streams) (at-with_stream s.number f (λ t. refl) b.streams s a.at) w at h)
+          progress_member v streams b n world s (f s) g es rest a (omega arith) e o number a.begun (omega arith) refl z (with_stream s.number f b.streams) (at-with_stream s.number f (λ t. refl) b.streams s a.at) w at h)
       | false ↦ λ q.
           same_heard v streams b n world s (message.Events g es) rest a (next ∙ stays s.stream.next g.revision q)
           (λ o number w at h.
           same_has (heard v n) (Some s) (place_stream b.streams w.place) w (ap (place_stream b.streams) at ∙ a.at)
-          (member_given v streams b n world s s g es [] rest w.queue a e o number a.begun (omega arith) refl z w at h (append-nil h.point.given ∙ h.given) h.cancels))
+          (member_given v streams b n world s s g es [] rest w.queue a e o number a.begun (omega arith) refl z w at h (append-nil h.point.given ∙ h.given) h.cancels (raised v n (Some s) w h)))
     ] refl
   where
     stays : (m r : ℕ) → nat_le m (r + 1) ≡ false → max m (capped (r + 1)) ≡ m

@@ -63,6 +63,7 @@ placed_has v o w p e h = record {
   told = h.told;
   spot = subst (λ (q : WatchPlace). StandsAt v.kept o q h.point.spot) e h.spot;
   given = h.given;
+  bounded = h.bounded;
   cancels = h.cancels;
   fits = by o h.fits;
 }

@@ -1,0 +1,9 @@
+pub mod Stores
+pub mod Orders
+pub mod Lines
+pub mod Worlds
+pub mod InOrders
+pub mod Unsent
+pub mod Compacted
+pub mod Takes
+pub mod Whole

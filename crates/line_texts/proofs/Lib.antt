@@ -1,0 +1,6 @@
+pub mod RequestLaws
+pub mod AnswerLaws
+pub mod WatchLaws
+pub mod LineLaws
+pub mod ItemLaws
+pub mod Feeds
