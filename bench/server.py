@@ -17,6 +17,8 @@ TICKS = os.sysconf("SC_CLK_TCK")
 KEY = text64("bench/key")
 READ = json.dumps({"key": KEY}, separators=(",", ":"))
 PUT = json.dumps({"key": KEY, "value": text64("v" * 32)}, separators=(",", ":"))
+# Of one key one put is sent at a time, where it may be owned.
+PUTS_OF_KEYS = [json.dumps({"key": text64(f"bench/{number:03}"), "value": text64("v" * 32)}, separators=(",", ":")) for number in range(256)]
 
 
 def processor_time(pids):
@@ -62,12 +64,17 @@ def sized(pid):
 
 
 class Load:
-    """What wrk got from a server."""
+    """What wrk got from a server, with one body or with several in turn."""
 
     def __init__(self, folder, port, connections, pids, path, body, closing):
         script = f"{folder}/load.lua"
         with open(script, "w") as lua:
-            lua.write(f"wrk.method = 'POST'\nwrk.body = '{body}'\n")
+            lua.write("wrk.method = 'POST'\n")
+            if isinstance(body, str):
+                lua.write(f"wrk.body = '{body}'\n")
+            else:
+                lua.write(f"local bodies, at = {{{', '.join(repr(one) for one in body)}}}, 0\n"
+                          "request = function()\n at = at % #bodies + 1\n return wrk.format(nil, nil, nil, bodies[at])\nend\n")
             if closing:
                 lua.write("wrk.headers['Connection'] = 'close'\n")
         before, client, host = processor_time(pids), resource.getrusage(resource.RUSAGE_CHILDREN), Host()
@@ -179,6 +186,17 @@ def calls(folder, cluster, proxy):
             compare(f"{what}, {connections} connections", "direct",
                     lambda: Load(folder, cluster.ports[0], connections, members, path, body, True),
                     lambda: Load(folder, proxy.port, connections, pids, path, body, False), False, least)
+
+
+def kept(folder, cluster, plain, leasing):
+    """Puts of 256 keys beside clients of the cluster itself that keep their connections, as etcd's own clients do."""
+    members = [p.pid for p in cluster.processes]
+    for name, proxy, least in (("without leasing", plain, 0.85), ("with leasing", leasing, 0.6)):
+        put(proxy, "bench/key", "v" * 32)
+        for connections in CONNECTIONS:
+            compare(f"puts beside kept connections, {name}, {connections} connections", "direct",
+                    lambda: Load(folder, cluster.ports[0], connections, members, "/v3/kv/put", PUTS_OF_KEYS, False),
+                    lambda: Load(folder, proxy.port, connections, [proxy.process.pid], "/v3/kv/put", PUTS_OF_KEYS, False), False, least)
 
 
 def delivered(all_watches, revision):
@@ -316,6 +334,7 @@ def main():
     parts = {"reads": lambda: reads(folder, cluster, proxy("leasing", "--leasing-prefix=L/", "--workers=64")),
              "counted": counting,
              "calls": lambda: calls(folder, cluster, proxy("plain", "--workers=64")),
+             "kept": lambda: kept(folder, cluster, proxy("kept", "--workers=64"), proxy("kept_leasing", "--leasing-prefix=K/", "--workers=64")),
              "watches": lambda: watches(cluster, proxy("watches"), 1000, 15),
              "idle": lambda: idle(proxy("idle"), 1000),
              "many_watches": lambda: watches(cluster, proxy("many_watches", "--max-connections=16384"), many(10_000), 120),

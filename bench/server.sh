@@ -4,11 +4,11 @@
 # watches; what an idle connection takes; and both for as many clients as there may be. Judge by the processor time a request: requests a second
 # move with what else the machine does. Each comparison is of nine rounds, ours and theirs in turn, and the round in the middle counts. On a virtual
 # machine, a round that its host disturbed is made again. The members keep their data in memory where there is room for it, since a disk that is
-# busy would be measured in place of them. It ends in its marks, with status 1 where one is missed, after some eight minutes on a quiet machine.
+# busy would be measured in place of them. It ends in its marks, with status 1 where one is missed, after some twelve minutes on a quiet machine.
 #
 # usage: bash bench/server.sh [PROGRAM [SECONDS [PART ..]]]
 #
-# The parts are reads, counted, calls, watches, idle, many_watches and many_idle, all of them where none is named. The last two take as many
+# The parts are reads, counted, calls, kept, watches, idle, many_watches and many_idle, all of them where none is named. The last two take as many
 # clients as the limit on descriptors (`ulimit -Hn`) has room for, 10,000 and 12,000 at most.
 #
 # It needs Debian's etcd-server, nginx-light and wrk, and python3. The proved program is taken where none is named.
