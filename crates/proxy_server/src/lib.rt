@@ -13,6 +13,7 @@ mod follow;
 mod receive;
 mod serve;
 mod take;
+mod talk;
 mod turn;
 
 pub use http_talk::{Answers, NoAnswers, Ready, RefusalForm};

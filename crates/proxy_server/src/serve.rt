@@ -3,8 +3,10 @@ ghost use Rattle.outside.specs.Faults.{Rose};
 ghost use Rattle.server_model.specs.Complete.{Completes};
 ghost use Rattle.server_model.specs.Dialog.{Dialog};
 ghost use Rattle.server_model.specs.Numbers.{LastNumbered};
+ghost use Rattle.proxy_server.specs.Kept.{IsCaused, Kept};
 
 use crate::exchange::exchange;
+use crate::talk::Talk;
 use crate::turn::Turn;
 use http_talk::{Answers, RefusalForm};
 use http_wire::Wire;
@@ -12,6 +14,40 @@ use outside::{Clock, Draw, Sink, Source, TicketRange};
 use server_model::SessionEnd;
 use std::alloc::Global;
 use std::sync::Wait;
+
+/// Exchanges requests and replies until the conversation ends.
+fn converse<R: Wait, T: Turn, C: Clock, S: Source, K: Sink, D: Draw, A: Answers>(
+    rt: &R,
+    alloc: Global,
+    form: RefusalForm,
+    talk: &mut Talk<T, C, S, K, D>,
+    answers: &mut A,
+) -> SessionEnd
+    ensures kept { Kept T.home T.allowed S.faults K.faults talk.old talk.new }
+    ensures causes { IsCaused S.faults K.faults talk.old talk.new result }
+    ensures known { A.known answers.new ≡ A.known answers.old }
+    ensures numbered { LastNumbered result talk.old.tickets.end talk.old.tickets.next
+        (D.given talk.old.draw.now) (D.given talk.new.draw.now)
+        (T.made talk.old.turn.now) (T.made talk.new.turn.now) }
+    ensures dialog { Dialog form (A.gives (A.known answers.old)) T.rests (IsTrue (T.worn talk.new.turn.now))
+        (S.left talk.old.source.now) (T.made talk.old.turn.now) (T.made talk.new.turn.now)
+        (K.written talk.old.sink.now) (K.written talk.new.sink.now) result }
+    ensures complete { Completes (S.left talk.old.source.now) (T.made talk.old.turn.now)
+        (T.made talk.new.turn.now) (IsTrue (T.worn talk.new.turn.now)) talk.old.tickets.end
+        talk.old.tickets.next (S.faults talk.old.source.now) (S.faults talk.new.source.now)
+        (K.faults talk.old.sink.now) (K.faults talk.new.sink.now) result }
+{
+    let Ok(mut wire) = Wire::new(alloc) else {
+        return SessionEnd::NoMemory;
+    };
+    'requests: for _ in rt.forever() {
+        match exchange(rt, alloc, form, &mut wire, talk, answers) {
+            None => {}
+            Some(end) => return end,
+        }
+    }
+    unreachable!()
+}
 
 /// Serves a connection until it ends: reads requests, steps the turn for each, and writes their replies. Each Ask takes the next
 /// ticket and one drawn word. A request that the JSON mapping refuses has the answer that `answers` gives for it, else its refusal: either
@@ -45,27 +81,13 @@ pub fn serve_on<R: Wait, T: Turn, S: Source, K: Sink, C: Clock, D: Draw, A: Answ
         (IsTrue (T.worn turn.new)) tickets.end tickets.next (S.faults source.old)
         (S.faults source.new) (K.faults sink.old) (K.faults sink.new) result }
 {
-    let Ok(mut wire) = Wire::new(alloc) else {
-        return SessionEnd::NoMemory;
+    let mut talk = Talk {
+        turn,
+        clock,
+        source,
+        sink,
+        draw,
+        tickets,
     };
-    let mut tickets = tickets;
-    'requests: for _ in rt.forever() {
-        match exchange(
-            rt,
-            alloc,
-            form,
-            &mut wire,
-            turn,
-            clock,
-            source,
-            sink,
-            &mut tickets,
-            draw,
-            answers,
-        ) {
-            None => {}
-            Some(end) => return end,
-        }
-    }
-    unreachable!()
+    converse(rt, alloc, form, &mut talk, answers)
 }

@@ -1,5 +1,5 @@
 -- What a fault's own name says, where a clause speaks of the whole answer.
-use Rattle.std.proofs.Common.{◌≡◌, ℕ, List, Option, Result, Ok, Err, ap, sym, subst}
+use Rattle.std.proofs.Common.{◌≡◌, ℕ, List, Option, Result, Err, ap, sym, subst}
 use Rattle.outside.specs.Faults.{Rose}
 use Rattle.etcd_types.specs.declared.watch.WatchItem.{WatchItem}
 use Rattle.json_model.specs.Faults.{ReplyFails}

@@ -1,5 +1,6 @@
 ghost use Rattle.std.specs.Prelude.{◌≡◌, IsTrue};
 ghost use Rattle.server_model.specs.StreamParts.{Feeds, IsCut, is_for_memory, end_of};
+ghost use Rattle.proxy_server.specs.Stays.{Stays};
 
 use core_model::{CoreEvent, StepFault};
 use etcd_types::WatchItem;
@@ -50,9 +51,7 @@ pub(crate) fn cut<T: Turn, C: Clock>(
     stream: u64,
     end: StreamEnd,
 ) -> StreamEnd
-    ensures home { T.home turn.new ≡ T.home turn.old }
-    ensures late { IsTrue (T.worn turn.old) → IsTrue (T.worn turn.new) }
-    ensures allowed { T.allowed turn.old → T.allowed turn.new }
+    ensures stays { Stays T.home T.worn T.allowed turn.old turn.new }
     ensures cut { IsCut (IsTrue (T.worn turn.new)) stream end result
         (T.made turn.old) (T.made turn.new) }
 {
@@ -74,9 +73,7 @@ pub(crate) fn feed<T: Turn, C: Clock>(
     stream: u64,
     item: WatchItem,
 ) -> Option<StreamEnd>
-    ensures home { T.home turn.new ≡ T.home turn.old }
-    ensures late { IsTrue (T.worn turn.old) → IsTrue (T.worn turn.new) }
-    ensures allowed { T.allowed turn.old → T.allowed turn.new }
+    ensures stays { Stays T.home T.worn T.allowed turn.old turn.new }
     ensures feeds { Feeds (IsTrue (T.worn turn.new)) stream item
         (T.made turn.old) (T.made turn.new) result }
 {
@@ -100,9 +97,7 @@ pub(crate) fn feed_from<T: Turn, S: Source, C: Clock>(
     stream: u64,
     item: WatchItem,
 ) -> Option<StreamEnd>
-    ensures home { T.home turn.new ≡ T.home turn.old }
-    ensures late { IsTrue (T.worn turn.old) → IsTrue (T.worn turn.new) }
-    ensures allowed { T.allowed turn.old → T.allowed turn.new }
+    ensures stays { Stays T.home T.worn T.allowed turn.old turn.new }
     ensures feeds { Feeds (IsTrue (T.worn turn.new)) stream item
         (T.made turn.old) (T.made turn.new) result }
     ensures bytes { S.left source.new ≡ S.left source.old }

@@ -1,6 +1,7 @@
 ghost use Rattle.std.specs.Prelude.{◌≡◌, IsTrue};
 ghost use Rattle.server_model.specs.Following.{Following};
 ghost use Rattle.server_model.specs.StreamParts.{IsFollowed};
+ghost use Rattle.proxy_server.specs.Stays.{Stays};
 
 use crate::feed::{cut, feed_from, linger, rest_if};
 use crate::next::{cut_at, next, open};
@@ -38,9 +39,7 @@ fn follow_on<R: Wait, T: Turn, S: Source, C: Clock>(
     most: usize,
     source: &mut S,
 ) -> StreamStop
-    ensures home { T.home turn.new ≡ T.home turn.old }
-    ensures late { IsTrue (T.worn turn.old) → IsTrue (T.worn turn.new) }
-    ensures allowed { T.allowed turn.old → T.allowed turn.new }
+    ensures stays { Stays T.home T.worn T.allowed turn.old turn.new }
     ensures following { Following (IsTrue (T.worn turn.new)) most stream
         (S.left source.old) (S.faults source.old) (S.faults source.new)
         (T.made turn.old) (T.made turn.new) result.read result.end }
@@ -89,9 +88,7 @@ pub fn follow_stream<R: Wait, T: Turn, L: Link, C: Clock>(
     follow: &Follow,
     most: usize,
 ) -> StreamEnd
-    ensures home { T.home turn.new ≡ T.home turn.old }
-    ensures late { IsTrue (T.worn turn.old) → IsTrue (T.worn turn.new) }
-    ensures allowed { T.allowed turn.old → T.allowed turn.new }
+    ensures stays { Stays T.home T.worn T.allowed turn.old turn.new }
     ensures followed { IsFollowed (IsTrue (T.worn turn.new)) most follow.now
         (L.made link.old) (L.made link.new) (L.faults link.old) (L.faults link.new)
         (T.made turn.old) (T.made turn.new) result }

@@ -1,6 +1,7 @@
 ghost use Rattle.std.specs.Prelude.{◌≡◌, IfOk, IsTrue};
 ghost use Rattle.server_model.specs.Working.{IsAt, IsCallMade, IsDone, IsHandedOver, host_of, ledger, lost_end};
 ghost use Rattle.proxy_workers.specs.Handed.{IsFollower};
+ghost use Rattle.proxy_server.specs.Stays.{Stays};
 
 use crate::seats::Seats;
 use crate::steps::{feed, report};
@@ -47,9 +48,7 @@ fn do_call<T: Turn, L: Link, C: Clock>(
     member: u32,
     request: &Request,
 ) -> Option<WorkEnd>
-    ensures home { T.home turn.new ≡ T.home turn.old }
-    ensures late { IsTrue (T.worn turn.old) → IsTrue (T.worn turn.new) }
-    ensures allowed { T.allowed turn.old → T.allowed turn.new }
+    ensures stays { Stays T.home T.worn T.allowed turn.old turn.new }
     ensures made { IsCallMade (IsTrue (T.worn turn.new)) host.now call member request.now
         (T.made turn.old) (T.made turn.new)
         (L.made link.old) (L.made link.new) (L.faults link.old) (L.faults link.new) result }
@@ -71,9 +70,7 @@ fn follower<T: Seats, C>(
     request: &Request,
 ) -> Result<Part<T::Place, C>, NoMemory>
     ensures made { T.made turn.new ≡ T.made turn.old }
-    ensures home { T.home turn.new ≡ T.home turn.old }
-    ensures late { IsTrue (T.worn turn.old) → IsTrue (T.worn turn.new) }
-    ensures allowed { T.allowed turn.old → T.allowed turn.new }
+    ensures stays { Stays T.home T.worn T.allowed turn.old turn.new }
     ensures part { IfOk result (λ part. IsFollower T.place_home (T.home turn.old)
         host.now stream member request.now part) }
 {
@@ -102,9 +99,7 @@ fn do_begin<T: Seats, P: Spawner<Pass = T::Place>, C: Clock>(
 ) -> Option<WorkEnd>
 where
     P::Conn: Drop,
-    ensures home { T.home turn.new ≡ T.home turn.old }
-    ensures late { IsTrue (T.worn turn.old) → IsTrue (T.worn turn.new) }
-    ensures allowed { T.allowed turn.old → T.allowed turn.new }
+    ensures stays { Stays T.home T.worn T.allowed turn.old turn.new }
     ensures over { IsHandedOver (IsTrue (T.worn turn.new)) host.now
         (IsAt T.place_home (T.home turn.old)) stream member request.now
         (T.made turn.old) (T.made turn.new) (P.handed spawner.old) (P.handed spawner.new)
@@ -138,9 +133,7 @@ pub(crate) fn do_job<T: Seats, L: Link, P: Spawner<Pass = T::Place>, C: Clock>(
 ) -> Option<WorkEnd>
 where
     P::Conn: Drop,
-    ensures home { T.home turn.new ≡ T.home turn.old }
-    ensures late { IsTrue (T.worn turn.old) → IsTrue (T.worn turn.new) }
-    ensures allowed { T.allowed turn.old → T.allowed turn.new }
+    ensures stays { Stays T.home T.worn T.allowed turn.old turn.new }
     ensures done { IsDone hosts.now (IsAt T.place_home (T.home turn.old))
         (IsTrue (T.worn turn.new)) job.now
         (ledger (T.made turn.old) (L.made link.old) (P.handed spawner.old)

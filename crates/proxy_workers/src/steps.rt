@@ -1,5 +1,6 @@
 ghost use Rattle.std.specs.Prelude.{◌≡◌, Err, IsTrue};
 ghost use Rattle.server_model.specs.Working.{IsFed, IsReported, is_full};
+ghost use Rattle.proxy_server.specs.Stays.{Stays};
 
 use core_model::{CoreEvent, StepFault};
 use etcd_types::Answer;
@@ -21,9 +22,7 @@ pub(crate) fn feed<T: Turn, C: Clock>(
     event: CoreEvent,
     end: Option<WorkEnd>,
 ) -> Option<WorkEnd>
-    ensures home { T.home turn.new ≡ T.home turn.old }
-    ensures late { IsTrue (T.worn turn.old) → IsTrue (T.worn turn.new) }
-    ensures allowed { T.allowed turn.old → T.allowed turn.new }
+    ensures stays { Stays T.home T.worn T.allowed turn.old turn.new }
     ensures fed { IsFed (IsTrue (T.worn turn.new)) event end
         (T.made turn.old) (T.made turn.new) result }
 {
@@ -45,9 +44,7 @@ pub(crate) fn report<T: Turn, C: Clock>(
     call: u64,
     answer: Answer,
 ) -> Option<WorkEnd>
-    ensures home { T.home turn.new ≡ T.home turn.old }
-    ensures late { IsTrue (T.worn turn.old) → IsTrue (T.worn turn.new) }
-    ensures allowed { T.allowed turn.old → T.allowed turn.new }
+    ensures stays { Stays T.home T.worn T.allowed turn.old turn.new }
     ensures reports { IsReported (IsTrue (T.worn turn.new)) call answer
         (T.made turn.old) (T.made turn.new) result }
 {

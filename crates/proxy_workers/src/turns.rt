@@ -1,6 +1,7 @@
 ghost use Rattle.std.specs.Prelude.{◌≡◌, IsTrue};
 ghost use Rattle.server_model.specs.Steps.{FitsOutcome};
 ghost use Rattle.server_model.specs.Working.{IsAt, IsDrawn, IsWorked, ended_by, ledger};
+ghost use Rattle.proxy_server.specs.Stays.{Stays};
 
 use crate::job::do_job;
 use crate::seats::Seats;
@@ -39,9 +40,7 @@ fn due_in(outcome: Outcome) -> Option<Job>
 
 /// Draws what is due, and rests until something is.
 fn draw<R: Wait, T: Turn, C: Clock>(rt: &R, turn: &mut T, clock: &mut C) -> Result<Job, WorkEnd>
-    ensures home { T.home turn.new ≡ T.home turn.old }
-    ensures late { IsTrue (T.worn turn.old) → IsTrue (T.worn turn.new) }
-    ensures allowed { T.allowed turn.old → T.allowed turn.new }
+    ensures stays { Stays T.home T.worn T.allowed turn.old turn.new }
     ensures drawn { IsDrawn T.rests (IsTrue (T.worn turn.new))
         (T.made turn.old) (T.made turn.new) result }
 {
@@ -76,9 +75,7 @@ pub fn work<R: Wait, T: Seats, L: Link, P: Spawner<Pass = T::Place>, C: Clock>(
 ) -> WorkEnd
 where
     P::Conn: Drop,
-    ensures home { T.home turn.new ≡ T.home turn.old }
-    ensures late { IsTrue (T.worn turn.old) → IsTrue (T.worn turn.new) }
-    ensures allowed { T.allowed turn.old → T.allowed turn.new }
+    ensures stays { Stays T.home T.worn T.allowed turn.old turn.new }
     ensures worked { IsWorked hosts.now (IsAt T.place_home (T.home turn.old)) T.rests
         (IsTrue (T.worn turn.new)) turns
         (ledger (T.made turn.old) (L.made link.old) (P.handed spawner.old)

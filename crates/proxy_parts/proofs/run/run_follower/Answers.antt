@@ -14,4 +14,4 @@ pub returns-clause-grows : goal.returns-clause-grows
 returns-clause-grows g c =
     let last = c.follow_stream-end.new.turn in
     seat_grows c.args.place.pass c.new-seated.result.begun.value last.begun.value c.new-seated.result.pass last.pass c.into_pass-pass.result
-    c.new-seated.ensures.begun (begun_of _ _ c.follow_stream-end.ensures.home) c.new-seated.ensures.grows c.follow_stream-end.ensures.allowed c.into_pass-pass.ensures
+    c.new-seated.ensures.begun (begun_of _ _ c.follow_stream-end.ensures.stays.home) c.new-seated.ensures.grows c.follow_stream-end.ensures.stays.allowed c.into_pass-pass.ensures

@@ -1,9 +1,10 @@
 -- Each kind of an Ask.
-use Rattle.std.proofs.Common.{inl, sym, ◌∙◌}
+use Rattle.std.proofs.Common.{Err, inl, sym, ◌∙◌}
 use Rattle.core_model.specs.declared.event.Outcome.TheVariants.{Replied, Waiting}
 use Rattle.server_model.specs.declared.progress.Stop.TheVariants as stop
 use Rattle.server_model.proofs.Asks.{made_as, stopped_as, replied_at_once, reply_unsaid, waits_whole, waits_unsaid, gave_up, ticket_in_use, not_asked}
 use Rattle.server_model.proofs.Numbers.{asked_ok, asked_quiet, not_one, used_one}
+use Rattle.proxy_server.proofs.Kept.{asks_unwritten}
 use Rattle.proxy_server.proofs.ask.ask.Goals as goal
 
 pub returns-in-Ok-clause-asks : goal.returns-in-Ok-clause-asks
@@ -26,8 +27,9 @@ returns-in-Ok-follow-clause-one g c = asked_quiet _ _ _ c.args.ticket c.args.wor
 
 pub returns-in-Err-Unanswered-clause-asks : goal.returns-in-Err-Unanswered-clause-asks
 returns-in-Err-Unanswered-clause-asks g c =
-    gave_up c.args.form g.T.Turn.rests _ _ c.args.ticket c.args.word _ c.args.request _ _ _ _ _ _ c.in-Err-Unanswered.end c.leave.result c.leave.ensures.late (made_as _ _ _ _ _ Waiting c.in-Ok-Waiting.field-0-is c.in-Ok-Waiting.ensures.made)
-    (stopped_as c.args.form g.T.Turn.rests _ c.args.ticket _ _ _ _ _ (stop.Unanswered c.in-Err-Unanswered.end) c.in-Err-Unanswered.field-0-is c.in-Err-Unanswered.ensures.follows) c.leave.ensures.left
+    asks_unwritten g.K.Sink.written c.args.form g.T.Turn.rests _ c.args.request _ _ _ _ _ (Err c.leave.result) c.leave.ensures.elsewhere.1
+    (gave_up c.args.form g.T.Turn.rests _ _ c.args.ticket c.args.word _ c.args.request _ _ _ _ _ _ c.in-Err-Unanswered.end c.leave.result c.leave.ensures.late (made_as _ _ _ _ _ Waiting c.in-Ok-Waiting.field-0-is c.in-Ok-Waiting.ensures.made)
+    (stopped_as c.args.form g.T.Turn.rests _ c.args.ticket _ _ _ _ _ (stop.Unanswered c.in-Err-Unanswered.end) c.in-Err-Unanswered.field-0-is c.in-Err-Unanswered.ensures.follows) c.leave.ensures.left)
 
 pub returns-in-Err-Unanswered-clause-one : goal.returns-in-Err-Unanswered-clause-one
 returns-in-Err-Unanswered-clause-one g c =

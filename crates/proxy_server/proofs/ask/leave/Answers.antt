@@ -5,10 +5,10 @@ use Rattle.server_model.proofs.Numbers.{asked_none, turn_asks_none}
 use Rattle.proxy_server.proofs.ask.leave.Goals as goal
 
 pub returns-in-Worn-clause-left : goal.returns-in-Worn-clause-left
-returns-in-Worn-clause-left g c n = worn_before g.T.Turn.rests _ c.args.ticket c.args.end (g.T.Turn.made c.args.turn.now) c.in-Worn.is
+returns-in-Worn-clause-left g c n = worn_before g.T.Turn.rests _ c.args.ticket c.args.end (g.T.Turn.made c.args.talk.now.turn.now) c.in-Worn.is
 
 pub returns-in-TicketTaken-clause-left : goal.returns-in-TicketTaken-clause-left
-returns-in-TicketTaken-clause-left g c n = taken_before g.T.Turn.rests _ c.args.ticket c.in-TicketTaken.other c.args.end (g.T.Turn.made c.args.turn.now) c.in-TicketTaken.is n
+returns-in-TicketTaken-clause-left g c n = taken_before g.T.Turn.rests _ c.args.ticket c.in-TicketTaken.other c.args.end (g.T.Turn.made c.args.talk.now.turn.now) c.in-TicketTaken.is n
 
 pub returns-in-Ok-clause-left : goal.returns-in-Ok-clause-left
 returns-in-Ok-clause-left g c n = was_left g.T.Turn.rests _ c.args.ticket _ _ _ c.args.end (Ok c.in-Ok.field-0) c.in-Ok.ensures.made refl

@@ -1,5 +1,5 @@
 -- Each try, and each end of the tries.
-use Rattle.std.proofs.Common.{refl, ◌∙◌, sym, arith, Ok, Err, None, Some}
+use Rattle.std.proofs.Common.{refl, ◌∙◌, sym, arith, Ok, None, Some}
 use Rattle.server_model.specs.declared.ends.SessionEnd.TheVariants.{NoMemory}
 use Rattle.server_model.specs.declared.progress.Attempt.TheVariants as attempt
 use Rattle.http_talk.specs.Requests.{asked_of}
@@ -8,11 +8,14 @@ use Rattle.server_model.proofs.Exchanges.{none_tried, tried_as, one_more_try, wa
 use Rattle.server_model.proofs.Asks.{asked_as}
 use Rattle.server_model.proofs.Numbers.{numbered_none, numbered_more, numbered_end, all_numbered}
 use Rattle.http_talk.proofs.Said.{keeps_itself}
+use Rattle.proxy_server.proofs.Causes.{rose_before}
+use Rattle.proxy_server.proofs.Kept.{same_itself}
 use Rattle.proxy_server.proofs.exchange.answer.Goals as goal
 
 pub tries-init : goal.tries-init
 tries-init g c = record {
   home = refl;
+  same = same_itself _;
   known = refl;
   allowed = λ a. a;
   limit = refl;
@@ -28,10 +31,17 @@ tries-preserved g c =
     let wanted = asked_of Client c.args.received.now.head c.args.received.now.body in
     let is = sym c.in-Ok-Ok.field-0-is ∙ c.in-Ok-Ok.ensures in
     record {
-      home = c.in-Ok-InUse.ensures.home ∙ c.tries.invariant.home;
-      allowed = λ a. c.in-Ok-InUse.ensures.allowed (c.tries.invariant.allowed a);
+      home = c.in-Ok-InUse.ensures.kept.home ∙ c.tries.invariant.home;
+      same = record {
+        turn = c.in-Ok-InUse.ensures.kept.same.turn ∙ c.tries.invariant.same.turn;
+        clock = c.in-Ok-InUse.ensures.kept.same.clock ∙ c.tries.invariant.same.clock;
+        source = c.in-Ok-InUse.ensures.kept.same.source ∙ c.tries.invariant.same.source;
+        sink = c.in-Ok-InUse.ensures.kept.same.sink ∙ c.tries.invariant.same.sink;
+        draw = c.in-Ok-InUse.ensures.kept.same.draw ∙ c.tries.invariant.same.draw;
+      };
+      allowed = λ a. c.in-Ok-InUse.ensures.kept.allowed (c.tries.invariant.allowed a);
       known = c.tries.invariant.known;
-      limit = c.in-Ok-InUse.ensures.limit ∙ c.tries.invariant.limit;
+      limit = c.in-Ok-InUse.ensures.kept.limit ∙ c.tries.invariant.limit;
       reads = omega arith;
       writes = omega arith;
       ahead = keeps_then _ _ _ c.tries.invariant.ahead c.in-Ok-InUse.ensures.ahead;
@@ -75,8 +85,11 @@ returns-in-Some-clause-replies g c =
     not_direct c.args.form g.T.Turn.rests _ (g.A.Answers.gives (g.A.Answers.known c.args.answers.now) c.args.received.now.head c.args.received.now.body) c.args.received.now.head.method (asked_of Client c.args.received.now.head c.args.received.now.body) c.in-Ok-Err.refused _ _ _ _ _ c.in-Some.end (sym c.in-Ok-Err.ensures ∙ c.in-Ok-Err.field-0-is) c.tries.invariant.tried
     (directly_as c.args.form (λ k. g.A.Answers.gives k c.args.received.now.head c.args.received.now.body) c.args.received.now.head.method c.in-Ok-Err.refused _ _ (Some c.in-Some.end) _ _ c.tries.invariant.known c.in-Some.ensures.directly)
 
-pub returns-in-Some-clause-read_cause : goal.returns-in-Some-clause-read_cause
-returns-in-Some-clause-read_cause g c e = absurd (c.in-Some.ensures.reading e)
+pub returns-in-Some-clause-causes : goal.returns-in-Some-clause-causes
+returns-in-Some-clause-causes g c = record {
+  read_cause = λ e. absurd (c.in-Some.ensures.reading e);
+  write_cause = λ e. rose_before _ _ _ c.tries.invariant.writes (c.in-Some.ensures.cause e);
+}
 
 pub returns-in-Some-clause-numbered : goal.returns-in-Some-clause-numbered
 returns-in-Some-clause-numbered g c = all_numbered c.in-Some.end _ _ _ _ _ _ _ c.in-Some.ensures.other c.tries.invariant.numbered

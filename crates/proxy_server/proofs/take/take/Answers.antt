@@ -1,5 +1,5 @@
 -- Each kind of a Take.
-use Rattle.std.proofs.Common.{refl, Ok, Err}
+use Rattle.std.proofs.Common.{refl, Ok}
 use Rattle.core_model.specs.declared.event.Outcome.TheVariants.{Replied, Pending, Item}
 use Rattle.server_model.proofs.Asks.{made_as, took_nothing, took_reply, unsaid_last, passed_on, take_failed}
 use Rattle.server_model.proofs.Numbers.{turn_asks_none}

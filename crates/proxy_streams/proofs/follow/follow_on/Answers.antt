@@ -27,9 +27,9 @@ pub messages-preserved : goal.messages-preserved
 messages-preserved g c = record {
   sound = c.in-Ok-next.ensures.sound;
   reads = let same = c.in-None-feed_from.ensures.kept in let rested = c.rest_if-in-messages.ensures.kept in omega arith;
-  home = c.in-None-feed_from.ensures.home ∙ c.messages.invariant.home;
-  late = λ w. c.in-None-feed_from.ensures.late (c.messages.invariant.late w);
-  allowed = λ a. c.in-None-feed_from.ensures.allowed (c.messages.invariant.allowed a);
+  home = c.in-None-feed_from.ensures.stays.home ∙ c.messages.invariant.home;
+  late = λ w. c.in-None-feed_from.ensures.stays.late (c.messages.invariant.late w);
+  allowed = λ a. c.in-None-feed_from.ensures.stays.allowed (c.messages.invariant.allowed a);
   fed = rest_as c.args.most c.args.stream _ _ _ c.next-in-messages.new.wire _ _ _ (c.in-None-feed_from.ensures.bytes ∙ c.rest_if-in-messages.ensures.bytes)
       (fed_more c.args.most c.args.stream _ _ _ _ _ _ _ _ 0 0 c.in-Ok-next.item c.messages.invariant.fed c.in-Ok-next.ensures.nexts (sym c.is_cancel-is_last.ensures ∙ c.if-is_last.false)
       c.in-None-feed_from.ensures.feeds);

@@ -8,23 +8,23 @@ jobs-init g c = record { home = refl; late = λ w. w; allowed = λ a. a; working
 
 pub jobs-preserved : goal.jobs-preserved
 jobs-preserved g c = record {
-  home = c.in-None.ensures.home ∙ c.in-Ok.ensures.home ∙ c.jobs.invariant.home;
-  late = λ w. c.in-None.ensures.late (c.in-Ok.ensures.late (c.jobs.invariant.late w));
-  allowed = λ a. c.in-None.ensures.allowed (c.in-Ok.ensures.allowed (c.jobs.invariant.allowed a));
-  working = one_more c.args.hosts.now _ g.T.Turn.rests _ _ _ _ _ _ _ _ c.in-Ok.job (λ w. c.in-None.ensures.late (c.in-Ok.ensures.late w)) (λ w. c.in-None.ensures.late w)
+  home = c.in-None.ensures.stays.home ∙ c.in-Ok.ensures.stays.home ∙ c.jobs.invariant.home;
+  late = λ w. c.in-None.ensures.stays.late (c.in-Ok.ensures.stays.late (c.jobs.invariant.late w));
+  allowed = λ a. c.in-None.ensures.stays.allowed (c.in-Ok.ensures.stays.allowed (c.jobs.invariant.allowed a));
+  working = one_more c.args.hosts.now _ g.T.Turn.rests _ _ _ _ _ _ _ _ c.in-Ok.job (λ w. c.in-None.ensures.stays.late (c.in-Ok.ensures.stays.late w)) (λ w. c.in-None.ensures.stays.late w)
       c.jobs.invariant.working c.in-Ok.ensures.drawn
-      (done_at g.T.Seats.place_home c.args.hosts.now _ _ _ c.in-Ok.job _ _ _ (c.in-Ok.ensures.home ∙ c.jobs.invariant.home) c.in-None.ensures.done);
+      (done_at g.T.Seats.place_home c.args.hosts.now _ _ _ c.in-Ok.job _ _ _ (c.in-Ok.ensures.stays.home ∙ c.jobs.invariant.home) c.in-None.ensures.done);
 }
 
 pub returns-in-Err-clause-worked : goal.returns-in-Err-clause-worked
 returns-in-Err-clause-worked g c =
-    undrawn c.args.hosts.now _ g.T.Turn.rests _ _ c.jobs.counter c.args.turns _ _ _ c.in-Err.end (λ w. c.in-Err.ensures.late w) (omega arith) c.jobs.invariant.working c.in-Err.ensures.drawn
+    undrawn c.args.hosts.now _ g.T.Turn.rests _ _ c.jobs.counter c.args.turns _ _ _ c.in-Err.end (λ w. c.in-Err.ensures.stays.late w) (omega arith) c.jobs.invariant.working c.in-Err.ensures.drawn
 
 pub returns-in-Some-clause-worked : goal.returns-in-Some-clause-worked
 returns-in-Some-clause-worked g c =
-    stopped c.args.hosts.now _ g.T.Turn.rests _ _ _ c.jobs.counter c.args.turns _ _ _ _ c.in-Ok.job c.in-Some.end (λ w. c.in-Some.ensures.late (c.in-Ok.ensures.late w)) (λ w. c.in-Some.ensures.late w)
+    stopped c.args.hosts.now _ g.T.Turn.rests _ _ _ c.jobs.counter c.args.turns _ _ _ _ c.in-Ok.job c.in-Some.end (λ w. c.in-Some.ensures.stays.late (c.in-Ok.ensures.stays.late w)) (λ w. c.in-Some.ensures.stays.late w)
     (omega arith) c.jobs.invariant.working c.in-Ok.ensures.drawn
-    (done_at g.T.Seats.place_home c.args.hosts.now _ _ _ c.in-Ok.job _ _ _ (c.in-Ok.ensures.home ∙ c.jobs.invariant.home) c.in-Some.ensures.done)
+    (done_at g.T.Seats.place_home c.args.hosts.now _ _ _ c.in-Ok.job _ _ _ (c.in-Ok.ensures.stays.home ∙ c.jobs.invariant.home) c.in-Some.ensures.done)
 
 pub returns-clause-worked : goal.returns-clause-worked
 returns-clause-worked g c = turned c.args.hosts.now _ g.T.Turn.rests _ c.jobs.counter c.args.turns _ _ (omega arith) c.jobs.invariant.working

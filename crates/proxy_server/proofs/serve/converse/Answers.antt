@@ -5,7 +5,8 @@ use Rattle.server_model.proofs.Numbers.{none_last, has_tickets, numbered_none, n
 use Rattle.server_model.proofs.Serves.{at_start, goes_on, ends, no_wire, turned_as}
 use Rattle.server_model.proofs.Complete.{completes}
 use Rattle.proxy_server.proofs.Causes.{rose_before}
-use Rattle.proxy_server.proofs.serve.serve_on.Goals as goal
+use Rattle.proxy_server.proofs.Kept.{same_itself}
+use Rattle.proxy_server.proofs.serve.converse.Goals as goal
 
 pub returns-in_default-clause-numbered : goal.returns-in_default-clause-numbered
 returns-in_default-clause-numbered g c = none_last NoMemory _ _ _ _ (has_tickets NoMemory _ _ tt)
@@ -17,22 +18,30 @@ pub requests-init : goal.requests-init
 requests-init g c = record {
   sound = c.in-Ok.ensures.fault;
   home = refl;
+  same = same_itself _;
   known = refl;
   allowed = λ a. a;
   limit = refl;
   reads = omega arith;
   writes = omega arith;
   numbered = numbered_none _ _ _ _;
-  has = at_start c.args.form (g.A.Answers.gives (g.A.Answers.known c.args.answers.now)) g.T.Turn.rests (g.S.Source.left c.args.source.now) c.in-Ok.wire _ _ c.in-Ok.ensures.held;
+  has = at_start c.args.form (g.A.Answers.gives (g.A.Answers.known c.args.answers.now)) g.T.Turn.rests (g.S.Source.left c.args.talk.now.source.now) c.in-Ok.wire _ _ c.in-Ok.ensures.held;
 }
 
 pub requests-preserved : goal.requests-preserved
 requests-preserved g c = record {
   sound = c.in-None-exchange.ensures.sound;
-  home = c.in-None-exchange.ensures.home ∙ c.requests.invariant.home;
-  allowed = λ a. c.in-None-exchange.ensures.allowed (c.requests.invariant.allowed a);
+  home = c.in-None-exchange.ensures.kept.home ∙ c.requests.invariant.home;
+  same = record {
+    turn = c.in-None-exchange.ensures.kept.same.turn ∙ c.requests.invariant.same.turn;
+    clock = c.in-None-exchange.ensures.kept.same.clock ∙ c.requests.invariant.same.clock;
+    source = c.in-None-exchange.ensures.kept.same.source ∙ c.requests.invariant.same.source;
+    sink = c.in-None-exchange.ensures.kept.same.sink ∙ c.requests.invariant.same.sink;
+    draw = c.in-None-exchange.ensures.kept.same.draw ∙ c.requests.invariant.same.draw;
+  };
+  allowed = λ a. c.in-None-exchange.ensures.kept.allowed (c.requests.invariant.allowed a);
   known = c.in-None-exchange.ensures.known ∙ c.requests.invariant.known;
-  limit = c.in-None-exchange.ensures.limit ∙ c.requests.invariant.limit;
+  limit = c.in-None-exchange.ensures.kept.limit ∙ c.requests.invariant.limit;
   reads = omega arith;
   writes = omega arith;
   numbered = numbered_more _ _ _ _ _ _ _ _ _ _ _ c.requests.invariant.limit c.requests.invariant.numbered c.in-None-exchange.ensures.numbered;
@@ -58,5 +67,5 @@ returns-in-Some-exchange-clause-complete g c =
     (ends c.args.form (g.A.Answers.gives (g.A.Answers.known c.args.answers.now)) g.T.Turn.rests _ _ _ _ _ _ _ _ _ c.in-Some-exchange.end c.requests.invariant.has
     (turned_as c.args.form g.A.Answers.gives g.T.Turn.rests _ _ None _ _ _ _ (Some c.in-Some-exchange.end) _ _ c.requests.invariant.known c.in-Some-exchange.ensures.turned))
     (numbered_end c.in-Some-exchange.end _ _ _ _ _ _ _ _ _ _ c.requests.invariant.limit c.requests.invariant.numbered c.in-Some-exchange.ensures.numbered)
-    (λ e. rose_before _ _ _ c.requests.invariant.reads (c.in-Some-exchange.ensures.read_cause e))
-    (λ e. rose_before _ _ _ c.requests.invariant.writes (c.in-Some-exchange.ensures.write_cause e))
+    (λ e. rose_before _ _ _ c.requests.invariant.reads (c.in-Some-exchange.ensures.causes.read_cause e))
+    (λ e. rose_before _ _ _ c.requests.invariant.writes (c.in-Some-exchange.ensures.causes.write_cause e))
