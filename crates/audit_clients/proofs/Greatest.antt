@@ -18,6 +18,8 @@ use Rattle.world_model.specs.Places.{kept_at, with_kept}
 use Rattle.world_model.specs.Reads.{answer_revisions, given, given_by, given_from, message_revisions}
 use Rattle.world_model.specs.Received.{or_zero}
 use Rattle.world_model.specs.State.{Numbered}
+use Rattle.first_places.specs.Places.{is_number}
+use Rattle.audit_model.specs.Calls.{sender_of}
 use Rattle.audit_lives.specs.Finds.{opener_in, sender_in}
 use Rattle.audit_clients.specs.Given.{Forgets, KeepsNewest, Raises, answer_revision, greatest, is_one, message_revision, newest_at}
 
@@ -192,3 +194,14 @@ pub all_up_to : (revision : ℕ) (rs : List ℕ) → list_all (λ r. nat_le r re
 all_up_to revision [] = sym (le-leb 0 revision (omega arith))
 all_up_to revision (r ∷ rs) =
     ap (λ (b : Bool). nat_le r revision && b) (all_up_to revision rs) ∙ both_up r (greatest rs) revision (nat_le r revision) (nat_le (greatest rs) revision) refl refl
+
+-- ---- by one sender
+
+one_number : (o : Option ℕ) (p : ℕ) → is_number o p ≡ is_one o p
+one_number None p = refl
+one_number (Some q) p = refl
+
+pub raised_single : (old new : Numbered ℕ) (call revision : ℕ) (items : List Item) (o : Option ℕ) → ((k p : ℕ) → sent_it p k items ≡ is_number (sender_of k items) p)
+    → o ≡ sender_of call items → Raises old new (is_one o) revision → Raises old new (λ p. sent_it p call items) revision
+raised_single old new call revision items o single e r p =
+    r p ∙ ap (λ (b : Bool). max (newest_at old p) (cond b revision 0)) (ap (λ (x : Option ℕ). is_one x p) e ∙ sym (single call p ∙ one_number (sender_of call items) p))

@@ -5,3 +5,4 @@ pub mod Fronts
 pub mod Counts
 pub mod Turns
 pub mod Greatest
+pub mod LeaseAnswers

@@ -1,4 +1,4 @@
--- What is kept of what proxies and sessions were given, in place of the items that tell it.
+-- What is kept of what proxies and sessions were given, in place of the items that tell it, and where the items tell what is looked up.
 use Rattle.std.specs.Prelude.{◌≡◌, ℕ, Bool, false, ◌==◌, max, if◌then◌else◌, List, [], ◌∷◌, Option, None, Some}
 use Rattle.etcd_types.specs.declared.answer.Answer.{Answer}
 use Rattle.etcd_types.specs.declared.answer.Answer.TheVariants.{Done, Refused}
@@ -10,6 +10,7 @@ use Rattle.world_model.specs.Reads.{given}
 use Rattle.world_model.specs.Received.{or_zero}
 use Rattle.world_model.specs.State.{Numbered}
 use Rattle.audit_model.specs.Floors.{reported_floors}
+use Rattle.audit_lives.specs.Index.{TellsAll}
 use Rattle.audit_clients.specs.declared.given.Given.{Given}
 
 -- the greatest of these, or 0
@@ -52,3 +53,4 @@ is_one (Some q) p = q == p
 pub record Gave (g : Given) (items : List Item) : Type 0 where
   pub floors : g.floors ≡ reported_floors items
   pub newest : KeepsNewest g.newest items
+  pub index : TellsAll g.index items

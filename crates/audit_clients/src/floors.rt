@@ -1,15 +1,17 @@
-ghost use Rattle.std.specs.Prelude.{◌≡◌, IfOk, OnOk};
+ghost use Rattle.std.specs.Prelude.{◌≡◌, List as Values, IfOk, OnOk};
 ghost use Rattle.std.specs.Option.{option_copied};
 ghost use Rattle.audit_clients.specs.Given.{Gave};
-ghost use Rattle.audit_clients.specs.Sent.{sent_at, sent_in};
+ghost use Rattle.audit_clients.specs.Sent.{of_lease, sent_at, sent_in};
 ghost use Rattle.audit_model.specs.Calls.{sent_as as first_sent};
 ghost use Rattle.audit_model.specs.Floors.{floors_by as raised_by, floors_of as raised_of, too_early as is_too_early, too_early_at as is_too_early_at, too_early_by as is_too_early_by};
+ghost use Rattle.script_text.specs.declared.item.Item.{Item as Told};
 ghost use Rattle.script_text.specs.declared.item.Item.TheVariants as item;
+ghost use Rattle.world_model.specs.Lives.{clock_of as last_clock};
 
 use crate::given::Given;
 use audit_lives::clock_of;
 use audit_model::AuditFault;
-use etcd_types::{Answer, NoMemory, Request};
+use etcd_types::{Answer, Body, NoMemory, Request};
 use replay_parts::{Numbers, raise_floors};
 use script_text::Item;
 use std::alloc::Global;
@@ -96,6 +98,38 @@ fn raise(
     }
 }
 
+/// Whether an answer of this kind may raise a floor.
+fn is_of_lease(answer: &Answer) -> bool
+    ensures { result ≡ of_lease answer.now }
+{
+    match answer {
+        Answer::Done(reply) => match &reply.body {
+            Body::Grant { .. } => true,
+            Body::KeepAlive { .. } => true,
+            _ => false,
+        },
+        Answer::Refused(_) => false,
+    }
+}
+
+/// What an answer to the call makes of the floors. The call is looked for only where that is something.
+#[tactic(auto, using(crate::proofs::LeaseAnswers::unraised))]
+fn raise_for(
+    alloc: Global,
+    floors: &mut Numbers<Floor>,
+    call: u64,
+    before: &[Item],
+    answer: &Answer,
+) -> Result<(), NoMemory>
+    ensures { OnOk result (floors.new ≡ raised_of (first_sent call before.now) answer.now floors.old) }
+{
+    if !is_of_lease(answer) {
+        return Ok(());
+    }
+    let call = sent_as(alloc, call, before)?;
+    Ok(raise(floors, &call, answer)?)
+}
+
 /// What the item makes of the floors, behind those before it.
 pub(crate) fn raise_by(
     alloc: Global,
@@ -106,10 +140,7 @@ pub(crate) fn raise_by(
     ensures { OnOk result (floors.new ≡ raised_by before.now item.now floors.old) }
 {
     match item {
-        Item::Executed { call, answer } => {
-            let call = sent_as(alloc, *call, before)?;
-            Ok(raise(floors, &call, answer)?)
-        }
+        Item::Executed { call, answer } => Ok(raise_for(alloc, floors, *call, before, answer)?),
         _ => Ok(()),
     }
 }
@@ -124,18 +155,25 @@ fn too_early_at(clock: u64, floor: u64) -> Option<AuditFault>
     }
 }
 
-fn too_early_by(items: &[Item], floor: Option<&Floor>) -> Option<AuditFault>
-    ensures { result ≡ is_too_early_by items.now (option_copied floor.entry) }
+fn too_early_by(given: &Given, floor: Option<&Floor>) -> Option<AuditFault>
+    ensures { (items : Values Told) → Gave given.now items → result ≡ is_too_early_by items (option_copied floor.entry) }
 {
     match floor {
-        Some(floor) => too_early_at(clock_of(floor.proxy, items), floor.floor),
+        Some(floor) => too_early_at(clock_now(given, floor.proxy), floor.floor),
         None => None,
     }
 }
 
-/// The fault of a session that expires before its owner's clock reads its floor, where it does.
-pub fn too_early(given: &Given, items: &[Item], lease: u64) -> Option<AuditFault>
-    ensures { Gave given.now items.now → result ≡ is_too_early items.now (item.Expired lease) }
+/// The reading that the proxy's clock was set to last, in milliseconds, or 0.
+fn clock_now(given: &Given, proxy: u64) -> u64
+    ensures { (items : Values Told) → Gave given.now items → result ≡ last_clock proxy items }
 {
-    too_early_by(items, given.floors.find(lease))
+    given.index().clock_of(proxy)
+}
+
+/// The fault of a session that expires before its owner's clock reads its floor, where it does.
+pub fn too_early(given: &Given, lease: u64) -> Option<AuditFault>
+    ensures { (items : Values Told) → Gave given.now items → result ≡ is_too_early items (item.Expired lease) }
+{
+    too_early_by(given, given.floors.find(lease))
 }

@@ -2,6 +2,7 @@ ghost use Rattle.std.specs.Prelude.{◌≡◌, ◌++◌, ◌∷◌, ◌==◌, []
 ghost use Rattle.std.specs.List.{list_all};
 ghost use Rattle.std.specs.Option.{option_copied};
 ghost use Rattle.audit_clients.specs.Given.{Forgets, Gave, KeepsNewest, Raises, answer_revision as revision_of_answer, is_one, message_revision as revision_of_message, newest_at};
+ghost use Rattle.audit_lives.specs.Index.{TellsAll};
 ghost use Rattle.audit_model.specs.Unsent.{is_true_header as is_header_true};
 ghost use Rattle.audit_store.specs.Store.{Stands};
 ghost use Rattle.script_text.specs.declared.item.Item.{Item as Told};
@@ -10,7 +11,7 @@ ghost use Rattle.world_model.specs.Lives.{opened_it, sent_it};
 ghost use Rattle.world_model.specs.Reads.{given as given_to};
 
 use crate::floors::raise_by;
-use audit_lives::{executed_to, next_message, opener_in, sender_in};
+use audit_lives::{Index, next_message, opener_in, sender_in};
 use audit_store::Store;
 use etcd_types::{Answer, Header, NoMemory, WatchItem};
 use replay_parts::Numbers;
@@ -19,11 +20,12 @@ use std::alloc::Global;
 use world_model::Floor;
 
 /// What proxies and sessions were given by the items so far: the sessions' floors, and for each proxy the greatest header revision that
-/// it was given in its life.
+/// it was given in its life. And where the items tell what is looked up for the next one.
 #[derive(Drop)]
 pub struct Given {
     pub(crate) floors: Numbers<Floor>,
     newest: Numbers<u64>,
+    pub(crate) index: Index,
 }
 
 impl Given {
@@ -34,7 +36,15 @@ impl Given {
         Given {
             floors: Numbers::new(alloc),
             newest: Numbers::new(alloc),
+            index: Index::new(alloc),
         }
+    }
+
+    /// Where the items tell what is looked up for the next one.
+    pub fn index(&self) -> &Index
+        ensures { (items : Values Told) → Gave self.now items → TellsAll result.now items }
+    {
+        &self.index
     }
 
     /// By the next item, too, behind these.
@@ -42,7 +52,8 @@ impl Given {
         ensures { OnOk result (Gave self.old items.now → Gave self.new (items.now ++ item.now ∷ [])) }
     {
         raise_by(alloc, &mut self.floors, items, item)?;
-        renew(&mut self.newest, items, item)?;
+        renew(&mut self.newest, &self.index, items, item)?;
+        self.index.take(item)?;
         Ok(())
     }
 }
@@ -76,7 +87,24 @@ fn raise_one(newest: &mut Numbers<u64>, proxy: Option<u64>, revision: u64) -> Re
     }
 }
 
-/// The sender of the call was given this revision.
+/// Those that sent the call were given this revision. All items are looked through only where a call's number was sent twice.
+fn raise_sender(
+    newest: &mut Numbers<u64>,
+    index: &Index,
+    call: u64,
+    revision: u64,
+    items: &[Item],
+) -> Result<(), NoMemory>
+    ensures { OnOk result (TellsAll index.now items.now → Raises newest.old newest.new (λ p. sent_it p call items.now) revision) }
+{
+    if index.has_single_senders() {
+        Ok(raise_one(newest, index.sender_of(call, items), revision)?)
+    } else {
+        Ok(raise_senders(newest, call, revision, items)?)
+    }
+}
+
+/// Each sender of the call was given this revision.
 fn raise_senders(
     newest: &mut Numbers<u64>,
     call: u64,
@@ -152,15 +180,20 @@ fn message_revision(message: Option<&WatchItem>) -> u64
 }
 
 /// The next item gives a header, or begins a life.
-fn renew(newest: &mut Numbers<u64>, items: &[Item], item: &Item) -> Result<(), NoMemory>
-    ensures { OnOk result (KeepsNewest newest.old items.now → KeepsNewest newest.new (items.now ++ item.now ∷ [])) }
+fn renew(
+    newest: &mut Numbers<u64>,
+    index: &Index,
+    items: &[Item],
+    item: &Item,
+) -> Result<(), NoMemory>
+    ensures { OnOk result (TellsAll index.now items.now → KeepsNewest newest.old items.now → KeepsNewest newest.new (items.now ++ item.now ∷ [])) }
 {
     match item {
         Item::Started { proxy } => Ok(forget(newest, *proxy)?),
         Item::Restarted { proxy } => Ok(forget(newest, *proxy)?),
         Item::Answered { call } => {
-            let revision = answer_revision(executed_to(*call, items));
-            Ok(raise_senders(newest, *call, revision, items)?)
+            let revision = answer_revision(index.executed_to(*call, items));
+            Ok(raise_sender(newest, index, *call, revision, items)?)
         }
         Item::Delivered { stream } => {
             let revision = message_revision(next_message(*stream, items));

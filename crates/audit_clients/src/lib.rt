@@ -9,6 +9,7 @@ mod keys;
 mod reads;
 mod snapshots;
 mod summaries;
+mod taken;
 mod takes;
 mod unsent;
 

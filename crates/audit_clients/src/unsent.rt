@@ -1,15 +1,16 @@
-ghost use Rattle.std.specs.Prelude.{◌≡◌, Some, IfOk};
+ghost use Rattle.std.specs.Prelude.{◌≡◌, List as Values, Some, IfOk};
 ghost use Rattle.std.specs.Option.{option_copied};
 ghost use Rattle.audit_model.specs.Unsent.{is_true_unsent as is_unsent_true, replies_so as reply_is_so};
 ghost use Rattle.script_text.specs.declared.item.Item.TheVariants as item;
 ghost use Rattle.audit_clients.specs.Given.{Gave};
 ghost use Rattle.audit_store.specs.Store.{Stands};
+ghost use Rattle.script_text.specs.declared.item.Item.{Item as Told};
 ghost use Rattle.world_model.specs.Answers.{seen};
+ghost use Rattle.world_model.specs.Lives.{asked_as as first_asked, is_named as has_call, life as last_life};
 
 use crate::given::Given;
 use crate::reads::is_true_read;
 use crate::snapshots::is_true_transaction;
-use audit_lives::{asked_as, is_named, life};
 use audit_store::Store;
 use etcd_types::{Answer, NoMemory, Reply, Request};
 use script_text::Item;
@@ -54,6 +55,20 @@ fn is_true_unsent(
     }
 }
 
+/// Whether a call of the proxy's life names the ticket.
+fn is_named(given: &Given, proxy: u64, ticket: u64) -> bool
+    ensures { (items : Values Told) → Gave given.now items → result ≡ has_call proxy ticket (last_life proxy items) }
+{
+    given.index().is_named(proxy, ticket)
+}
+
+/// What was asked at the proxy under this ticket, in its life.
+fn asked_as<'a>(given: &Given, proxy: u64, ticket: u64, items: &'a [Item]) -> Option<&'a Request>
+    ensures { Gave given.now items.now → option_copied result ≡ first_asked proxy ticket (last_life proxy items.now) }
+{
+    given.index().asked_as(proxy, ticket, items)
+}
+
 /// Whether a reply is true where no call of its proxy's life names its ticket so far: an ok reply to a read, or to a transaction that
 /// writes nothing, is what the store holds.
 pub fn replies_so(
@@ -70,8 +85,7 @@ pub fn replies_so(
     let Answer::Done(reply) = answer else {
         return Ok(true);
     };
-    let own = life(proxy, items);
-    if is_named(proxy, ticket, own) {
+    if is_named(given, proxy, ticket) {
         return Ok(true);
     }
     Ok(is_true_unsent(
@@ -80,7 +94,7 @@ pub fn replies_so(
         given,
         items,
         proxy,
-        asked_as(proxy, ticket, own),
+        asked_as(given, proxy, ticket, items),
         reply,
     )?)
 }

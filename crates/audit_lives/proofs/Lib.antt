@@ -3,3 +3,7 @@ pub mod Found
 pub mod LifeSteps
 pub mod Rests
 pub mod GivenItems
+pub mod Growing
+pub mod Senders
+pub mod Telling
+pub mod LookUps

@@ -1,8 +1,9 @@
 -- What one item tells of what is looked for.
-use Rattle.std.specs.Prelude.{ℕ, Bool, false, ◌==◌, ◌&&◌, if◌then◌else◌, Option, None, Some}
+use Rattle.std.specs.Prelude.{ℕ, Bool, false, ◌==◌, ◌&&◌, if◌then◌else◌, List, slice_get, Option, None, Some, is_some}
 use Rattle.etcd_types.specs.declared.request.Request.{Request}
 use Rattle.script_text.specs.declared.item.Item.{Item}
 use Rattle.script_text.specs.declared.item.Item.TheVariants as item
+use Rattle.audit_model.specs.Calls.{sender_of}
 
 abbrev pub members_in : Item → Option ℕ
 members_in (item.World members namespace leasing) = Some members
@@ -32,3 +33,17 @@ pushes_into stream _ = false
 abbrev pub found_or : {A : Type 0} → Option A → Option A → Option A
 found_or None later = later
 found_or (Some x) later = Some x
+
+-- what the item at a place tells
+abbrev pub told_of : {A : Type 0} → (Item → Option A) → Option Item → Option A
+told_of f None = None
+told_of f (Some i) = f i
+
+abbrev pub told_by : {A : Type 0} → (Item → Option A) → List Item → Option ℕ → Option A
+told_by f items None = None
+told_by f items (Some place) = told_of f (slice_get items place)
+
+-- a call that was sent before is sent again
+abbrev pub sent_again : List Item → Item → Bool
+sent_again items (item.Sent p call member ticket q) = is_some (sender_of call items)
+sent_again items _ = false

@@ -1,2 +1,4 @@
 pub mod Finds
 pub mod Given
+pub mod Pairs
+pub mod Index

@@ -1,14 +1,15 @@
-ghost use Rattle.std.specs.Prelude.{◌≡◌, is_some};
-ghost use Rattle.std.specs.List.{list_any};
-ghost use Rattle.audit_lives.specs.Finds.{sender_in, executes};
-ghost use Rattle.audit_model.specs.Calls.{is_sending as is_sent, calls_sent as all_sent, sender_of as first_sender, is_own_call as is_call_of_life, settles as is_end, is_settled as has_end};
+ghost use Rattle.std.specs.Prelude.{◌≡◌, List as Values};
+ghost use Rattle.std.specs.Option.{option_copied};
+ghost use Rattle.audit_lives.specs.Finds.{sender_in as told_sender, told_by, told_of};
+ghost use Rattle.audit_lives.specs.Index.{TellsAll};
+ghost use Rattle.audit_model.specs.Calls.{is_sending as is_sent, is_own_call as is_call_of_life};
 ghost use Rattle.audit_model.specs.Order.{can_settle as is_open_call};
-ghost use Rattle.world_model.specs.Lives.{is_call_of as is_own, sent_it as has_sent, executed_to as first_answer};
+ghost use Rattle.script_text.specs.declared.item.Item.{Item as Told};
 
-use crate::lives::life;
+use crate::index::Index;
 use script_text::Item;
 
-fn is_sending(item: &Item) -> bool
+pub(crate) fn is_sending(item: &Item) -> bool
     ensures { result ≡ is_sent item.now }
 {
     match item {
@@ -17,16 +18,9 @@ fn is_sending(item: &Item) -> bool
     }
 }
 
-/// How many calls were sent.
-pub(crate) fn calls_sent(items: &[Item]) -> u64
-    ensures { result ≡ all_sent items.now }
-{
-    items.iter().filter(|item| is_sending(*item)).count() as u64
-}
-
 /// The proxy that the item tells as the call's sender.
 pub fn sender_in(call: u64, item: &Item) -> Option<u64>
-    ensures { result ≡ sender_in call item.now }
+    ensures { result ≡ told_sender call item.now }
 {
     match item {
         Item::Sent { proxy, call: c, .. } => { if *c == call { Some(*proxy) } else { None } }
@@ -34,88 +28,38 @@ pub fn sender_in(call: u64, item: &Item) -> Option<u64>
     }
 }
 
-/// The proxy that sent the call.
-pub(crate) fn sender_of(call: u64, items: &[Item]) -> Option<u64>
-    ensures { result ≡ first_sender call items.now }
-{
-    for item in items {
-        if let Some(proxy) = sender_in(call, item) {
-            return Some(proxy);
-        }
-    }
-    None
-}
-
-fn is_call_of(proxy: u64, call: u64, item: &Item) -> bool
-    ensures { result ≡ is_own proxy call item.now }
+fn sender_at(call: u64, item: Option<&Item>) -> Option<u64>
+    ensures { result ≡ told_of (told_sender call) (option_copied item.entry) }
 {
     match item {
-        Item::Sent {
-            proxy: p,
-            call: c,
-            ..
-        } => *p == proxy && *c == call,
-        _ => false,
+        Some(item) => sender_in(call, item),
+        None => None,
     }
 }
 
-pub(crate) fn sent_it(proxy: u64, call: u64, items: &[Item]) -> bool
-    ensures { result ≡ has_sent proxy call items.now }
+/// The sender of the call, by the place of the item that tells it.
+pub(crate) fn sender_by(call: u64, items: &[Item], place: Option<u64>) -> Option<u64>
+    ensures { result ≡ told_by (told_sender call) items.now place }
 {
-    items.iter().any(|item| is_call_of(proxy, call, item))
+    match place {
+        Some(place) => sender_at(call, items.get(place as usize)),
+        None => None,
+    }
 }
 
 /// Whether the proxy sent the call in the life that it has now.
-fn is_own_call(call: u64, sender: Option<u64>, items: &[Item]) -> bool
-    ensures { result ≡ is_call_of_life call sender items.now }
+fn is_own_call(index: &Index, call: u64, sender: Option<u64>) -> bool
+    ensures { (items : Values Told) → TellsAll index.now items → result ≡ is_call_of_life call sender items }
 {
     match sender {
-        Some(proxy) => sent_it(proxy, call, life(proxy, items)),
+        Some(proxy) => index.lives.sent_it(proxy, call),
         None => false,
     }
 }
 
-fn executes(call: u64, item: &Item) -> bool
-    ensures { result ≡ executes call item.now }
-{
-    match item {
-        Item::Executed { call: c, .. } => *c == call,
-        _ => false,
-    }
-}
-
-fn any_executes(call: u64, items: &[Item]) -> bool
-    ensures { result ≡ list_any (executes call) items.now }
-{
-    items.iter().any(|item| executes(call, item))
-}
-
-/// Whether the call was executed.
-pub(crate) fn is_executed(call: u64, items: &[Item]) -> bool
-    ensures { result ≡ is_some (first_answer call items.now) }
-{
-    any_executes(call, items)
-}
-
-fn settles(call: u64, item: &Item) -> bool
-    ensures { result ≡ is_end call item.now }
-{
-    match item {
-        Item::Answered { call: c } => *c == call,
-        Item::Lost { call: c } => *c == call,
-        _ => false,
-    }
-}
-
-fn is_settled(call: u64, items: &[Item]) -> bool
-    ensures { result ≡ has_end call items.now }
-{
-    items.iter().any(|item| settles(call, item))
-}
-
 /// Whether the call was sent in its proxy's life, and neither answered nor lost.
-pub(crate) fn can_settle(call: u64, items: &[Item]) -> bool
-    ensures { result ≡ is_open_call call items.now }
+pub(crate) fn can_settle(index: &Index, call: u64, items: &[Item]) -> bool
+    ensures { TellsAll index.now items.now → result ≡ is_open_call call items.now }
 {
-    is_own_call(call, sender_of(call, items), items) && !is_settled(call, items)
+    is_own_call(index, call, index.calls.sender_of(call, items)) && !index.calls.is_settled(call)
 }

@@ -1,7 +1,8 @@
 ghost use Rattle.std.specs.Prelude.{◌≡◌, slice_get, Some};
 ghost use Rattle.std.specs.Option.{option_copied};
+ghost use Rattle.audit_lives.specs.Finds.{told_by, told_of};
 ghost use Rattle.audit_lives.specs.Given.{executed_in, pushed_in};
-ghost use Rattle.world_model.specs.Lives.{executed_to, next_message, pushed_into};
+ghost use Rattle.world_model.specs.Lives.{next_message, pushed_into};
 
 use crate::streams::count_delivered;
 use etcd_types::{Answer, WatchItem};
@@ -16,16 +17,23 @@ fn executed_in(call: u64, item: &Item) -> Option<&Answer>
     }
 }
 
-/// What the store answered to the call.
-pub fn executed_to(call: u64, items: &[Item]) -> Option<&Answer>
-    ensures { option_copied result ≡ executed_to call items.now }
+fn executed_at(call: u64, item: Option<&Item>) -> Option<&Answer>
+    ensures { option_copied result ≡ told_of (executed_in call) (option_copied item.entry) }
 {
-    for item in items {
-        if let Some(answer) = executed_in(call, item) {
-            return Some(answer);
-        }
+    match item {
+        Some(item) => executed_in(call, item),
+        None => None,
     }
-    None
+}
+
+/// The answer to the call, by the place of the item that tells it.
+pub(crate) fn executed_by(call: u64, items: &[Item], place: Option<u64>) -> Option<&Answer>
+    ensures { option_copied result ≡ told_by (executed_in call) items.now place }
+{
+    match place {
+        Some(place) => executed_at(call, items.get(place as usize)),
+        None => None,
+    }
 }
 
 fn pushed_in(stream: u64, item: &Item) -> Option<&WatchItem>

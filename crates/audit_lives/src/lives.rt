@@ -1,6 +1,6 @@
 ghost use Rattle.std.specs.Prelude.{◌≡◌, ◌<◌, ◌+◌, if◌then◌else◌};
 ghost use Rattle.audit_lives.specs.Finds.{members_in};
-ghost use Rattle.audit_model.specs.Order.{has_started as is_started, is_member as is_of_members, members_of as count_members};
+ghost use Rattle.audit_model.specs.Order.{is_member as is_of_members, members_of as count_members};
 ghost use Rattle.world_model.specs.Lives.{begins as is_beginning, clock_by as set_clock, clock_of as last_clock, life as last_life, rest_of_life as rest_till_start};
 
 use script_text::Item;
@@ -13,13 +13,6 @@ pub(crate) fn begins(proxy: u64, item: &Item) -> bool
         Item::Restarted { proxy: p } => *p == proxy,
         _ => false,
     }
-}
-
-/// Whether the proxy was started.
-pub(crate) fn has_started(proxy: u64, items: &[Item]) -> bool
-    ensures { result ≡ is_started proxy items.now }
-{
-    items.iter().any(|item| begins(proxy, item))
 }
 
 /// Where the life begins once the item of this place is read.

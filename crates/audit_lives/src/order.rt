@@ -1,12 +1,12 @@
 ghost use Rattle.std.specs.Prelude.{◌≡◌, ◌==◌, ◌+◌};
+ghost use Rattle.audit_lives.specs.Index.{TellsAll};
 ghost use Rattle.audit_model.specs.Order.{about as is_about, fits_behind as is_in_order};
 
-use crate::calls::{calls_sent, can_settle, is_executed, sender_of};
-use crate::lives::{clock_of, has_started, is_member, life};
-use crate::streams::{
-    has_cancelled, has_ended, has_next, is_open_stream, opened_it, streams_opened,
-};
-use crate::tickets::{asked_as, is_given_ticket, is_replied, is_watch, knows_ticket, knows_watch};
+use crate::calls::can_settle;
+use crate::index::Index;
+use crate::lives::is_member;
+use crate::streams::is_open_stream;
+use crate::tickets::{can_reply, is_watch, knows_ticket, knows_watch};
 use script_text::Item;
 
 /// The number that a fault of order names: what the item is about, or 0 for a world.
@@ -48,22 +48,22 @@ fn is_next(number: u64, count: u64) -> bool
 }
 
 /// Whether the item is in order behind these, of which one is the world's. What the store decides isn't looked at.
-pub fn fits_behind(items: &[Item], item: &Item) -> bool
-    ensures { result ≡ is_in_order items.now item.now }
+pub fn fits_behind(index: &Index, items: &[Item], item: &Item) -> bool
+    ensures { TellsAll index.now items.now → result ≡ is_in_order items.now item.now }
 {
     match item {
         Item::World { .. } => false,
-        Item::Started { proxy } => !has_started(*proxy, items),
-        Item::Restarted { proxy } => has_started(*proxy, items),
-        Item::Clock { proxy, millis } => has_started(*proxy, items)
-            && clock_of(*proxy, items) <= *millis,
+        Item::Started { proxy } => !index.lives.has_started(*proxy),
+        Item::Restarted { proxy } => index.lives.has_started(*proxy),
+        Item::Clock { proxy, millis } => index.lives.has_started(*proxy)
+            && index.lives.clock_of(*proxy) <= *millis,
         Item::Asked { proxy, ticket, .. } => {
-            has_started(*proxy, items) && asked_as(*proxy, *ticket, life(*proxy, items)).is_none()
+            index.lives.has_started(*proxy) && !index.lives.is_asked(*proxy, *ticket)
         }
         Item::Posted { proxy, ticket, .. } => {
-            has_started(*proxy, items) && !is_given_ticket(*proxy, *ticket, life(*proxy, items))
+            index.lives.has_started(*proxy) && !index.lives.is_given_ticket(*proxy, *ticket)
         }
-        Item::Ticked { proxy } => has_started(*proxy, items),
+        Item::Ticked { proxy } => index.lives.has_started(*proxy),
         Item::Sent {
             proxy,
             call,
@@ -71,8 +71,8 @@ pub fn fits_behind(items: &[Item], item: &Item) -> bool
             request,
             ..
         } => {
-            has_started(*proxy, items)
-                && is_next(*call, calls_sent(items))
+            index.lives.has_started(*proxy)
+                && is_next(*call, index.calls.count)
                 && is_member(items, *member)
                 && !is_watch(request)
         }
@@ -82,33 +82,33 @@ pub fn fits_behind(items: &[Item], item: &Item) -> bool
             member,
             request,
         } => {
-            has_started(*proxy, items)
-                && is_next(*stream, streams_opened(items))
+            index.lives.has_started(*proxy)
+                && is_next(*stream, index.streams.count)
                 && is_member(items, *member)
                 && is_watch(request)
         }
         Item::Closed { proxy, stream } => {
-            has_started(*proxy, items)
-                && opened_it(*proxy, *stream, life(*proxy, items))
-                && !has_ended(*stream, items)
+            index.lives.has_started(*proxy)
+                && index.lives.opened_it(*proxy, *stream)
+                && !index.streams.has_ended(*stream)
         }
-        Item::Executed { call, .. } => sender_of(*call, items).is_some()
-            && !is_executed(*call, items),
-        Item::Answered { call } => can_settle(*call, items) && is_executed(*call, items),
-        Item::Lost { call } => can_settle(*call, items),
-        Item::Pushed { stream, .. } => is_open_stream(*stream, items)
-            && !has_cancelled(*stream, items),
-        Item::Delivered { stream } => is_open_stream(*stream, items) && has_next(*stream, items),
-        Item::Cut { stream } => is_open_stream(*stream, items) && !has_cancelled(*stream, items),
-        Item::Taken { proxy, ticket, .. } => knows_watch(*proxy, *ticket, items),
-        Item::Pending { proxy, ticket } => knows_watch(*proxy, *ticket, items),
-        Item::Left { proxy, ticket } => knows_ticket(*proxy, *ticket, items),
+        Item::Executed { call, .. } => index.calls.sender_of(*call, items).is_some()
+            && !index.calls.is_executed(*call),
+        Item::Answered { call } => can_settle(index, *call, items)
+            && index.calls.is_executed(*call),
+        Item::Lost { call } => can_settle(index, *call, items),
+        Item::Pushed { stream, .. } => is_open_stream(index, *stream, items)
+            && !index.streams.has_cancelled(*stream),
+        Item::Delivered { stream } => is_open_stream(index, *stream, items)
+            && index.streams.has_next(*stream),
+        Item::Cut { stream } => is_open_stream(index, *stream, items)
+            && !index.streams.has_cancelled(*stream),
+        Item::Taken { proxy, ticket, .. } => knows_watch(index, *proxy, *ticket, items),
+        Item::Pending { proxy, ticket } => knows_watch(index, *proxy, *ticket, items),
+        Item::Left { proxy, ticket } => knows_ticket(index, *proxy, *ticket),
         Item::Expired { .. } => true,
         Item::Applied { .. } => true,
-        Item::Reply { proxy, ticket, .. } => {
-            knows_ticket(*proxy, *ticket, items)
-                && !is_replied(*proxy, *ticket, life(*proxy, items))
-        }
-        Item::Body { proxy, ticket, .. } => knows_ticket(*proxy, *ticket, items),
+        Item::Reply { proxy, ticket, .. } => can_reply(index, *proxy, *ticket),
+        Item::Body { proxy, ticket, .. } => knows_ticket(index, *proxy, *ticket),
     }
 }

@@ -1,10 +1,12 @@
-ghost use Rattle.std.specs.Prelude.{◌≡◌};
+ghost use Rattle.std.specs.Prelude.{◌≡◌, ◌&&◌, not, List as Values};
 ghost use Rattle.std.specs.Option.{option_copied};
-ghost use Rattle.audit_lives.specs.Finds.{asked_in};
-ghost use Rattle.audit_model.specs.Order.{gives_ticket as is_giving, is_given_ticket as is_given, replies_to as is_reply_to, is_replied as has_reply, is_watch as is_a_watch, is_watch_of as is_watch_there, knows_ticket as is_known_ticket, knows_watch as is_known_watch};
-ghost use Rattle.world_model.specs.Lives.{asked_as as first_asked, names as is_naming, is_named as has_call};
+ghost use Rattle.audit_lives.specs.Finds.{asked_in, told_by, told_of};
+ghost use Rattle.audit_lives.specs.Index.{TellsAll};
+ghost use Rattle.audit_model.specs.Order.{is_watch as is_a_watch, is_replied as has_reply, is_watch_of as is_watch_there, knows_ticket as is_known_ticket, knows_watch as is_known_watch};
+ghost use Rattle.script_text.specs.declared.item.Item.{Item as Told};
+ghost use Rattle.world_model.specs.Lives.{asked_as as first_asked, names as is_naming, is_named as has_call, life as last_life};
 
-use crate::lives::{has_started, life};
+use crate::index::Index;
 use etcd_types::Request;
 use script_text::Item;
 
@@ -60,51 +62,6 @@ pub fn is_named(proxy: u64, ticket: u64, items: &[Item]) -> bool
     items.iter().any(|item| names(proxy, ticket, item))
 }
 
-fn gives_ticket(proxy: u64, ticket: u64, item: &Item) -> bool
-    ensures { result ≡ is_giving proxy ticket item.now }
-{
-    match item {
-        Item::Asked {
-            proxy: p,
-            ticket: t,
-            ..
-        } => *p == proxy && *t == ticket,
-        Item::Posted {
-            proxy: p,
-            ticket: t,
-            ..
-        } => *p == proxy && *t == ticket,
-        _ => false,
-    }
-}
-
-/// Whether the ticket was asked or posted.
-pub(crate) fn is_given_ticket(proxy: u64, ticket: u64, items: &[Item]) -> bool
-    ensures { result ≡ is_given proxy ticket items.now }
-{
-    items.iter().any(|item| gives_ticket(proxy, ticket, item))
-}
-
-fn replies_to(proxy: u64, ticket: u64, item: &Item) -> bool
-    ensures { result ≡ is_reply_to proxy ticket item.now }
-{
-    match item {
-        Item::Reply {
-            proxy: p,
-            ticket: t,
-            ..
-        } => *p == proxy && *t == ticket,
-        _ => false,
-    }
-}
-
-/// Whether the ticket was replied.
-pub(crate) fn is_replied(proxy: u64, ticket: u64, items: &[Item]) -> bool
-    ensures { result ≡ has_reply proxy ticket items.now }
-{
-    items.iter().any(|item| replies_to(proxy, ticket, item))
-}
-
 /// Whether the request opens a watch.
 pub fn is_watch(request: &Request) -> bool
     ensures { result ≡ is_a_watch request.now }
@@ -124,16 +81,47 @@ fn is_watch_of(request: Option<&Request>) -> bool
     }
 }
 
-/// Whether the proxy was started, and the ticket of its life was asked or posted.
-pub(crate) fn knows_ticket(proxy: u64, ticket: u64, items: &[Item]) -> bool
-    ensures { result ≡ is_known_ticket proxy ticket items.now }
+fn asked_at(proxy: u64, ticket: u64, item: Option<&Item>) -> Option<&Request>
+    ensures { option_copied result ≡ told_of (asked_in proxy ticket) (option_copied item.entry) }
 {
-    has_started(proxy, items) && is_given_ticket(proxy, ticket, life(proxy, items))
+    match item {
+        Some(item) => asked_in(proxy, ticket, item),
+        None => None,
+    }
+}
+
+/// What was asked under this ticket, by the place of the item that tells it.
+pub(crate) fn asked_by(
+    proxy: u64,
+    ticket: u64,
+    items: &[Item],
+    place: Option<u64>,
+) -> Option<&Request>
+    ensures { option_copied result ≡ told_by (asked_in proxy ticket) items.now place }
+{
+    match place {
+        Some(place) => asked_at(proxy, ticket, items.get(place as usize)),
+        None => None,
+    }
+}
+
+/// Whether the proxy was started, and the ticket of its life was asked or posted.
+pub(crate) fn knows_ticket(index: &Index, proxy: u64, ticket: u64) -> bool
+    ensures { (items : Values Told) → TellsAll index.now items → result ≡ is_known_ticket proxy ticket items }
+{
+    index.lives.has_started(proxy) && index.lives.is_given_ticket(proxy, ticket)
+}
+
+/// Whether the ticket of the proxy's life is known, and wasn't replied.
+pub(crate) fn can_reply(index: &Index, proxy: u64, ticket: u64) -> bool
+    ensures { (items : Values Told) → TellsAll index.now items → result ≡ (is_known_ticket proxy ticket items && not (has_reply proxy ticket (last_life proxy items))) }
+{
+    knows_ticket(index, proxy, ticket) && !index.lives.is_replied(proxy, ticket)
 }
 
 /// Whether the proxy was started, and a watch was asked under the ticket of its life.
-pub(crate) fn knows_watch(proxy: u64, ticket: u64, items: &[Item]) -> bool
-    ensures { result ≡ is_known_watch proxy ticket items.now }
+pub(crate) fn knows_watch(index: &Index, proxy: u64, ticket: u64, items: &[Item]) -> bool
+    ensures { TellsAll index.now items.now → result ≡ is_known_watch proxy ticket items.now }
 {
-    has_started(proxy, items) && is_watch_of(asked_as(proxy, ticket, life(proxy, items)))
+    index.lives.has_started(proxy) && is_watch_of(index.lives.asked_as(proxy, ticket, items))
 }

@@ -3,11 +3,12 @@ ghost use Rattle.audit_clients.specs.Given.{Gave};
 ghost use Rattle.audit_model.specs.Broken.{breaks_clients, breaks_store, broken};
 ghost use Rattle.audit_model.specs.Answers.{is_due_answer as is_answer_due, is_due_message as is_message_due};
 ghost use Rattle.audit_model.specs.Floors.{too_early as is_too_early};
-ghost use Rattle.audit_model.specs.Order.{is_ok};
+ghost use Rattle.audit_model.specs.Order.{fits_behind as fits_so, is_ok};
 ghost use Rattle.audit_model.specs.Takes.{takes_so as take_is_so};
 ghost use Rattle.audit_model.specs.Unsent.{replies_so as reply_is_so};
 ghost use Rattle.audit_model.specs.declared.fault.AuditFault.TheVariants as fault;
 ghost use Rattle.audit_text.specs.Standing.{IsFaultOf, Makes, MakesAll, Refuses};
+ghost use Rattle.script_text.specs.declared.item.Item.{Item as Told};
 ghost use Rattle.script_text.specs.declared.item.Item.TheVariants as item;
 ghost use Rattle.store_model.specs.Leases.{expired};
 ghost use Rattle.store_model.specs.Members.{applied};
@@ -50,18 +51,18 @@ impl Made {
         ensures taken { OnOk result (MakesAll self.old items.now → Gave given.now items.now → (broken items.now item.now ≡ None) × Makes self.new (saw (seen items.now) item.now)) }
         ensures fault { IfErr result (λ f. MakesAll self.old items.now → Gave given.now items.now → IsFaultOf f (broken items.now item.now)) }
     {
-        match self.step(items, item) {
+        match self.step(items, item, given) {
             Ok(()) => self.give(items, item, given),
             Err(fault) => Err(fault),
         }
     }
 
     /// The item is in order, and its answer or its message is the store's.
-    fn step(&mut self, items: &[Item], item: &Item) -> Result<(), AuditFault>
-        ensures taken { OnOk result (MakesAll self.old items.now → (breaks_store items.now item.now ≡ None) × Makes self.new (saw (seen items.now) item.now)) }
-        ensures fault { IfErr result (λ f. MakesAll self.old items.now → IsFaultOf f (breaks_store items.now item.now)) }
+    fn step(&mut self, items: &[Item], item: &Item, given: &Given) -> Result<(), AuditFault>
+        ensures taken { OnOk result (MakesAll self.old items.now → Gave given.now items.now → (breaks_store items.now item.now ≡ None) × Makes self.new (saw (seen items.now) item.now)) }
+        ensures fault { IfErr result (λ f. MakesAll self.old items.now → Gave given.now items.now → IsFaultOf f (breaks_store items.now item.now)) }
     {
-        if !fits_behind(items, item) {
+        if !is_in_order(given, items, item) {
             return Err(AuditFault::Order(about(item)));
         }
         match item {
@@ -99,7 +100,7 @@ impl Made {
                 ticket,
                 item,
             } => self.take(items, *proxy, *ticket, item),
-            Item::Expired { lease } => end(given, items, *lease),
+            Item::Expired { lease } => end(given, *lease),
             _ => Ok(()),
         }
     }
@@ -220,12 +221,19 @@ impl Made {
     }
 }
 
-/// A lease ends that expired.
-fn end(given: &Given, items: &[Item], lease: u64) -> Result<(), AuditFault>
-    ensures taken { OnOk result (Gave given.now items.now → is_too_early items.now (item.Expired lease) ≡ None) }
-    ensures fault { IfErr result (λ f. Gave given.now items.now → IsFaultOf f (is_too_early items.now (item.Expired lease))) }
+/// Whether the item is in order behind these.
+fn is_in_order(given: &Given, items: &[Item], item: &Item) -> bool
+    ensures { Gave given.now items.now → result ≡ fits_so items.now item.now }
 {
-    match too_early(given, items, lease) {
+    fits_behind(given.index(), items, item)
+}
+
+/// A lease ends that expired.
+fn end(given: &Given, lease: u64) -> Result<(), AuditFault>
+    ensures taken { OnOk result ((items : Values Told) → Gave given.now items → is_too_early items (item.Expired lease) ≡ None) }
+    ensures fault { IfErr result (λ f. (items : Values Told) → Gave given.now items → IsFaultOf f (is_too_early items (item.Expired lease))) }
+{
+    match too_early(given, lease) {
         Some(fault) => Err(fault),
         None => Ok(()),
     }

@@ -7,6 +7,6 @@ use Rattle.audit_model.specs.Floors.{too_early_by}
 use Rattle.audit_clients.proofs.floors.too_early.Goals as goal
 
 pub returns : goal.returns
-returns c = λ g.
-    c.too_early_by.ensures
-    ∙ ap (too_early_by c.args.items.now) (c.find.ensures ∙ ap (λ (fs : Numbered Floor). kept_at fs c.args.lease) g.floors)
+returns c = λ items g.
+    c.too_early_by.ensures items g
+    ∙ ap (too_early_by items) (c.find.ensures ∙ ap (λ (fs : Numbered Floor). kept_at fs c.args.lease) g.floors)

@@ -6,11 +6,11 @@ use Rattle.audit_text.proofs.made.end.Goals as goal
 pub returns-in-Some : goal.returns-in-Some
 returns-in-Some c = record {
   taken = tt;
-  fault = λ g. fault_is c.in-Some.fault _ (sym (c.too_early.ensures g) ∙ c.in-Some.is);
+  fault = λ items g. fault_is c.in-Some.fault _ (sym (c.too_early.ensures items g) ∙ c.in-Some.is);
 }
 
 pub returns-in-None : goal.returns-in-None
 returns-in-None c = record {
-  taken = λ g. sym (c.too_early.ensures g) ∙ c.in-None.is;
+  taken = λ items g. sym (c.too_early.ensures items g) ∙ c.in-None.is;
   fault = tt;
 }

@@ -7,5 +7,6 @@ use Rattle.audit_clients.proofs.given.Given.take.Goals as goal
 pub returns : goal.returns
 returns c = λ g. record {
   floors = c.in_ok-raise_by.ensures ∙ ap (floors_by c.args.items.now c.args.item.now) g.floors ∙ sym (floors_next c.args.items.now c.args.item.now);
-  newest = c.in_ok-renew.ensures g.newest;
+  newest = c.in_ok-renew.ensures g.index g.newest;
+  index = c.in_ok-take.ensures c.args.items.now g.index;
 }

@@ -49,12 +49,12 @@ returns-in-Expired-clause-taken c =
     let w = c.in-Expired in
     let items = c.args.items.now in
     let i = c.args.item.now in
-    on_ok c.end.result (λ t m g. (expires items i w.lease w.is ∙ t g, m)) c.end.ensures.taken
+    on_ok c.end.result (λ t m g. (expires items i w.lease w.is ∙ t items g, m)) c.end.ensures.taken
 
 pub returns-in-Expired-clause-fault : goal.returns-in-Expired-clause-fault
 returns-in-Expired-clause-fault c =
     let w = c.in-Expired in
-    if_err c.end.result (λ f r m g. early c.args.items.now c.args.item.now w.lease f w.is (r g)) c.end.ensures.fault
+    if_err c.end.result (λ f r m g. early c.args.items.now c.args.item.now w.lease f w.is (r c.args.items.now g)) c.end.ensures.fault
 
 pub returns-in_default : goal.returns-in_default
 returns-in_default c =

@@ -1,0 +1,7 @@
+-- A place from the start of the life on is kept where an item of the life tells it.
+use Rattle.std.proofs.Common.{◌∙◌}
+use Rattle.audit_lives.proofs.LookUps.{has_sent}
+use Rattle.audit_lives.proofs.lives_told.LivesTold.sent_it.Goals as goal
+
+pub returns : goal.returns
+returns c = λ items t. c.is_told.ensures ∙ has_sent c.args.self.now items c.args.proxy c.args.call t
