@@ -1,0 +1,4 @@
+pub mod Grown
+pub mod Pushing
+pub mod Replying
+pub mod Serving

@@ -1,0 +1,4 @@
+pub mod Steps
+pub mod Watching
+pub mod Dialog
+pub mod Exchanges

@@ -1,0 +1,2 @@
+pub mod StayTimed
+pub mod StayOpen

@@ -1,0 +1,23 @@
+-- Each by computation.
+use Rattle.std.proofs.Common.{refl}
+use denote.Hole.Carrier.{hidden}
+use Rattle.etcd_types.specs.declared.operation.Op.TheBlock.{shape-the_row-Op-0, hidden-the_row-Op-0}
+use Rattle.etcd_types.specs.declared.answer.Body.TheBlock as b
+use Rattle.store_model.specs.Step.{exec}
+use Rattle.store_model.specs.Leases.{expired}
+use Rattle.store_model.specs.Members.{applied}
+use Rattle.store_model.specs.Watches.{pushed}
+use Rattle.shop_model.proofs.worked.worked_leases.Goals as goal
+
+pub returns : goal.returns
+unfolding exec expired applied pushed shape-the_row-Op-0 hidden-the_row-Op-0 b.shape-the_row-Body-0 b.hidden-the_row-Body-0 hidden
+returns c = record {
+  kept_to_the_deadline = refl;
+  gone_at_the_deadline = refl;
+  kept_alive = refl;
+  granted_once = refl;
+  revoked_loses_deadline = refl;
+  ends_beyond_sixty_four_bits = refl;
+  lasts_a_second = refl;
+  reads_as_applied = refl;
+}

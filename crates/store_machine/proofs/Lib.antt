@@ -1,0 +1,4 @@
+pub mod Room
+pub mod Steps
+pub mod Parts
+pub mod Machines

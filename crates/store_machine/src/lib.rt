@@ -1,0 +1,13 @@
+//! The small store as a machine that many connections step: a store of one member whose leases expire by the clock. What a step of it
+//! is stands in `shop_model`.
+#![tactic(auto)]
+
+mod deadlines;
+mod ending;
+mod kept;
+mod laws;
+mod machine;
+
+pub use laws::machines_stand_for_shops;
+pub use machine::StoreMachine;
+pub use shop_model::{StoreEvent, StoreOutcome, StoreStepFault};
