@@ -13,3 +13,4 @@ pub mod RowFirsts
 pub mod SideBySide
 pub mod Since
 pub mod Tickets
+pub mod Undone

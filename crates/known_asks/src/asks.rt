@@ -21,6 +21,7 @@ use crate::rule::Rule;
 use crate::stages::ready_ticket;
 use crate::times::{is_late, late_ticket, only_unanswered};
 use ask_tables::{CALL_OUT, DUE, REPLIED, Tables, only_alike, only_at_key, only_keyed};
+use end_rows::EndRows;
 use etcd_types::NoMemory;
 use mark_rows::Mark;
 use numbered_rows::place;
@@ -34,7 +35,7 @@ pub struct Asks {
     /// By numbers that rise in the order of asking.
     rows: Vec<(u64, Asked)>,
     /// The number of each ticket's row, by ticket.
-    index: Vec<(u64, u64)>,
+    index: EndRows<(u64, u64)>,
     /// The number of each row, by its marks.
     tables: Tables,
     /// The number of the next row.
@@ -55,7 +56,7 @@ impl Model for Asks {
 
     ghost view = { λ a. map (λ r. r.1) a.rows.items };
 
-    ghost invariant = { λ a. IsKept a.rows.items a.index.items a.tables a.next };
+    ghost invariant = { λ a. IsKept a.rows.items a.index a.tables a.next };
 }
 
 impl Asks {
@@ -65,7 +66,7 @@ impl Asks {
     {
         Asks {
             rows: Vec::new(alloc),
-            index: Vec::new(alloc),
+            index: EndRows::new(alloc),
             tables: Tables::new(alloc),
             next: 0,
         }
@@ -83,7 +84,7 @@ impl Asks {
     pub fn find(&self, ticket: u64) -> Option<&Asked>
         ensures { option_copied result ≡ ask_at ticket self.now }
     {
-        match places(&self.rows, &self.index, ticket) {
+        match places(&self.rows, self.index.as_slice(), ticket) {
             Some((_, row)) => Some(&self.rows[row].1),
             None => None,
         }
@@ -100,17 +101,16 @@ impl Asks {
             return Err(NoMemory);
         }
         self.rows.reserve(1)?;
-        self.index.reserve(1)?;
-        self.tables.put(&ask, self.next)?;
-        let ticket = ask.ticket;
-        match place(&self.index, ticket) {
-            Ok(_) => unreachable!(),
-            Err(gap) => {
-                self.rows.push((self.next, ask)).unwrap();
-                self.index.insert(gap, (ticket, self.next)).unwrap();
-                self.next += 1;
-            }
+        let Err(gap) = place(self.index.as_slice(), ask.ticket) else {
+            unreachable!()
+        };
+        self.index.insert(gap, (ask.ticket, self.next))?;
+        if let Err(full) = self.tables.put(&ask, self.next) {
+            self.index.remove(gap);
+            return Err(full);
         }
+        self.rows.push((self.next, ask)).unwrap();
+        self.next += 1;
         Ok(())
     }
 
@@ -119,7 +119,7 @@ impl Asks {
         ensures found { result ≡ ask_at ticket self.old }
         ensures rest { self.new ≡ without_ask ticket self.old }
     {
-        match places(&self.rows, &self.index, ticket) {
+        match places(&self.rows, self.index.as_slice(), ticket) {
             Some((at, row)) => {
                 self.index.remove(at);
                 let taken = self.rows.remove(row);
@@ -134,7 +134,7 @@ impl Asks {
     pub fn set_stage(&mut self, ticket: u64, stage: Stage)
         ensures { self.new ≡ one_changed ticket (in_stage stage) self.old }
     {
-        if let Some((_, row)) = places(&self.rows, &self.index, ticket) {
+        if let Some((_, row)) = places(&self.rows, self.index.as_slice(), ticket) {
             set_row(&mut self.rows[row], &mut self.tables, stage);
         }
     }
@@ -143,7 +143,7 @@ impl Asks {
     pub fn change<R: Rule>(&mut self, ticket: u64, rule: &R)
         ensures { self.new ≡ one_changed ticket (R.changed rule.now) self.old }
     {
-        if let Some((_, row)) = places(&self.rows, &self.index, ticket) {
+        if let Some((_, row)) = places(&self.rows, self.index.as_slice(), ticket) {
             change_row(&mut self.rows[row], &mut self.tables, rule);
         }
     }

@@ -9,7 +9,7 @@ use Rattle.proxy_model.specs.LeaseTable.{Table, change, hold}
 use Rattle.proxy_model.proofs.KeyedLaws.{to_T, in_order-with_at}
 use Rattle.keyed_rows.specs.Places.{IsPlace, IsGap}
 use Rattle.slot_rows.specs.Roomy.{changed_in}
-use Rattle.slot_rows.proofs.Changes.{set-changed}
+use Rattle.slot_rows.proofs.Changes.{set-changed, changed_in-place}
 use Rattle.keyed_rows.proofs.Places.{changed-gap, at-place, put-place, place-is_some, put-gap, without-place, without-gap}
 
 -- One row changed, by its place.
@@ -17,11 +17,6 @@ use Rattle.keyed_rows.proofs.Places.{changed-gap, at-place, put-place, place-is_
 pub set_is_changed : (es : Keyed Entry) (i : ℕ) (f : Entry → Entry) (row : List ℕ × Entry) → row ≡ get_or es i row → set es i (row.0, f row.1) ≡ changed_in es i f
 set_is_changed es i f row e =
     let Claim : List ℕ × Entry → Type 0 = λ r. set es i (r.0, f r.1) ≡ changed_in es i f in subst Claim (sym e) (set-changed es i f row)
-
-pub changed_in-place : {A : Type 0} (es : Keyed A) (k : List ℕ) (i : ℕ) (f : A → A) → IsPlace es k i → changed_in es i f ≡ changed_at es k f
-changed_in-place [] k i f p = absurd p
-changed_in-place (e ∷ es) k i f p =
-    sym (set-changed (e ∷ es) i f e) ∙ sym (ap (λ o. with_at (e ∷ es) k (option_map f o)) (at-place (e ∷ es) k i e p) ∙ put-place (e ∷ es) k (f (get_or (e ∷ es) i e).1) i e p)
 
 pub changed_table : (t : Table) (k : List ℕ) (f : Entry → Entry) (i : ℕ) → IsPlace t.entries k i → ◌≡◌ {A = Table} (record t { entries = changed_in t.entries i f }) (change t k f)
 changed_table t k f i p = ap (λ (es : Keyed Entry). record t { entries = es }) (changed_in-place t.entries k i f p)

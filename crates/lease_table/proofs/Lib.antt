@@ -1,3 +1,4 @@
 mod Counting
 mod Edits
 mod Starts
+mod Quiet

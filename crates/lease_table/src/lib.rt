@@ -19,14 +19,14 @@ ghost use Rattle.wait_model.specs.DueOrder.{first_rescind};
 ghost use Rattle.wait_model.specs.Edits.{each};
 ghost use Rattle.wait_model.specs.Phases.{rescind_sent};
 ghost use Rattle.lease_table.specs.Starts.{IsStart, is_in};
-ghost use Rattle.lease_table.specs.Turns.{turned};
+ghost use Rattle.lease_table.specs.Turns.{turned, is_quiet_at};
 ghost use Rattle.slot_rows.specs.Roomy.{changed_in};
 
 mod dues;
 mod turns;
 
 use crate::dues::{count_changed, first_of_added, first_of_changed, first_of_removed};
-use crate::turns::{Turn, is_rescind_due};
+use crate::turns::{Turn, is_quiet, is_rescind_due};
 use etcd_types::{Bytes, KeyRange, Kv, NoMemory};
 pub use proxy_model::{Entry, Phase};
 use slot_rows::SlotRows;
@@ -271,14 +271,26 @@ impl LeaseTable {
         place < self.rows.len() && range.contains(&self.rows.row(place).0)
     }
 
-    /// The key's entry, where there is one, takes this turn.
+    /// The key's entry, where there is one, takes this turn. It mostly takes constant time, where no rescind comes or goes by it.
     fn turn(&mut self, key: &Bytes, turn: Turn)
         ensures { self.new ≡ change self.old key.now (turned turn) }
     {
         // For the prover: the entries are in the order of their keys.
         let _count = self.len();
-        if let Ok(place) = self.place(key) {
+        if self.is_quiet(key, &turn) {
+            self.rows.change_at(key, turn);
+        } else if let Ok(place) = self.place(key) {
             self.turn_at(place, turn);
+        }
+    }
+
+    /// Whether the key has an entry, and no rescind of it is to be sent before or after this turn, as far as is seen at once.
+    fn is_quiet(&self, key: &Bytes, turn: &Turn) -> bool
+        ensures { result ≡ is_quiet_at turn.now (at self.now.entries key.now) }
+    {
+        match self.find(key) {
+            Some(entry) => is_quiet(entry, turn),
+            None => false,
         }
     }
 

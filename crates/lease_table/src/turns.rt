@@ -1,7 +1,7 @@
 ghost use Rattle.std.specs.Prelude.{◌≡◌};
 ghost use Rattle.proxy_model.specs.LeaseTable.{phase_after_write, phase_given_up, phase_left};
 ghost use Rattle.wait_model.specs.Phases.{is_rescind_due, phase_sent};
-ghost use Rattle.lease_table.specs.Turns.{turned};
+ghost use Rattle.lease_table.specs.Turns.{turned, is_write, is_open, is_quiet};
 
 use etcd_types::Kv;
 use proxy_model::{Entry, Phase};
@@ -93,6 +93,34 @@ fn phase_sent(phase: Phase, sent: bool) -> Phase
         Phase::Leaving { .. } => Phase::Leaving { sent },
         Phase::Held | Phase::Writing { .. } => phase,
     }
+}
+
+/// Whether no rescind of the entry is to be sent before or after this turn: where it is open, and the turn is a write's.
+pub(crate) fn is_quiet(entry: &Entry, turn: &Turn) -> bool
+    ensures { result ≡ is_quiet turn.now entry.now }
+{
+    is_open(entry.phase) && is_write(turn)
+}
+
+/// Whether a key is held, or being written and not given up.
+fn is_open(phase: Phase) -> bool
+    ensures { result ≡ is_open phase }
+{
+    match phase {
+        Phase::Held => true,
+        Phase::Writing { revoked } => !revoked,
+        Phase::Leaving { .. } => false,
+    }
+}
+
+/// Whether the turn is a write's beginning or end.
+fn is_write(turn: &Turn) -> bool
+    ensures { result ≡ is_write turn.now }
+{
+    matches!(
+        turn,
+        Turn::To(Phase::Writing { .. }) | Turn::Wrote(_) | Turn::Unwritten
+    )
 }
 
 /// Whether it leaves, and its rescind is to be sent.

@@ -11,7 +11,7 @@ use Rattle.etcd_types.specs.Keys.{before, same}
 use Rattle.etcd_types.proofs.Bools.{or_right}
 use Rattle.etcd_types.proofs.KeyOrder.{same-equal, same-itself, up_to-itself}
 use Rattle.proxy_model.specs.Keyed.{Keyed, at, with_at, is_in_order}
-use Rattle.proxy_model.proofs.KeyedLaws.{to_T, at-with_at, in_order-with_at, same_keyed}
+use Rattle.proxy_model.proofs.KeyedLaws.{at-with_at, in_order-with_at, same_keyed}
 use Rattle.keyed_rows.specs.Places.{IsPlace, IsGap}
 use Rattle.mark_rows.specs.From.{rows_from}
 

@@ -1,1 +1,2 @@
 pub mod Froms
+pub mod Turns

@@ -1,9 +1,10 @@
-ghost use Rattle.std.specs.Prelude.{◌≡◌, [], None, Some, IsTrue, OnOk, OnErr};
+ghost use Rattle.std.specs.Prelude.{◌≡◌, [], true, None, Some, is_some, IsTrue, OnOk, OnErr};
 ghost use Rattle.proxy_model.specs.Keyed.{at, with_at, is_in_order};
 ghost use Rattle.mark_rows.specs.From.{rows_from};
 
 use crate::mark::Mark;
 use crate::places::place;
+use end_rows::EndRows;
 use etcd_types::NoMemory;
 use std::alloc::Global;
 use std::cmp::Ordering;
@@ -12,7 +13,7 @@ use std::marker::Model;
 /// A number for each of some marks.
 #[derive(Debug, Drop)]
 pub struct MarkRows {
-    rows: Vec<(Mark, u64)>,
+    rows: EndRows<(Mark, u64)>,
 }
 
 impl Model for MarkRows {
@@ -21,9 +22,9 @@ impl Model for MarkRows {
 
     ghost Value = { Keyed ℕ };
 
-    ghost view = { λ r. r.rows.items };
+    ghost view = { λ r. r.rows };
 
-    ghost invariant = { λ r. IsTrue (is_in_order r.rows.items) };
+    ghost invariant = { λ r. IsTrue (is_in_order r.rows) };
 }
 
 impl MarkRows {
@@ -32,7 +33,7 @@ impl MarkRows {
         ensures { result ≡ [] }
     {
         MarkRows {
-            rows: Vec::new(alloc),
+            rows: EndRows::new(alloc),
         }
     }
 
@@ -41,7 +42,7 @@ impl MarkRows {
         ensures all { result.now ≡ self.now }
         ensures in_order { IsTrue (is_in_order self.now) }
     {
-        &self.rows
+        self.rows.as_slice()
     }
 
     /// Those at this mark and behind it, in the order of their marks.
@@ -49,9 +50,10 @@ impl MarkRows {
         ensures all { result.now ≡ rows_from mark.now self.now }
         ensures in_order { IsTrue (is_in_order self.now) }
     {
-        match place(&self.rows, mark) {
-            Ok(at) => &self.rows[at..],
-            Err(at) => &self.rows[at..],
+        let rows = self.rows.as_slice();
+        match place(rows, mark) {
+            Ok(at) => &rows[at..],
+            Err(at) => &rows[at..],
         }
     }
 
@@ -61,8 +63,8 @@ impl MarkRows {
         ensures err { OnErr result (self.new ≡ self.old) }
         ensures in_order { IsTrue (is_in_order self.old) }
     {
-        match place(&self.rows, &mark) {
-            Ok(at) => self.rows[at].1 = number,
+        match place(self.rows.as_slice(), &mark) {
+            Ok(at) => self.rows.set(at, (mark, number)),
             Err(gap) => self.rows.insert(gap, (mark, number))?,
         }
         Ok(())
@@ -72,8 +74,8 @@ impl MarkRows {
     pub fn remove(&mut self, mark: &Mark)
         ensures { self.new ≡ with_at self.old mark.now None }
     {
-        if let Ok(at) = place(&self.rows, mark) {
-            drop(self.rows.remove(at));
+        if let Ok(at) = place(self.rows.as_slice(), mark) {
+            self.rows.remove(at);
         }
     }
 
@@ -82,17 +84,33 @@ impl MarkRows {
         requires { at self.old mark.now ≡ Some number }
         ensures { self.new ≡ with_at (with_at self.old mark.now None) other (Some number) }
     {
-        let rows = &self.rows;
+        let rows = self.rows.as_slice();
         if mark.compare(&other) == Ordering::Equal {
             return;
         }
         let Ok(at) = place(rows, mark) else {
             unreachable!()
         };
-        drop(self.rows.remove(at));
-        match place(&self.rows, &other) {
-            Ok(at) => self.rows[at].1 = number,
-            Err(gap) => self.rows.insert(gap, (other, number)).unwrap(),
+        match place(rows, &other) {
+            Ok(_) => {
+                self.rows.remove(at);
+                self.renumber(other, number);
+            }
+            Err(gap) => {
+                let to = if gap > at { gap - 1 } else { gap };
+                self.rows.turn(at, to, (other, number));
+            }
+        }
+    }
+
+    /// The number stands at the mark, at which another one stands. It takes no memory.
+    fn renumber(&mut self, mark: Mark, number: u64)
+        requires { is_some (at self.old mark) ≡ true }
+        ensures { self.new ≡ with_at self.old mark (Some number) }
+    {
+        match place(self.rows.as_slice(), &mark) {
+            Ok(at) => self.rows.set(at, (mark, number)),
+            Err(_) => unreachable!(),
         }
     }
 }

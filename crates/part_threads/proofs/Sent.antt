@@ -28,6 +28,7 @@ use Rattle.read_model.specs.contracts.asked.Asked as asked
 use Rattle.lease_table.proofs.LeaseTable.TheSendSync as table
 use Rattle.keyed_rows.proofs.Rows.TheSendSync as rows
 use Rattle.acquire_rows.proofs.acquires.Acquires.TheSendSync as acquires
+use Rattle.end_rows.proofs.EndRows.TheSendSync as ends
 use Rattle.mark_rows.proofs.rows.MarkRows.TheSendSync as marks
 use Rattle.wait_model.proofs.found.FoundList.TheSendSync as found
 use Rattle.wait_model.proofs.wait.WaitCall.TheSendSync as wait-call
@@ -89,7 +90,7 @@ pub waits_send : IsSend waits.the_row
 waits_send = search (sendable, crosses, write_send, write_field, rows.the_send, wait-call.the_send, wait-call.the_field_send, left.the_send, left.the_field_send, option.the_send, option.the_field_send, bytes.the_send) depth 20
 
 pub asks_send : IsSend asks.the_row
-asks_send = search (sendable, crosses, asked_send, asked_field, marks.the_send) depth 20
+asks_send = search (sendable, crosses, asked_send, asked_field, marks.the_send, ends.the_send) depth 20
 
 pub reads_send : IsSend reads.the_row
 reads_send = search (sendable, crosses, table.the_send, waits_send, acquires.the_send, asks_send) depth 20

@@ -4,11 +4,13 @@ use Rattle.std.proofs.lemmas.Bool.{cases_eq, cases_lt, cases_order}
 use Rattle.std.proofs.lemmas.List.{get_or_default, get_or_push, get_or_append_left, get_or-set_same, get_or-set_other, length-set, length_push, get_or_read, same_lists}
 use Rattle.std.proofs.lemmas.List.Edits.{length-insert, get_or-insert_below, get_or-insert_at, get_or-insert_above, length-remove, get_or-remove_below, get_or-remove_above}
 use Rattle.std.specs.List.{insert, remove, All, SwappedAt}
-use Rattle.proxy_model.specs.Keyed.{Keyed, is_in_order}
+use Rattle.std.specs.declared.cmp.Ordering.TheVariants.{Equal}
+use Rattle.proxy_model.specs.Keyed.{Keyed, changed_at, is_in_order}
 use Rattle.keyed_rows.proofs.Edits.{in_order-removed}
 use Rattle.slot_rows.specs.Roomy.{changed_in}
 use Rattle.slot_rows.specs.Slots.{gathered, IsAmong, IsKept}
-use Rattle.slot_rows.proofs.Changes.{set-changed, in_order-changed_in}
+use Rattle.keyed_rows.proofs.Places.{order}
+use Rattle.slot_rows.proofs.Changes.{set-changed, changed_in-place, in_order-changed_in}
 use Rattle.slot_rows.proofs.Gathered.{length-gathered, gathered_at, once, itself, slot_place}
 
 gathered_is : {A : Type 0} (rows es : Keyed A) (ss : List ℕ) → All (λ s. s < length rows) ss → length es ≡ length ss → ((k : ℕ) (d : List ℕ × A) → k < length ss → get_or rows (get_or ss k 0) d ≡ get_or es k d) → gathered rows ss ≡ es
@@ -84,6 +86,31 @@ kept-changed rows ss p slot row f kept x =
     let within = x.within in
     let in_order : IsTrue (is_in_order (set (gathered rows ss) p (row.0, f row.1))) = ap is_in_order (slot_changed rows ss p slot row f kept x) ∙ in_order-changed_in (gathered rows ss) p f ∙ kept.in_order in
     subst (λ (s : ℕ). IsKept (set rows s (row.0, f row.1)) ss) (sym (slot_is rows ss p slot row kept x)) (kept-set rows ss p (row.0, f row.1) kept (omega arith) in_order)
+
+-- What the row in a slot has is changed, which lies there under its key.
+
+pub record IsKeyRow {A : Type 0} (rows : Keyed A) (slot : ℕ) (k : List ℕ) (row : List ℕ × A) : Type 0 where
+  pub within : slot < length rows
+  pub row_is : row ≡ get_or rows slot row
+  pub here : order row.0 k ≡ Equal
+
+key_row : {A : Type 0} (rows : Keyed A) (ss : List ℕ) (slot : ℕ) (k : List ℕ) (row : List ℕ × A) → (kept : IsKept rows ss) → (x : IsKeyRow rows slot k row) → IsSlotRow rows ss (kept.placed slot x.within).place slot row
+key_row rows ss slot k row kept x =
+    let a = kept.placed slot x.within in
+    let same = length-gathered rows ss kept.within in
+    let within = a.within in
+    record { within = omega arith; slot_read = sym (get_or_default ss a.place slot 0 a.within ∙ a.there); row_is = x.row_is }
+
+pub kept-changed_at : {A : Type 0} (rows : Keyed A) (ss : List ℕ) (slot : ℕ) (k : List ℕ) (row : List ℕ × A) (f : A → A) → IsKept rows ss → IsKeyRow rows slot k row → IsKept (set rows slot (row.0, f row.1)) ss
+kept-changed_at rows ss slot k row f kept x =
+    kept-changed rows ss (kept.placed slot x.within).place slot row f kept (key_row rows ss slot k row kept x)
+
+pub gathered-changed_at : {A : Type 0} (rows : Keyed A) (ss : List ℕ) (slot : ℕ) (k : List ℕ) (row : List ℕ × A) (f : A → A) → IsKept rows ss → IsKeyRow rows slot k row → gathered (set rows slot (row.0, f row.1)) ss ≡ changed_at (gathered rows ss) k f
+gathered-changed_at rows ss slot k row f kept x =
+    let a = kept.placed slot x.within in
+    let there : order (get_or rows (get_or ss a.place 0) row).0 k ≡ Equal = ap (λ (n : ℕ). order (get_or rows n row).0 k) a.there ∙ ap (λ (r : List ℕ × _). order r.0 k) (sym x.row_is) ∙ x.here in
+    gathered-changed rows ss a.place slot row f kept (key_row rows ss slot k row kept x)
+    ∙ changed_in-place (gathered rows ss) k a.place f (slot_place rows ss a.place k row kept a.within there)
 
 -- One more row in a slot behind all, at a place in the order.
 

@@ -80,6 +80,17 @@ impl Hints {
         }
     }
 
+    /// The slot that a hint at keys of this number names first, or one in which no row lies.
+    pub(crate) fn slot_at(&self, number: u64) -> u32 {
+        for hint in self.at(number) {
+            let slot = hint.slot_of(number);
+            if slot != NO_ROW {
+                return slot;
+            }
+        }
+        NO_ROW
+    }
+
     /// The row of a key of this number lies in this slot. Where the bucket is full another key loses its hint.
     pub(crate) fn put(&mut self, number: u64, slot: u32) {
         let bucket = self.bucket(number);

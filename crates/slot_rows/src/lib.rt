@@ -9,7 +9,7 @@ ghost use Rattle.std.specs.Prelude.{◌≡◌, ◌+◌, ◌-◌, ◌<◌, ◌≤
 ghost use Rattle.std.specs.List.{insert, remove};
 ghost use Rattle.std.specs.Option.{option_copied};
 ghost use Rattle.keyed_rows.specs.Places.{IsPlace, IsGap};
-ghost use Rattle.proxy_model.specs.Keyed.{at, is_in_order};
+ghost use Rattle.proxy_model.specs.Keyed.{at, changed_at, is_in_order};
 ghost use Rattle.slot_rows.specs.Roomy.{no_rows, changed_in};
 
 mod change;
@@ -144,6 +144,16 @@ impl<V: Drop> SlotRows<V> {
         ensures spare { self.new.spare ≡ self.old.spare }
     {
         self.slots.change(place, change);
+    }
+
+    /// What is kept at the key is changed, where there is a row. It mostly takes constant time, and logarithmic time where no hint helps
+    /// or there is no row.
+    pub fn change_at<C: Change<V> + Drop>(&mut self, key: &Bytes, change: C)
+        ensures rows { self.new.rows ≡ changed_at self.old.rows key.now (C.changed change) }
+        ensures spare { self.new.spare ≡ self.old.spare }
+    {
+        let slot = self.hints.slot_at(key_number(key));
+        self.slots.change_at(slot, key, change);
     }
 
     /// Takes out the row at this place. There is room for as many in all as before.

@@ -5,7 +5,7 @@ ghost use Rattle.std.specs.List.{insert, remove};
 ghost use Rattle.std.specs.Option.{option_copied};
 ghost use Rattle.std.specs.Vec.{vec_capacity};
 ghost use Rattle.keyed_rows.specs.Places.{IsPlace, IsGap};
-ghost use Rattle.proxy_model.specs.Keyed.{at, is_in_order};
+ghost use Rattle.proxy_model.specs.Keyed.{at, changed_at, is_in_order};
 ghost use Rattle.slot_rows.specs.Roomy.{no_rows, changed_in};
 ghost use Rattle.slot_rows.specs.Slots.{gathered, IsKept, order_at};
 
@@ -180,6 +180,21 @@ impl<V: Drop> Slots<V> {
     {
         let slot = self.order[place] as usize;
         change.apply(&mut self.rows[slot].1);
+    }
+
+    /// What is kept at the key is changed, where there is a row. The slot of a hint is looked at first.
+    pub(crate) fn change_at<C: Change<V> + Drop>(&mut self, hint: u32, key: &Bytes, change: C)
+        ensures rows { self.new.rows ≡ changed_at self.old.rows key.now (C.changed change) }
+        ensures spare { self.new.spare ≡ self.old.spare }
+    {
+        // For the prover: the rows are in the order of their keys.
+        let _count = self.len();
+        let near = hint as usize;
+        if near < self.rows.len() && self.rows[near].0 == *key {
+            change.apply(&mut self.rows[near].1);
+        } else if let Ok(place) = self.place(key) {
+            self.change(place, change);
+        }
     }
 
     /// Takes out the row at this place. The row in the last slot moves to its slot, so that the rows lie side by side.

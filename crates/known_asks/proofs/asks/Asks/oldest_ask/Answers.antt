@@ -20,7 +20,7 @@ pub returns-in-len1-up : goal.returns-in-len1-up
 returns-in-len1-up c =
     let all = rw c.new.ensures at c.from.ensures.all in
     let first = first_row (0 ∷ 0 ∷ 0 ∷ []) c.self.inside.tables.times c.from.result.now c.row-item.result all c.in-len1-up.len_at_least c.row-item.is in
-    let oldest = oldest_is c.self.inside.rows.items c.self.inside.index.items c.self.inside.tables.times c.row-item.result _ c.row_of.result.now c.from.ensures.in_order c.self.invariant.fits.indexed c.self.invariant.marked.times first (rw c.deref.ensures.value at c.row_of.ensures) in
+    let oldest = oldest_is c.self.inside.rows.items c.self.inside.index c.self.inside.tables.times c.row-item.result _ c.row_of.result.now c.from.ensures.in_order c.self.invariant.fits.indexed c.self.invariant.marked.times first (rw c.deref.ensures.value at c.row_of.ensures) in
     subst (λ (o : Option Asked). IsOldestOf o c.args.self.now) (sym c.only_unanswered.ensures) (subst (λ (s : List Asked). IsOldestOf (cond (is_replied c.row_of.result.now.stage) None (Some c.row_of.result.now)) s) c.self.view_is oldest)
 
 pub returns-in-empty : goal.returns-in-empty
@@ -28,4 +28,4 @@ returns-in-empty c =
     let all = rw c.new.ensures at c.from.ensures.all in
     let none = no_row (0 ∷ 0 ∷ 0 ∷ []) c.self.inside.tables.times c.from.result.now all c.in-empty.len_below in
     subst (λ (s : List Asked). list_all (λ a. is_replied a.stage) s ≡ true) c.self.view_is
-    (none_oldest c.self.inside.rows.items c.self.inside.index.items c.self.inside.tables.times c.self.invariant.fits.indexed c.self.invariant.marked.times none)
+    (none_oldest c.self.inside.rows.items c.self.inside.index c.self.inside.tables.times c.self.invariant.fits.indexed c.self.invariant.marked.times none)

@@ -8,4 +8,4 @@ use Rattle.known_asks.proofs.asks.Asks.rows.Goals as goal
 pub returns-clause-once : goal.returns-clause-once
 returns-clause-once c =
     subst (λ (s : List Asked). once (map (λ a. a.ticket) s) ≡ true) c.self.view_is
-    (tickets_once c.self.inside.rows.items c.self.inside.index.items c.self.invariant.fits.indexed)
+    (tickets_once c.self.inside.rows.items c.self.inside.index c.self.invariant.fits.indexed)
