@@ -1,3 +1,4 @@
 pub mod NoFloats
 pub mod Operations
 pub mod PlainRequests
+pub mod PlainWatches

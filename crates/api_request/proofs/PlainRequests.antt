@@ -18,11 +18,11 @@ use Rattle.json_laws.proofs.RequestBack.{request_back}
 use Rattle.api_request.specs.PlainRequests.{plain_read, plain_put}
 
 -- a body that is a request's text is read as it
-written_back : (body : List ℕ) (r : Request) → body ≡ request_text r → RequestFits r → RequestServed Client r → request_of Client (path_text (request_path r)) body ≡ Ok r
+pub written_back : (body : List ℕ) (r : Request) → body ≡ request_text r → RequestFits r → RequestServed Client r → request_of Client (path_text (request_path r)) body ≡ Ok r
 written_back body r e fits served = (λ i. request_of Client (path_text (request_path r)) (e i)) ∙ request_back Client r fits served
 
 -- a base64 text is written as it stands
-as_written : (text bytes : List ℕ) → text ≡ encode_of standard bytes → IsBytes bytes → text ≡ escape (encode_of standard bytes)
+pub as_written : (text bytes : List ℕ) → text ≡ encode_of standard bytes → IsBytes bytes → text ≡ escape (encode_of standard bytes)
 as_written text bytes e h = e ∙ sym (escape_encoded bytes h)
 
 -- ---- a read

@@ -1,7 +1,8 @@
--- The read of one key and the put of one that ask nothing else. Only private clauses cite them.
-use Rattle.std.specs.Prelude.{ℕ, List, [], false}
+-- The read of one key, the put of one and the watch that ask nothing else. Only private clauses cite them.
+use Rattle.std.specs.Prelude.{ℕ, List, [], ◌++◌, codes, false}
 use Rattle.etcd_types.specs.declared.operation.RangeAsk.{RangeAsk}
 use Rattle.etcd_types.specs.declared.operation.PutAsk.{PutAsk}
+use Rattle.etcd_types.specs.declared.request.WatchAsk.{WatchAsk}
 
 abbrev pub plain_read : List ℕ → RangeAsk
 plain_read key = record {
@@ -16,3 +17,10 @@ plain_read key = record {
 
 abbrev pub plain_put : List ℕ → List ℕ → PutAsk
 plain_put key value = record { key = key; value = value; lease = 0; prev_kv = false; ignore_lease = false }
+
+abbrev pub plain_watch : List ℕ → List ℕ → WatchAsk
+plain_watch key end = record { range = record { key = key; end = end }; start = 0; no_put = false; no_delete = false; prev_kv = false; progress = false }
+
+-- the text of the key, what stands between, and the text of the range's end
+abbrev pub range_texts : List ℕ → List ℕ → List ℕ
+range_texts key end = key ++ (codes "\",\"range_end\":\"" ++ end)

@@ -9,7 +9,6 @@ use call_kinds::{reply_of, text_of};
 use core_model::{Outcome, StepFault};
 use etcd_types::{Answer, Bytes};
 use read_steps::{Asked, Stage};
-use told_items::Told;
 use watch_merge::WatchFault;
 
 impl Machine {
@@ -41,7 +40,7 @@ impl Machine {
         ensures ranges { self.new.ranges ≡ self.old.ranges }
     {
         match self.watches.take(ticket, self.header) {
-            Ok(Some(item)) => Ok(Outcome::Item(Told::alone(item))),
+            Ok(Some(told)) => Ok(Outcome::Item(told)),
             Ok(None) => Ok(Outcome::Pending),
             Err(WatchFault::NoSuchWatch(_)) => Err(StepFault::NoSuchTicket(ticket)),
             Err(WatchFault::NoSuchStream(_)) => unreachable!(),

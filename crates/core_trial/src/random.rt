@@ -271,7 +271,7 @@ impl Random {
         for _ in 0..10_000 {
             self.check_numbers()?;
             let header = self.header();
-            let item = match self.watches.take(ticket, header) {
+            let told = match self.watches.take(ticket, header) {
                 Err(_) => {
                     if !self.takers[at].ended {
                         self.wrong = self.wrong.saturating_add(1);
@@ -279,10 +279,10 @@ impl Random {
                     break;
                 }
                 Ok(None) => break,
-                Ok(Some(item)) => item,
+                Ok(Some(told)) => told,
             };
             self.items = self.items.saturating_add(1);
-            if !self.takers[at].takes(&item) {
+            if !self.takers[at].takes(told.item()) {
                 self.wrong = self.wrong.saturating_add(1);
             }
         }

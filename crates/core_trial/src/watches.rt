@@ -227,7 +227,7 @@ impl Watches {
     fn take_item(&mut self, ticket: u64) -> Result<(), Wrong> {
         self.check_numbers()?;
         match self.watches.take(ticket, self.last) {
-            Ok(Some(item)) => item.push(&mut self.told)?,
+            Ok(Some(told)) => told.item().push(&mut self.told)?,
             Ok(None) => self.told.push_str("none")?,
             Err(fault) => write!(self.told, "{fault}")?,
         }

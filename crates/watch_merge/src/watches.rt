@@ -9,6 +9,7 @@ ghost use Rattle.watch_merge.specs.Watches.{IsWatchAt, place_at, has_message, is
 ghost use Rattle.watch_merge.specs.Taking.{joins_again, is_split, ends};
 
 use etcd_types::{NoMemory, WatchItem};
+use told_items::Told;
 use watch_model::WatchPlace;
 use watch_queue::{Watching, take_item};
 
@@ -100,11 +101,11 @@ fn is_split(place: WatchPlace) -> bool
 }
 
 /// Whether no item can come after it.
-pub fn ends(item: &Option<WatchItem>) -> bool
+pub fn ends(item: &Option<Told>) -> bool
     ensures { result ≡ ends item.now }
 {
     match item {
-        Some(item) => is_last(item),
+        Some(told) => is_last(told.item()),
         None => false,
     }
 }
@@ -142,7 +143,7 @@ pub fn gap(ticket: u64, watches: &[Watching]) -> usize
 }
 
 /// The first item is taken, and the watch stands there then. Where memory was wanting it is as before.
-pub fn take_into(place: WatchPlace, watch: &mut Watching) -> Result<Option<WatchItem>, NoMemory>
+pub fn take_into(place: WatchPlace, watch: &mut Watching) -> Result<Option<Told>, NoMemory>
     ensures item { IfOk result (λ item. item ≡ first_item watch.old.queue.items) }
     ensures ok { OnOk result (shown watch.new ≡ record (shown watch.old) { queue = drop 1 watch.old.queue.items; place = place }) }
     ensures err { OnErr result (watch.new ≡ watch.old) }

@@ -8,13 +8,14 @@ use Rattle.etcd_types.specs.declared.watch.WatchItem.TheVariants as item
 use Rattle.etcd_types.specs.declared.record.Header.{Header}
 use Rattle.watch_queue.specs.declared.head.Head.{Head}
 use Rattle.watch_queue.specs.declared.head.Head.TheVariants as head
-use Rattle.watch_queue.specs.Heads.{is_without_events, is_without, ends_in_progress, Fits, count_of, counted, item_of, items_of}
+use Rattle.watch_queue.specs.Heads.{is_without_events, is_without, ends_in_progress, Fits, Counts, count_of, counted, shared_of, shared_in, item_of, items_of}
 use Rattle.watch_model.specs.Queues.{is_progress, is_progress_last, with_progress, events_in, queued_events, item_events, would_pass, is_nil, is_one}
 
 item_of-append : (h : Head) (es fs : List Event) → count_of h ≤ length es → item_of h (es ++ fs) ≡ item_of h es
 item_of-append (head.Created header) es fs e = refl
 item_of-append (head.Events header count) es fs e = rw (take-append-le count es fs e) refl
 item_of-append (head.Canceled header compact) es fs e = refl
+item_of-append (head.Whole told) es fs e = refl
 
 two : {A : Type 0} {x y : A} {xs ys : List A} → x ≡ y → xs ≡ ys → x ∷ xs ≡ y ∷ ys
 two p q = λ i. p i ∷ q i
@@ -101,6 +102,7 @@ item_of-take : (h : Head) (es : List Event) (k : ℕ) → count_of h ≤ k → i
 item_of-take (head.Created header) es k l = refl
 item_of-take (head.Events header count) es k l = rw (take-take count k es l) refl
 item_of-take (head.Canceled header compact) es k l = refl
+item_of-take (head.Whole told) es k l = refl
 
 pub items-take : (n : ℕ) (hs : List Head) (es : List Event) → items_of (take n hs) (take (counted (take n hs)) es) ≡ take n (items_of hs es)
 items-take zero hs es = refl
@@ -189,7 +191,7 @@ one_shown (h ∷ g ∷ hs) es (suc (suc n)) within f = two_or_more n
 
 -- How many events are shown.
 
-counted-items : (n : ℕ) (hs : List Head) (es : List Event) → counted hs ≤ length es → events_in (take n (items_of hs es)) ≡ counted (take n hs)
+counted-items : (n : ℕ) (hs : List Head) (es : List Event) → counted hs ≤ length es → events_in (take n (items_of hs es)) ≡ counted (take n hs) + shared_in (take n hs)
 counted-items zero hs es l = refl
 counted-items (suc n) [] es l = refl
 counted-items (suc n) (h ∷ hs) es l =
@@ -197,20 +199,25 @@ counted-items (suc n) (h ∷ hs) es l =
     let k : counted hs ≤ length (drop (count_of h) es) = omega (arith, d) in
     length-append (item_events (item_of h es)) (queued_events (take n (items_of hs (drop (count_of h) es))))
     ∙ both (one h es (omega arith)) (counted-items n hs (drop (count_of h) es) k)
+    ∙ crossed (count_of h) (shared_of h) (counted (take n hs)) (shared_in (take n hs))
   where
-    one : (h : Head) (es : List Event) → count_of h ≤ length es → length (item_events (item_of h es)) ≡ count_of h
+    one : (h : Head) (es : List Event) → count_of h ≤ length es → length (item_events (item_of h es)) ≡ count_of h + shared_of h
     one (head.Created header) es l = refl
-    one (head.Events header count) es l = length-take-le count es l
+    one (head.Events header count) es l = let e = length-take-le count es l in omega (arith, e)
     one (head.Canceled header compact) es l = refl
+    one (head.Whole told) es l = omega arith
+
+    crossed : (a b c d : ℕ) → (a + b) + (c + d) ≡ (a + c) + (b + d)
+    crossed a b c d = omega arith
 
     both : {a b c d : ℕ} → a ≡ b → c ≡ d → a + c ≡ b + d
     both e f = λ i. e i + f i
 
-pub passes-limit : (hs : List Head) (es : List Event) (shown within more : ℕ) → Fits hs es shown within → 0 < shown
-    → (sum : ℕ) → sum ≡ min (within + more) 0xffff_ffff_ffff_ffff → nat_lt 1024 sum ≡ would_pass (take shown (items_of hs es)) more
-passes-limit hs es shown within more f l sum t =
+pub passes-limit : (hs : List Head) (es : List Event) (shown within shared ready more : ℕ) → Fits hs es shown within → Counts hs shown shared ready → 0 < shown
+    → (events sum : ℕ) → events ≡ min (within + shared) 0xffff_ffff_ffff_ffff → sum ≡ min (events + more) 0xffff_ffff_ffff_ffff → nat_lt 1024 sum ≡ would_pass (take shown (items_of hs es)) more
+passes-limit hs es shown within shared ready more f k l events sum t u =
     let a = f.all in
-    let e : events_in (take shown (items_of hs es)) ≡ within = counted-items shown hs es (omega arith) ∙ sym f.part in
+    let e : events_in (take shown (items_of hs es)) ≡ within + shared = counted-items shown hs es (omega arith) ∙ (λ i. sym f.part i + sym k.part i) in
     rw (e, not_nil hs es shown f.some l) (grind (arith, nat_tests))
   where
     not_nil : (hs : List Head) (es : List Event) (shown : ℕ) → shown ≤ length hs → 0 < shown → is_nil (take shown (items_of hs es)) ≡ false
@@ -233,6 +240,7 @@ staged-batch (Err y) hs hs' header es es' fs shown within f e a b = tt
 without_is : (h : Head) (es : List Event) → count_of h ≤ length es → is_without_events h ≡ is_progress (item_of h es)
 without_is (head.Created header) es l = refl
 without_is (head.Canceled header compact) es l = refl
+without_is (head.Whole told) es l = refl
 without_is (head.Events header zero) es l = refl
 without_is (head.Events header (suc count)) [] l = absurd (omega arith)
 without_is (head.Events header (suc count)) (x ∷ es) l = grind (arith, nat_tests)
@@ -273,10 +281,11 @@ last_counts (h ∷ hs) zero e = none h e
     none : (h : Head) → is_without_events h ≡ true → count_of h + 0 ≡ 0
     none (head.Created header) e = absurd (cc)
     none (head.Canceled header compact) e = absurd (cc)
+    none (head.Whole told) e = omega arith
     none (head.Events header count) e = grind (arith, nat_tests)
 last_counts (h ∷ hs) (suc n) e = ap (λ (k : ℕ). count_of h + k) (last_counts hs n e)
 
-ends_some : (hs : List Head) (n : ℕ) → ends_in_progress hs (suc n) ≡ true → is_without (slice_get hs n) ≡ true
+pub ends_some : (hs : List Head) (n : ℕ) → ends_in_progress hs (suc n) ≡ true → is_without (slice_get hs n) ≡ true
 ends_some hs n e =
     let back : suc n - 1 ≡ n = omega arith in
     let some : (suc n == 0) ≡ false = grind (arith, nat_tests) in

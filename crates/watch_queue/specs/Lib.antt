@@ -4,4 +4,5 @@ pub mod Heads
 pub mod Leaving
 pub mod Queued
 pub mod Shared
+pub mod Shares
 pub mod Watching

@@ -38,11 +38,29 @@ impl Batch {
         })
     }
 
+    /// The events with the records before the changes.
+    pub fn whole(&self) -> &[Arc<Event, Global>]
+        ensures { values result.now ≡ self.now }
+    {
+        &self.whole
+    }
+
+    /// The events without those.
+    pub fn bare(&self) -> &[Arc<Event, Global>]
+        ensures { values result.now ≡ map (shown_event false) self.now }
+    {
+        &self.bare
+    }
+
     /// The events as the watch asked for them.
     pub fn events_for(&self, ask: &WatchAsk) -> &[Arc<Event, Global>]
         ensures { values result.now ≡ shown_events ask.now self.now }
     {
-        if ask.prev_kv { &self.whole } else { &self.bare }
+        if ask.prev_kv {
+            self.whole()
+        } else {
+            self.bare()
+        }
     }
 }
 

@@ -1,33 +1,65 @@
-ghost use Rattle.std.specs.Prelude.{◌≡◌, ◌+◌, nat_le, map, OnOk, OnErr};
+ghost use Rattle.std.specs.Prelude.{◌≡◌, ◌+◌, ◌∷◌, [], nat_le, map, OnOk, OnErr};
+ghost use Rattle.etcd_types.specs.declared.watch.WatchItem.TheVariants.{Events};
 ghost use Rattle.watch_model.specs.Lookups.{member_changed};
-ghost use Rattle.watch_model.specs.Delivery.{given_batch, progressed};
+ghost use Rattle.watch_model.specs.Queues.{chosen};
+ghost use Rattle.watch_model.specs.Delivery.{given_batch, progressed, shown_events};
 ghost use Rattle.watch_queue.specs.Watching.{shown};
+ghost use Rattle.watch_queue.specs.Shares.{IsOf};
 ghost use Rattle.watch_queue.specs.Fates.{prepared, delivered_to, takes_progress, prepared_progress, progressed_to};
 
 use crate::batch::Batch;
 use crate::fate::{Fate, fate_at};
 use crate::head::Head;
 use crate::members::is_in;
+use crate::queue::Queue;
+use crate::shares::Shares;
 use crate::watching::Watching;
-use etcd_types::{Header, NoMemory};
+use etcd_types::{Header, NoMemory, WatchAsk};
+use std::alloc::Global;
 use watch_model::WatchPlace;
 
+/// Makes ready what a watch of this ask and next is given of a batch: a share of its message where it takes all of it.
+fn stage_batch(
+    alloc: Global,
+    header: Header,
+    batch: &Batch,
+    shares: &Shares,
+    from: u64,
+    ask: &WatchAsk,
+    queue: &mut Queue,
+) -> Result<(), NoMemory>
+    requires { IsOf header batch.now shares.now }
+    ensures items { queue.new.items ≡ queue.old.items }
+    ensures ok { OnOk result (queue.new.staged ≡ Events header (chosen ask.now from (shown_events ask.now batch.now)) ∷ []) }
+{
+    match shares.told(header, batch, from, ask) {
+        Some(told) => queue.stage_told(told.share(alloc)?),
+        None => queue.stage(header, batch.events_for(ask), from, ask),
+    }
+}
+
 fn stage_one(
+    alloc: Global,
     number: u64,
     next: u64,
     header: Header,
     batch: &Batch,
+    shares: &Shares,
     watch: &mut Watching,
 ) -> Result<(), NoMemory>
+    requires { IsOf header batch.now shares.now }
     ensures shown { shown watch.new ≡ shown watch.old }
     ensures ok { OnOk result (watch.new ≡ prepared number next header batch.now watch.old) }
 {
     match fate_at(number, next, batch, watch) {
-        Fate::Takes => watch.queue.stage(
+        Fate::Takes => stage_batch(
+            alloc,
             header,
-            batch.events_for(&watch.ask),
+            batch,
+            shares,
             watch.next.max(next),
             &watch.ask,
+            &mut watch.queue,
         ),
         Fate::Stays | Fate::Splits => Ok(()),
     }
@@ -48,17 +80,20 @@ fn commit_one(number: u64, next: u64, batch: &Batch, watch: &mut Watching)
 
 /// Makes a batch ready for all members that are to have it.
 fn stage_all(
+    alloc: Global,
     number: u64,
     next: u64,
     header: Header,
     batch: &Batch,
+    shares: &Shares,
     watches: &mut Vec<Watching>,
 ) -> Result<(), NoMemory>
+    requires { IsOf header batch.now shares.now }
     ensures ok { OnOk result (watches.new.items ≡ map (prepared number next header batch.now) watches.old.items) }
     ensures shown { map shown watches.new.items ≡ map shown watches.old.items }
 {
     for at in 0..watches.len() {
-        stage_one(number, next, header, batch, &mut watches[at])?;
+        stage_one(alloc, number, next, header, batch, shares, &mut watches[at])?;
     }
     Ok(())
 }
@@ -73,6 +108,7 @@ fn commit_all(number: u64, next: u64, batch: &Batch, watches: &mut Vec<Watching>
 
 /// Gives a batch to the members of the stream of this number and next: to all of them, or to none where memory was wanting.
 pub fn give(
+    alloc: Global,
     number: u64,
     next: u64,
     header: Header,
@@ -82,7 +118,8 @@ pub fn give(
     ensures ok { OnOk result (map shown watches.new.items ≡ map (member_changed number (given_batch next header batch.now)) (map shown watches.old.items)) }
     ensures err { OnErr result (map shown watches.new.items ≡ map shown watches.old.items) }
 {
-    stage_all(number, next, header, batch, watches)?;
+    let shares = Shares::new(alloc, number, next, header, batch, watches)?;
+    stage_all(alloc, number, next, header, batch, &shares, watches)?;
     commit_all(number, next, batch, watches);
     Ok(())
 }

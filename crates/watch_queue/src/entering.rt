@@ -7,8 +7,9 @@ ghost use Rattle.watch_queue.specs.Entering.{created_header_of, decided_to, told
 use crate::head::Head;
 use crate::queue::Queue;
 use crate::watching::Watching;
-use etcd_types::{Bytes, Header, NoMemory, WatchAsk, WatchItem};
+use etcd_types::{Bytes, Header, NoMemory, WatchAsk};
 use std::alloc::Global;
+use told_items::Told;
 use watch_model::WatchPlace;
 
 /// A watch that isn't a member of a stream yet. An empty key of its range is read as one zero byte.
@@ -127,7 +128,7 @@ pub fn take_and_seat(
     created: bool,
     last: Header,
     watch: &mut Watching,
-) -> Result<Option<WatchItem>, NoMemory>
+) -> Result<Option<Told>, NoMemory>
     ensures item { IfOk result (λ item. item ≡ first_item watch.old.queue.items) }
     ensures ok { OnOk result (shown watch.new ≡ seated_as last number next created (record (shown watch.old) { queue = drop 1 watch.old.queue.items })) }
     ensures err { OnErr result (shown watch.new ≡ shown watch.old) }
@@ -141,7 +142,7 @@ pub fn take_and_seat(
 }
 
 /// The first item is taken. Where memory was wanting the watch is as before.
-pub fn take_item(watch: &mut Watching) -> Result<Option<WatchItem>, NoMemory>
+pub fn take_item(watch: &mut Watching) -> Result<Option<Told>, NoMemory>
     ensures item { IfOk result (λ item. item ≡ first_item watch.old.queue.items) }
     ensures ok { OnOk result (watch.new ≡ record watch.old { queue = record { items = drop 1 watch.old.queue.items; staged = watch.old.queue.staged } }) }
     ensures err { OnErr result (watch.new ≡ watch.old) }

@@ -1,6 +1,8 @@
 //! Watches with their queues: what waits for a watch's taker, in a ring of heads and a ring of events that all queues of
 //! a batch share, and how a batch is given to all members of a stream or to none.
 //!
+//! The message of a batch that several members take whole is made once, with its text, and they share it.
+//!
 //! What needs memory comes first: it makes an item ready, which no queue shows. Then what was made ready is queued,
 //! which takes none.
 #![tactic(auto)]
@@ -16,6 +18,7 @@ mod leaving;
 mod members;
 mod queue;
 mod rings;
+mod shares;
 mod watching;
 
 pub use batch::Batch;

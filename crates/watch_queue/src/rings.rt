@@ -1,6 +1,6 @@
 ghost use Rattle.std.specs.Prelude.{◌≡◌, ◌<◌, ◌≤◌, ◌-◌, ◌++◌, ◌∷◌, [], length, take, drop, OnOk, OnErr, IfOk};
-ghost use Rattle.watch_model.specs.Queues.{chosen};
-ghost use Rattle.watch_queue.specs.Heads.{item_of, count_of, ends_in_progress, is_without_events};
+ghost use Rattle.watch_model.specs.Queues.{chosen, is_progress, item_events};
+ghost use Rattle.watch_queue.specs.Heads.{item_of, count_of, shared_of, ends_in_progress, is_without_events};
 ghost use Rattle.watch_queue.specs.Shared.{values};
 ghost use Rattle.watch_queue.specs.declared.head.Head.TheVariants as head;
 
@@ -10,6 +10,7 @@ use circular_buffer::HeapCircularBuffer;
 use etcd_types::{Event, Header, List, NoMemory, WatchAsk, WatchItem};
 use std::alloc::Global;
 use std::sync::Arc;
+use told_items::Told;
 
 /// A head and its events, or none of them.
 pub fn push_batch(
@@ -129,17 +130,30 @@ pub fn ends_in_progress(heads: &HeapCircularBuffer<Head>, shown: usize) -> bool
         return false;
     }
     match heads.get(shown - 1) {
-        Some(head) => is_without_events(*head),
+        Some(head) => is_without_events(head),
         None => false,
     }
 }
 
-fn is_without_events(head: Head) -> bool
-    ensures { result ≡ is_without_events head }
+fn is_without_events(head: &Head) -> bool
+    ensures { result ≡ is_without_events head.now }
 {
     match head {
-        Head::Events { count, .. } => count == 0,
+        Head::Events { count, .. } => *count == 0,
         Head::Created(_) | Head::Canceled { .. } => false,
+        Head::Whole(told) => is_progress(told.item()),
+    }
+}
+
+fn is_progress(item: &WatchItem) -> bool
+    ensures { result ≡ is_progress item.now }
+{
+    match item {
+        WatchItem::Events { events, .. } => match events.as_slice() {
+            [] => true,
+            _ => false,
+        },
+        WatchItem::Created(_) | WatchItem::Canceled { .. } => false,
     }
 }
 
@@ -165,21 +179,25 @@ pub fn drop_first(events: &mut HeapCircularBuffer<Arc<Event, Global>>, count: us
     events.truncate_front(left);
 }
 
-/// The item of the first head.
+/// The item of the first head. One that many queues have is shared, and not copied.
 pub fn item_of(
     alloc: Global,
     events: &HeapCircularBuffer<Arc<Event, Global>>,
-    head: Head,
-) -> Result<WatchItem, NoMemory>
-    ensures { IfOk result (λ i. i ≡ item_of head (values events.now.items)) }
+    head: &Head,
+) -> Result<Told, NoMemory>
+    ensures { IfOk result (λ i. i ≡ item_of head.now (values events.now.items)) }
 {
     match head {
-        Head::Created(header) => Ok(WatchItem::Created(header)),
-        Head::Events { header, count } => Ok(WatchItem::Events {
-            header,
-            events: copy_first(alloc, events, count)?,
-        }),
-        Head::Canceled { header, compact } => Ok(WatchItem::Canceled { header, compact }),
+        Head::Created(header) => Ok(Told::alone(WatchItem::Created(*header))),
+        Head::Events { header, count } => Ok(Told::alone(WatchItem::Events {
+            header: *header,
+            events: copy_first(alloc, events, *count)?,
+        })),
+        Head::Canceled { header, compact } => Ok(Told::alone(WatchItem::Canceled {
+            header: *header,
+            compact: *compact,
+        })),
+        Head::Whole(told) => Ok(told.share(alloc)?),
     }
 }
 
@@ -199,12 +217,32 @@ fn copy_first(
     Ok(copies)
 }
 
-/// How many events are the head's.
-pub fn count_of(head: Head) -> usize
-    ensures { result ≡ count_of head }
+/// How many of the ring's events are the head's.
+pub fn count_of(head: &Head) -> usize
+    ensures { result ≡ count_of head.now }
 {
     match head {
-        Head::Events { count, .. } => count,
-        Head::Created(_) | Head::Canceled { .. } => 0,
+        Head::Events { count, .. } => *count,
+        Head::Created(_) | Head::Canceled { .. } | Head::Whole(_) => 0,
+    }
+}
+
+/// How many events a head has that are in no ring.
+pub fn shared_of(head: &Head) -> usize
+    ensures { result ≡ shared_of head.now }
+{
+    match head {
+        Head::Whole(told) => event_count(told.item()),
+        Head::Created(_) | Head::Events { .. } | Head::Canceled { .. } => 0,
+    }
+}
+
+/// How many events a message has.
+pub fn event_count(item: &WatchItem) -> usize
+    ensures { result ≡ length (item_events item.now) }
+{
+    match item {
+        WatchItem::Events { events, .. } => events.len(),
+        WatchItem::Created(_) | WatchItem::Canceled { .. } => 0,
     }
 }

@@ -109,7 +109,7 @@ impl Broadcasts {
         ensures err { OnErr result (self.new ≡ self.old) }
     {
         let batch = Batch::new(self.alloc, events)?;
-        give(stream, next, header, &batch, &mut self.watches)?;
+        give(self.alloc, stream, next, header, &batch, &mut self.watches)?;
         advance(stream, last_revision(events), &mut self.streams);
         if !has_member(stream, &self.watches) {
             self.index.emptied(stream, &self.streams);

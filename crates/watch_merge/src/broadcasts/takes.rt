@@ -10,7 +10,8 @@ ghost use Rattle.watch_merge.specs.Taking.{taken_to, opened_for};
 use super::Broadcasts;
 use crate::fault::WatchFault;
 use crate::watches::{drop_watch, ends, index_of, joins_again, take_into};
-use etcd_types::{Header, NoMemory, WatchItem};
+use etcd_types::{Header, NoMemory};
+use told_items::Told;
 use watch_model::WatchPlace;
 use watch_queue::{take_and_seat, take_item};
 use watch_streams::{next_of, open};
@@ -20,7 +21,7 @@ impl Broadcasts {
     /// off joins a stream again with its last item; one that took its cancellation isn't known any more.
     ///
     /// Where memory was wanting all is as before.
-    pub fn take(&mut self, ticket: u64, last: Header) -> Result<Option<WatchItem>, WatchFault>
+    pub fn take(&mut self, ticket: u64, last: Header) -> Result<Option<Told>, WatchFault>
         requires numbers { self.old.given < 2 ^ 63 }
         ensures ok { IfOk result (λ item. taken self.old last (watch_at ticket self.old.watches) ≡ Some (self.new, item)) }
         ensures err { OnErr result (self.new ≡ self.old) }
@@ -33,7 +34,7 @@ impl Broadcasts {
         Ok(self.take_at(at, last)?)
     }
 
-    fn take_at(&mut self, at: usize, last: Header) -> Result<Option<WatchItem>, NoMemory>
+    fn take_at(&mut self, at: usize, last: Header) -> Result<Option<Told>, NoMemory>
         requires bound { at < length self.old.watches }
         requires numbers { self.old.given < 2 ^ 63 }
         ensures ok { IfOk result (λ item. (w : Watch) → w ≡ get_or self.old.watches at w → taken_from self.old last w w.queue ≡ (self.new, item)) }
@@ -61,7 +62,7 @@ impl Broadcasts {
     }
 
     /// The watch stays where it is.
-    fn take_only(&mut self, at: usize) -> Result<Option<WatchItem>, NoMemory>
+    fn take_only(&mut self, at: usize) -> Result<Option<Told>, NoMemory>
         requires bound { at < length self.old.watches }
         requires some { (w : Watch) → w ≡ get_or self.old.watches at w → is_nil w.queue ≡ false }
         ensures ok { IfOk result (λ item. (w : Watch) → w ≡ get_or self.old.watches at w
@@ -86,7 +87,7 @@ impl Broadcasts {
         next: u64,
         created: bool,
         last: Header,
-    ) -> Result<Option<WatchItem>, NoMemory>
+    ) -> Result<Option<Told>, NoMemory>
         requires bound { at < length self.old.watches }
         requires some { (w : Watch) → w ≡ get_or self.old.watches at w → is_nil w.queue ≡ false }
         ensures ok { IfOk result (λ item. (w : Watch) → w ≡ get_or self.old.watches at w
@@ -105,7 +106,7 @@ impl Broadcasts {
     }
 
     /// A stream is due for the watch.
-    fn take_and_open(&mut self, at: usize) -> Result<Option<WatchItem>, NoMemory>
+    fn take_and_open(&mut self, at: usize) -> Result<Option<Told>, NoMemory>
         requires bound { at < length self.old.watches }
         requires some { (w : Watch) → w ≡ get_or self.old.watches at w → is_nil w.queue ≡ false }
         requires numbers { self.old.given < 2 ^ 63 }

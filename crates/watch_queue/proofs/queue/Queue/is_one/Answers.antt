@@ -7,5 +7,5 @@ use Rattle.watch_queue.proofs.queue.Queue.is_one.Goals as goal
 
 pub returns : goal.returns
 returns c =
-    heads.one_shown c.self.inside.heads.items (values c.self.inside.events.items) c.self.inside.shown c.self.inside.within c.self.invariant
+    heads.one_shown c.self.inside.heads.items (values c.self.inside.events.items) c.self.inside.shown c.self.inside.within c.self.invariant.0
     ∙ ap (λ (q : Queued). is_one q.items) c.self.view_is
