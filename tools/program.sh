@@ -65,14 +65,15 @@ copy_sources() {
 }
 
 # Takes the program that a gate on this machine has proved of these very sources, if the toolchain keeps one. `rt ci` gives what is
-# kept crate by crate, within seconds; it is ended once it has given the program, proves a library anew (whose folder is then empty), or gives
-# nothing more: take_kept FOLDER CRATE
-take_kept() {
-    local log=$1/kept.log gate given=0 now silent=0
+# kept crate by crate, within seconds once it has looked at all of them; it is ended once it has given the program, proves a library anew
+# (whose folder is then empty), or gives nothing more: take_kept FOLDER CRATE
+take_kept() (
+    log=$1/kept.log given=0 silent=0
     mkdir -p "$1/.git"
     (cd "$1" && exec rt ci) > "$log" 2>&1 < /dev/null &
     gate=$!
-    # It looks at all crates before it gives the first.
+    trap '{ kill $gate && wait $gate; } 2> /dev/null || true' EXIT
+    trap 'exit 143' TERM
     while kill -0 $gate 2> /dev/null && [ $silent -lt $((given > 0 ? 20 : 120)) ] && ! grep -q "^rt: $2 is kept:" "$log" &&
         [ -z "$(find "$1/crates" -path '*/out/rlib' -empty)" ]; do
         sleep 1
@@ -80,7 +81,5 @@ take_kept() {
         silent=$((now > given ? 0 : silent + 1))
         given=$now
     done
-    kill $gate 2> /dev/null || true
-    wait $gate 2> /dev/null || true
     grep -q "^rt: $2 is kept:" "$log" && [ -x "$1/crates/$2/out/$2" ]
-}
+)
