@@ -7,9 +7,11 @@ SOURCES    a copy of the repository that nobody edits, whose crates.txt lists PR
 PROGRAM    the crate to build
 WORK       a folder that holds one folder a crate, where that crate is proved over links to the libraries that it uses, since runs of
            rt in one folder wait for each other. The next call goes on from what is proved there
-COSTS      a page with table rows `| CRATE | SECONDS | ..`: the longest chain of crates is proved first
+COSTS      a page with table rows `| CRATE | SECONDS | ..`: the longest chain of crates is proved first; and rows `| CRATE | N.N GB |` of
+           those that take more memory than others
 
-As many crates are proved at a time as there are processors, with 2.5 GB of memory each and at most 10 GB in all, or as RT_JOBS says.
+As many crates are proved at a time as there are processors, or as RT_JOBS says, in what memory is free and 10 GB at most, or in as many GB
+as PROVE_MEMORY says.
 The status is 0 once the program is built, and 1 where a crate isn't proved, whose errors are then on standard error.
 """
 import contextlib
@@ -24,7 +26,7 @@ import sys
 import time
 from dataclasses import dataclass, field
 
-MEMORY_EACH, MEMORY_ALL = 2.5e9, 10e9  # bytes: for one job of a check, and for all jobs
+MEMORY_EACH, MEMORY_ALL = 2e9, 10e9  # bytes: of a check for which no other number is known, and of each further job; of all checks
 MOST_JOBS = 4  # of one check, which gains little from more
 SHOWN_ERRORS = 20
 KILLED = (-signal.SIGKILL, 256 - signal.SIGKILL)  # the statuses of a check that was killed, most likely for memory
@@ -37,6 +39,7 @@ class Crate:
     line: str  # of crates.txt
     uses: list  # the repository's crates on that line
     cost: float  # the seconds of one processor that its proof is expected to take
+    memory: float  # the bytes that one job of its proof is expected to take
     folder: str  # of WORK, its own
     made: str  # what its proof leaves in its own out/: the library, or the program
     sources_sum: str = ""  # of all that its proof reads
@@ -94,11 +97,16 @@ class Check:
     def elapsed(self):
         return time.monotonic() - self.begun
 
+    def memory(self):
+        return self.crate.memory + (self.jobs - 1) * MEMORY_EACH
+
 
 def read_crates(sources, program, work, costs):
     """Returns the crates of crates.txt by their names."""
     with open(costs, encoding="utf-8") as page:
-        known = {name: int(cost) for name, cost in re.findall(r"^\| `(\w+)` \| ([1-9]\d*) \|", page.read(), re.M)}
+        text = page.read()
+    known = {name: int(cost) for name, cost in re.findall(r"^\| `(\w+)` \| ([1-9]\d*) \|", text, re.M)}
+    large = {name: float(memory) * 1e9 for name, memory in re.findall(r"^\| `(\w+)` \| (\d+\.\d) GB \|", text, re.M)}
     usual = sum(known.values()) / len(known) if known else 60
     rows = {}
     with open(f"{sources}/crates.txt", encoding="utf-8") as lines:
@@ -109,7 +117,8 @@ def read_crates(sources, program, work, costs):
     crates = {}
     for name, (line, uses) in rows.items():
         made = name if name == program else f"rlib/{name}.rlib"
-        crates[name] = Crate(name, line, [it for it in uses if it in rows], known.get(name, usual), f"{work}/{name}", made)
+        used = [it for it in uses if it in rows]
+        crates[name] = Crate(name, line, used, known.get(name, usual), large.get(name, MEMORY_EACH), f"{work}/{name}", made)
     return crates
 
 
@@ -164,12 +173,18 @@ def remove(path):
 
 
 def jobs_at_once():
-    """Returns how many jobs there are processors and memory for."""
+    """Returns how many jobs there are processors for, or are asked for."""
     if os.environ.get("RT_JOBS", "").isdigit():
         return max(int(os.environ["RT_JOBS"]), 1)
+    return len(os.sched_getaffinity(0))
+
+
+def memory_at_once():
+    """Returns how many bytes there are for checks, or are asked for."""
+    if os.environ.get("PROVE_MEMORY", "").isdigit():
+        return int(os.environ["PROVE_MEMORY"]) * 1e9
     with open("/proc/meminfo", encoding="utf-8") as file:
-        free = 1024 * int(re.search(r"MemAvailable:\s+(\d+)", file.read())[1])
-    return max(min(len(os.sched_getaffinity(0)), int(min(free, MEMORY_ALL) / MEMORY_EACH)), 1)
+        return min(1024 * int(re.search(r"MemAvailable:\s+(\d+)", file.read())[1]), MEMORY_ALL)
 
 
 class Progress:
@@ -203,7 +218,7 @@ class Build:
         crates = read_crates(sources, program, os.path.abspath(work), costs)
         self.order = in_order(crates, program)
         work_out(crates, self.order, sources, toolchain)
-        self.at_once, self.progress, self.running = jobs_at_once(), Progress(), []
+        self.at_once, self.memory, self.progress, self.running = jobs_at_once(), memory_at_once(), Progress(), []
         # What crates that were proved in this call took by the clock, and what was expected; begun so that one small crate says little.
         self.seconds = self.expected = 60
         os.makedirs(work, exist_ok=True)
@@ -224,13 +239,17 @@ class Build:
         self.running.append(Check(crate, jobs, time.monotonic(), process))
 
     def start_ready(self):
-        """Starts the crates that wait for none, the longest chain first; processors that no other crate could use serve its jobs."""
+        """Starts the crates that wait for none, the longest chain first; processors that no other crate could use serve its jobs. Where there
+        is no memory for the first, it waits for it, and those behind wait too, so that it isn't passed for ever."""
         ready = [it for it in self.left if self.proved.issuperset(it.uses)]
         free = self.at_once - sum(it.jobs for it in self.running)
-        while ready and free > 0:
-            jobs = max(min(free // len(ready), MOST_JOBS), 1)
+        memory = self.memory - sum(it.memory() for it in self.running)
+        while ready and free > 0 and (ready[0].memory <= memory or not self.running):
+            serves = 1 + max(int((memory - ready[0].memory) // MEMORY_EACH), 0)
+            jobs = max(min(free // len(ready), serves, MOST_JOBS), 1)
             self.start(ready.pop(0), jobs)
             free -= jobs
+            memory -= self.running[-1].memory()
 
     def take_ended(self):
         """Notes what was proved, and returns a crate that isn't, if there is one. One whose check was killed is tried again, with less beside it."""
