@@ -1,5 +1,5 @@
 ghost use Rattle.std.specs.Prelude.{◌≡◌, IsTrue};
-ghost use Rattle.server_model.specs.StreamParts.{Feeds, IsCut, is_for_memory, end_of};
+ghost use Rattle.server_model.specs.StreamParts.{Feeds, IsCut, end_of};
 ghost use Rattle.proxy_server.specs.Stays.{Stays};
 
 use core_model::{CoreEvent, StepFault};
@@ -11,13 +11,6 @@ use server_model::{StreamEnd, TurnFault};
 /// How long a stream rests that couldn't be begun, or for which memory was wanting, in milliseconds: a core opens a stream that was cut again,
 /// and would turn for ever.
 const PAUSE_MS: u64 = 1_000;
-
-/// Whether memory was wanting for a step.
-fn is_for_memory(fault: TurnFault) -> bool
-    ensures { result ≡ is_for_memory fault }
-{
-    matches!(fault, TurnFault::Core(StepFault::NoMemory))
-}
 
 /// How following a stream ends by another fault of a step.
 fn end_of(fault: TurnFault) -> StreamEnd
@@ -81,7 +74,7 @@ pub(crate) fn feed<T: Turn, C: Clock>(
         Ok(_) => return None,
         Err(fault) => fault,
     };
-    if is_for_memory(fault) {
+    if fault.is_for_memory() {
         linger(clock);
         Some(cut(turn, clock, stream, StreamEnd::NoMemory))
     } else {

@@ -1,8 +1,10 @@
 ghost use Rattle.std.specs.Prelude.{◌≡◌, IfOk, IsTrue};
-ghost use Rattle.server_model.specs.Working.{IsAt, IsCallMade, IsDone, IsHandedOver, host_of, ledger, lost_end};
+ghost use Rattle.server_model.specs.Working.{IsAt, IsCallMade, IsDone, IsHandedOver, host_of, lost_end};
+ghost use Rattle.proxy_workers.specs.Desks.{IsSame, told_by};
 ghost use Rattle.proxy_workers.specs.Handed.{IsFollower};
 ghost use Rattle.proxy_server.specs.Stays.{Stays};
 
+use crate::desk::Desk;
 use crate::seats::Seats;
 use crate::steps::{feed, report};
 use core_model::{CoreEvent, Job};
@@ -38,25 +40,30 @@ fn lost_end(fault: CallFault) -> Option<WorkEnd>
 }
 
 /// Makes a call once, and feeds its answer, or its loss. An end, where the worker's turns end with it.
-fn do_call<T: Turn, L: Link, C: Clock>(
+fn do_call<T: Turn, C: Clock, L: Link, P>(
     alloc: Global,
-    turn: &mut T,
-    clock: &mut C,
-    link: &mut L,
+    desk: &mut Desk<T, C, L, P>,
     host: &[u8],
     call: u64,
     member: u32,
     request: &Request,
 ) -> Option<WorkEnd>
-    ensures stays { Stays T.home T.worn T.allowed turn.old turn.new }
-    ensures made { IsCallMade (IsTrue (T.worn turn.new)) host.now call member request.now
-        (T.made turn.old) (T.made turn.new)
-        (L.made link.old) (L.made link.new) (L.faults link.old) (L.faults link.new) result }
+    ensures stays { Stays T.home T.worn T.allowed desk.old.turn.now desk.new.turn.now }
+    ensures same { IsSame desk.old desk.new }
+    ensures unspawned { desk.new.spawner.now ≡ desk.old.spawner.now }
+    ensures made { IsCallMade (IsTrue (T.worn desk.new.turn.now)) host.now call member request.now
+        (T.made desk.old.turn.now) (T.made desk.new.turn.now) (L.made desk.old.link.now) (L.made desk.new.link.now)
+        (L.faults desk.old.link.now) (L.faults desk.new.link.now) result }
 {
     let kind = kind_of(request);
-    match make_call(alloc, link, host, member, kind, request) {
-        Ok(answer) => report(turn, clock, call, answer),
-        Err(fault) => feed(turn, clock, CoreEvent::Lost { call }, lost_end(fault)),
+    match make_call(alloc, desk.link, host, member, kind, request) {
+        Ok(answer) => report(desk.turn, desk.clock, call, answer),
+        Err(fault) => feed(
+            desk.turn,
+            desk.clock,
+            CoreEvent::Lost { call },
+            lost_end(fault),
+        ),
     }
 }
 
@@ -87,11 +94,9 @@ fn follower<T: Seats, C>(
 }
 
 /// Hands a stream over to be followed, or cuts it, behind a pause, where it can't be started. An end, where the worker's turns end with it.
-fn do_begin<T: Seats, P: Spawner<Pass = T::Place>, C: Clock>(
+fn do_begin<T: Seats, C: Clock, L, P: Spawner<Pass = T::Place>>(
     alloc: Global,
-    turn: &mut T,
-    clock: &mut C,
-    spawner: &mut P,
+    desk: &mut Desk<T, C, L, P>,
     host: &[u8],
     stream: u64,
     member: u32,
@@ -99,47 +104,46 @@ fn do_begin<T: Seats, P: Spawner<Pass = T::Place>, C: Clock>(
 ) -> Option<WorkEnd>
 where
     P::Conn: Drop,
-    ensures stays { Stays T.home T.worn T.allowed turn.old turn.new }
-    ensures over { IsHandedOver (IsTrue (T.worn turn.new)) host.now
-        (IsAt T.place_home (T.home turn.old)) stream member request.now
-        (T.made turn.old) (T.made turn.new) (P.handed spawner.old) (P.handed spawner.new)
-        (P.faults spawner.old) (P.faults spawner.new) result }
+    ensures stays { Stays T.home T.worn T.allowed desk.old.turn.now desk.new.turn.now }
+    ensures same { IsSame desk.old desk.new }
+    ensures uncalled { desk.new.link.now ≡ desk.old.link.now }
+    ensures over { IsHandedOver (IsTrue (T.worn desk.new.turn.now)) host.now
+        (IsAt T.place_home (T.home desk.old.turn.now)) stream member request.now
+        (T.made desk.old.turn.now) (T.made desk.new.turn.now)
+        (P.handed desk.old.spawner.now) (P.handed desk.new.spawner.now)
+        (P.faults desk.old.spawner.now) (P.faults desk.new.spawner.now) result }
 {
-    let Ok(part) = follower(alloc, turn, host, stream, member, request) else {
+    let Ok(part) = follower(alloc, desk.turn, host, stream, member, request) else {
         return feed(
-            turn,
-            clock,
+            desk.turn,
+            desk.clock,
             CoreEvent::Cut { stream },
             Some(WorkEnd::NoMemory),
         );
     };
-    match spawner.start(part) {
+    match desk.spawner.start(part) {
         Ok(()) => return None,
         Err(_) => {}
     }
-    clock.pause(PAUSE_MS);
-    feed(turn, clock, CoreEvent::Cut { stream }, None)
+    desk.clock.pause(PAUSE_MS);
+    feed(desk.turn, desk.clock, CoreEvent::Cut { stream }, None)
 }
 
 /// Does a job that was drawn. An end, where the worker's turns end with it.
-pub(crate) fn do_job<T: Seats, L: Link, P: Spawner<Pass = T::Place>, C: Clock>(
+pub(crate) fn do_job<T: Seats, C: Clock, L: Link, P: Spawner<Pass = T::Place>>(
     alloc: Global,
-    turn: &mut T,
-    clock: &mut C,
-    link: &mut L,
-    spawner: &mut P,
+    desk: &mut Desk<T, C, L, P>,
     hosts: &List<Bytes>,
     job: &Job,
 ) -> Option<WorkEnd>
 where
     P::Conn: Drop,
-    ensures stays { Stays T.home T.worn T.allowed turn.old turn.new }
-    ensures done { IsDone hosts.now (IsAt T.place_home (T.home turn.old))
-        (IsTrue (T.worn turn.new)) job.now
-        (ledger (T.made turn.old) (L.made link.old) (P.handed spawner.old)
-        (L.faults link.old) (P.faults spawner.old))
-        (ledger (T.made turn.new) (L.made link.new) (P.handed spawner.new)
-        (L.faults link.new) (P.faults spawner.new)) result }
+    ensures stays { Stays T.home T.worn T.allowed desk.old.turn.now desk.new.turn.now }
+    ensures same { IsSame desk.old desk.new }
+    ensures done { IsDone hosts.now (IsAt T.place_home (T.home desk.old.turn.now))
+        (IsTrue (T.worn desk.new.turn.now)) job.now
+        (told_by T.made L.made P.handed L.faults P.faults desk.old)
+        (told_by T.made L.made P.handed L.faults P.faults desk.new) result }
 {
     match job {
         Job::Call {
@@ -149,9 +153,7 @@ where
             ..
         } => do_call(
             alloc,
-            turn,
-            clock,
-            link,
+            desk,
             host_of(hosts, *member),
             *call,
             *member,
@@ -163,16 +165,14 @@ where
             request,
         } => do_begin(
             alloc,
-            turn,
-            clock,
-            spawner,
+            desk,
             host_of(hosts, *member),
             *stream,
             *member,
             request,
         ),
         Job::Close { stream } => {
-            link.forget(*stream);
+            desk.link.forget(*stream);
             None
         }
     }

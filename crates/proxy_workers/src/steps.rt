@@ -1,19 +1,12 @@
-ghost use Rattle.std.specs.Prelude.{◌≡◌, Err, IsTrue};
-ghost use Rattle.server_model.specs.Working.{IsFed, IsReported, is_full};
+ghost use Rattle.std.specs.Prelude.{IsTrue};
+ghost use Rattle.server_model.specs.Working.{IsFed, IsReported};
 ghost use Rattle.proxy_server.specs.Stays.{Stays};
 
-use core_model::{CoreEvent, StepFault};
+use core_model::CoreEvent;
 use etcd_types::Answer;
 use outside::Clock;
 use proxy_server::Turn;
-use server_model::{TurnFault, WorkEnd};
-
-/// Whether memory was wanting for a step.
-fn is_full(fault: TurnFault) -> bool
-    ensures { result ≡ is_full (Err fault) }
-{
-    matches!(fault, TurnFault::Core(StepFault::NoMemory))
-}
+use server_model::WorkEnd;
 
 /// Steps on an event, whatever it gives. The end is the one named, unless the turn makes no more steps.
 pub(crate) fn feed<T: Turn, C: Clock>(
@@ -54,7 +47,7 @@ pub(crate) fn report<T: Turn, C: Clock>(
     };
     if fault.is_worn() {
         Some(WorkEnd::Worn)
-    } else if is_full(fault) {
+    } else if fault.is_for_memory() {
         feed(
             turn,
             clock,

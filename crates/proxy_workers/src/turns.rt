@@ -1,8 +1,10 @@
 ghost use Rattle.std.specs.Prelude.{◌≡◌, IsTrue};
 ghost use Rattle.server_model.specs.Steps.{FitsOutcome};
 ghost use Rattle.server_model.specs.Working.{IsAt, IsDrawn, IsWorked, ended_by, ledger};
+ghost use Rattle.proxy_workers.specs.Desks.{IsSame, told_by};
 ghost use Rattle.proxy_server.specs.Stays.{Stays};
 
+use crate::desk::Desk;
 use crate::job::do_job;
 use crate::seats::Seats;
 use core_model::{CoreEvent, Job, Outcome, StepFault};
@@ -61,6 +63,36 @@ fn draw<R: Wait, T: Turn, C: Clock>(rt: &R, turn: &mut T, clock: &mut C) -> Resu
     unreachable!()
 }
 
+/// Draws so many jobs at a desk, one after the other, and does each.
+fn work_at<R: Wait, T: Seats, C: Clock, L: Link, P: Spawner<Pass = T::Place>>(
+    rt: &R,
+    alloc: Global,
+    desk: &mut Desk<T, C, L, P>,
+    hosts: &List<Bytes>,
+    turns: u64,
+) -> WorkEnd
+where
+    P::Conn: Drop,
+    ensures stays { Stays T.home T.worn T.allowed desk.old.turn.now desk.new.turn.now }
+    ensures same { IsSame desk.old desk.new }
+    ensures worked { IsWorked hosts.now (IsAt T.place_home (T.home desk.old.turn.now)) T.rests
+        (IsTrue (T.worn desk.new.turn.now)) turns
+        (told_by T.made L.made P.handed L.faults P.faults desk.old)
+        (told_by T.made L.made P.handed L.faults P.faults desk.new) result }
+{
+    'jobs: for _ in 0..turns {
+        let job = match draw(rt, desk.turn, desk.clock) {
+            Ok(job) => job,
+            Err(end) => return end,
+        };
+        match do_job(alloc, desk, hosts, &job) {
+            None => {}
+            Some(end) => return end,
+        }
+    }
+    WorkEnd::Turns
+}
+
 /// Draws so many jobs, one after the other, and does each: a call is made once on the link, a stream is handed to the spawner. It
 /// ends before where no further step can be made, or memory was wanting.
 pub fn work<R: Wait, T: Seats, L: Link, P: Spawner<Pass = T::Place>, C: Clock>(
@@ -83,15 +115,11 @@ where
         (ledger (T.made turn.new) (L.made link.new) (P.handed spawner.new)
         (L.faults link.new) (P.faults spawner.new)) result }
 {
-    'jobs: for _ in 0..turns {
-        let job = match draw(rt, turn, clock) {
-            Ok(job) => job,
-            Err(end) => return end,
-        };
-        match do_job(alloc, turn, clock, link, spawner, hosts, &job) {
-            None => {}
-            Some(end) => return end,
-        }
-    }
-    WorkEnd::Turns
+    let mut desk = Desk {
+        turn,
+        clock,
+        link,
+        spawner,
+    };
+    work_at(rt, alloc, &mut desk, hosts, turns)
 }

@@ -27,7 +27,7 @@ use Rattle.core_model.specs.declared.event.Outcome.TheVariants.{Noted}
 use Rattle.core_model.specs.declared.event.StepFault.TheVariants as step
 use Rattle.server_model.specs.declared.fault.TurnFault.{TurnFault}
 use Rattle.server_model.specs.declared.fault.TurnFault.TheVariants as turn
-use Rattle.server_model.specs.Steps.{Step, Adds, MadeBy, Fits}
+use Rattle.server_model.specs.Steps.{Step, Adds, MadeBy, Fits, is_for_memory}
 use Rattle.http_talk.specs.Replies.{is_cancel}
 use Rattle.server_model.specs.Dialog.{is_worn}
 use Rattle.server_model.proofs.Steps.{adds_then, adds_none, every_append}
@@ -35,7 +35,7 @@ use Rattle.server_model.specs.declared.ends.StreamEnd.{StreamEnd}
 use Rattle.server_model.specs.declared.ends.StreamEnd.TheVariants as how
 use Rattle.server_model.specs.declared.ends.StreamStop.{StreamStop}
 use Rattle.server_model.specs.Following.{Cause, Message, AllGo, Goes, Lines, IsGood, Opened, Reads, OpenedMore, lines_of, Stands, HasRisen, IsQuiet, wanted, read_to, end_by, steps_of, failed, Cuts, Ends, Following, Fed}
-use Rattle.server_model.specs.StreamParts.{Opens, StandsNext, Nexts, is_for_memory, end_of, Refuses, IsTaken, Feeds, IsCut, cut_at, stop_by, begun, Follows, IsFollowed}
+use Rattle.server_model.specs.StreamParts.{Opens, StandsNext, Nexts, end_of, Refuses, IsTaken, Feeds, IsCut, cut_at, stop_by, begun, Follows, IsFollowed}
 
 -- ---- lines
 

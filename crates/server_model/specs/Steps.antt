@@ -104,6 +104,11 @@ is_late turn.Worn = true
 is_late (turn.Core step.Worn) = true
 is_late _ = false
 
+-- memory was wanting for the step
+abbrev pub is_for_memory : TurnFault → Bool
+is_for_memory (turn.Core step.NoMemory) = true
+is_for_memory _ = false
+
 -- Steps were made of which these are the connection's own; each other one is one that a rest may make.
 pub record Did (rests : CoreEvent → Type 0) (old new : Option (List Step)) (mine : List Step) : Type 0 where
   pub steps : List Step

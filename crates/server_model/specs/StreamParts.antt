@@ -62,11 +62,6 @@ Nexts most old new had rest earlier later (Ok item) =
 Nexts most old new had rest earlier later (Err stop) =
     (cause : Cause) × Stops cause stop earlier later × IfSome had (StandsNext most cause old)
 
--- memory was wanting for the step
-abbrev pub is_for_memory : TurnFault → Bool
-is_for_memory (turn.Core step.NoMemory) = true
-is_for_memory _ = false
-
 -- the end by another fault of the step
 abbrev pub end_of : TurnFault → StreamEnd
 end_of (turn.Core (step.NoSuchStream stream)) = how.Gone

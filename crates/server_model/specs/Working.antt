@@ -17,7 +17,7 @@ use Rattle.core_model.specs.declared.event.Outcome.{Outcome}
 use Rattle.core_model.specs.declared.event.Outcome.TheVariants.{Job as Due}
 use Rattle.core_model.specs.declared.event.StepFault.{StepFault}
 use Rattle.core_model.specs.declared.event.StepFault.TheVariants as step
-use Rattle.server_model.specs.Steps.{Step, Every, Adds, IsOfRest, is_late}
+use Rattle.server_model.specs.Steps.{Step, Every, Adds, IsOfRest, is_for_memory, is_late}
 use Rattle.server_model.specs.declared.fault.TurnFault.{TurnFault}
 use Rattle.server_model.specs.declared.fault.TurnFault.TheVariants as turn
 use Rattle.server_model.specs.declared.ends.WorkEnd.{WorkEnd}
@@ -31,10 +31,10 @@ use Rattle.server_model.specs.CallKinds.{kind_of}
 abbrev pub host_of : List (List ℕ) → ℕ → List ℕ
 host_of hosts member = unwrap_or (slice_get hosts (member - 1)) []
 
--- memory was wanting for the step
+-- memory was wanting for a step that gave this
 abbrev pub is_full : Result Outcome TurnFault → Bool
-is_full (Err (turn.Core step.NoMemory)) = true
-is_full _ = false
+is_full (Ok outcome) = false
+is_full (Err why) = is_for_memory why
 
 -- ---- steps
 

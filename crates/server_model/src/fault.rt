@@ -1,5 +1,6 @@
 ghost use Rattle.std.specs.Prelude.{◌≡◌, Err};
 ghost use Rattle.server_model.specs.Dialog.{is_worn};
+ghost use Rattle.server_model.specs.Steps.{is_for_memory};
 
 use core_model::StepFault;
 use thiserror::Error;
@@ -21,6 +22,13 @@ impl TurnFault {
         ensures { result ≡ is_worn (Err self) }
     {
         matches!(self, TurnFault::Worn)
+    }
+
+    /// Whether memory was wanting for the step.
+    pub fn is_for_memory(self) -> bool
+        ensures { result ≡ is_for_memory self }
+    {
+        matches!(self, TurnFault::Core(StepFault::NoMemory))
     }
 }
 

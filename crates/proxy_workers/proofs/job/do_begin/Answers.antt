@@ -13,11 +13,11 @@ returns-in_default-clause-over g c =
 
 pub returns-in-Ok-start-clause-over : goal.returns-in-Ok-start-clause-over
 returns-in-Ok-start-clause-over g c =
-    begun_as g.T.Seats.place_home (g.T.Turn.home c.args.turn.now) _ c.args.host.now c.args.stream c.args.member c.args.request.now c.in-Ok.part _ _ _ _ _ _ c.in-Ok.ensures.part c.in-Ok.ensures.made
+    begun_as g.T.Seats.place_home (g.T.Turn.home c.args.desk.now.turn.now) _ c.args.host.now c.args.stream c.args.member c.args.request.now c.in-Ok.part _ _ _ _ _ _ c.in-Ok.ensures.part c.in-Ok.ensures.made
     c.in-Ok-start.ensures.handed c.in-Ok-start.ensures.cause.kept
 
 pub returns-clause-over : goal.returns-clause-over
 returns-clause-over g c =
-    refused_as g.T.Seats.place_home (g.T.Turn.home c.args.turn.now) _ c.args.host.now c.args.stream c.args.member c.args.request.now c.feed-2.result c.in-Ok.part _ _ _ _ _ _ c.in-Ok.ensures.part
+    refused_as g.T.Seats.place_home (g.T.Turn.home c.args.desk.now.turn.now) _ c.args.host.now c.args.stream c.args.member c.args.request.now c.feed-2.result c.in-Ok.part _ _ _ _ _ _ c.in-Ok.ensures.part
     c.in-Err.ensures.handed c.in-Err.ensures.cause.kept c.in-Err.ensures.cause.rose
     (fed_since _ (Cut c.args.stream) None c.feed-2.result _ _ _ c.in-Ok.ensures.made c.feed-2.ensures.fed)
