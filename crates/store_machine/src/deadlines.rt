@@ -28,6 +28,11 @@ impl Deadlines {
         self.items.as_slice().len() as u64
     }
 
+    /// Whether a lease is due.
+    pub(crate) fn has_due(&self, now: u64) -> bool {
+        self.items.iter().any(|deadline| deadline.at <= now)
+    }
+
     /// The leases that are due, by rising numbers. It takes no memory where none is.
     pub(crate) fn due(&self, alloc: Global, now: u64) -> Result<List<u64>, NoMemory>
         ensures { IfOk result (λ numbers. numbers ≡ due now (rows self.now)) }

@@ -57,6 +57,11 @@ impl Kept {
         }
     }
 
+    /// Whether a lease is due.
+    pub(crate) fn has_due(&self, now: u64) -> bool {
+        self.deadlines.has_due(now)
+    }
+
     /// Whether revisions and leases are used up.
     fn is_worn(&self) -> bool
         ensures worn { (s : Shop) → Holds self.now s → IsTimed s → result ≡ is_worn s }

@@ -4,10 +4,12 @@
 
 mod deadlines;
 mod ending;
+mod followers;
 mod kept;
 mod laws;
 mod machine;
 
+pub use followers::lot_of_watch;
 pub use laws::machines_stand_for_shops;
 pub use machine::StoreMachine;
 pub use shop_model::{StoreEvent, StoreOutcome, StoreStepFault};

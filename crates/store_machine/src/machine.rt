@@ -2,9 +2,10 @@ ghost use Rattle.std.specs.Prelude.{IfOk};
 ghost use Rattle.shop_model.specs.Shop.{first_shop};
 ghost use Rattle.store_machine.specs.Holding.{Timed};
 
+use crate::followers::Followers;
 use crate::kept::Kept;
 use etcd_types::NoMemory;
-use outside::Machine;
+use outside::{Machine, Roused};
 use shop_model::{StoreEvent, StoreOutcome, StoreStepFault};
 use std::alloc::Global;
 
@@ -18,6 +19,7 @@ use std::alloc::Global;
 pub struct StoreMachine {
     /// Behind a box, since a hub moves its machine in and out at each step.
     kept: Box<Kept>,
+    followers: Box<Followers>,
     ghost timed: { ∥ Timed kept.value ∥₁ },
 }
 
@@ -30,7 +32,8 @@ impl StoreMachine {
     {
         let kept = Kept::new(alloc)?;
         let kept = Box::new(alloc, kept)?;
-        Ok(StoreMachine { kept })
+        let followers = Box::new(alloc, Followers::new(alloc))?;
+        Ok(StoreMachine { kept, followers })
     }
 }
 
@@ -49,6 +52,17 @@ impl Machine for StoreMachine {
     ghost steps = { Steps };
 
     fn step(&mut self, event: StoreEvent, now: u64) -> Result<StoreOutcome, StoreStepFault> {
-        self.kept.step(&event, now)
+        let expiring = self.kept.has_due(now);
+        let answer = self.kept.step(&event, now);
+        self.followers.note(&event, &answer, expiring);
+        answer
+    }
+
+    fn rouses(&self) -> Roused {
+        self.followers.roused()
+    }
+
+    fn roused(&self, word: u32) -> u64 {
+        self.followers.word(word)
     }
 }

@@ -33,7 +33,7 @@ use Rattle.store_reads.specs.Told.{left_passes, told_left}
 use Rattle.store_reads.proofs.SplitProofs.{StartsAt, Split, coming, coming_from, splits, front_leaves, first_place}
 
 -- as many versions as changes of the key
-counted : (r : ℕ) (k : List ℕ) (cs : List KeyChange) (old : Option Kv) → length (versions_in r k cs old) ≡ count_same k (changed_keys cs)
+pub counted : (r : ℕ) (k : List ℕ) (cs : List KeyChange) (old : Option Kv) → length (versions_in r k cs old) ≡ count_same k (changed_keys cs)
 counted r k [] old = refl
 counted r k (c ∷ cs) old = by_key (λ o. counted r k cs o) (same (changed_key c) k)
   where
@@ -47,7 +47,7 @@ counted r k (c ∷ cs) old = by_key (λ o. counted r k cs o) (same (changed_key 
     by_key rest false = rest old
 
 -- a version behind some others
-at_seam : (us vs ws : List Version) (v : Version) (at : ℕ) → ws ≡ us ++ v ∷ vs → at ≡ length us → (slice_get ws at ≡ Some v) × (take at ws ≡ us) × (at < length ws)
+pub at_seam : (us vs ws : List Version) (v : Version) (at : ℕ) → ws ≡ us ++ v ∷ vs → at ≡ length us → (slice_get ws at ≡ Some v) × (take at ws ≡ us) × (at < length ws)
 at_seam us vs ws v at is here = (
   (λ i. slice_get (is i) (here i)) ∙ found us,
   (λ i. take (here i) (is i)) ∙ take-append_seam us (v ∷ vs),

@@ -2,3 +2,4 @@ pub mod SplitProofs
 pub mod EventProofs
 pub mod TellingProofs
 pub mod PassedProofs
+pub mod KeyProofs

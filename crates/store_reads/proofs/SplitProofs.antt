@@ -31,7 +31,7 @@ from-append : (r : ℕ) (us vs : List Version) → AllFrom r us → AllFrom r vs
 from-append r [] vs a b = b
 from-append r (u ∷ us) vs a b = (a.0, from-append r us vs a.1 b)
 
-in_below : (r revision : ℕ) (k : List ℕ) (cs : List KeyChange) (old : Option Kv) → revision < r → AllBelow r (versions_in revision k cs old)
+pub in_below : (r revision : ℕ) (k : List ℕ) (cs : List KeyChange) (old : Option Kv) → revision < r → AllBelow r (versions_in revision k cs old)
 in_below r revision k [] old e = tt
 in_below r revision k (c ∷ cs) old e = by_key (λ o. in_below r revision k cs o e) (same (changed_key c) k)
   where

@@ -1,5 +1,6 @@
 -- Where a change's version stands among those of its key.
-use Rattle.std.specs.Prelude.{◌≡◌, ◌<◌, ◌≤◌, ◌+◌, ◌==◌, ℕ, Bool, true, false, List, [], ◌∷◌, length, take, slice_get, Option, None, Some, if◌then◌else◌}
+use Rattle.std.specs.Prelude.{◌≡◌, ◌<◌, ◌≤◌, ◌+◌, ◌==◌, ℕ, Bool, true, false, not, List, [], ◌∷◌, length, take, slice_get, Option, None, Some, if◌then◌else◌}
+use Rattle.std.specs.List.{list_any}
 use Rattle.std.specs.Option.{unwrap_or}
 use Rattle.std.specs.Ordering.{nat_cmp}
 use Rattle.std.specs.Cmp.Lexicographic.{slice_cmp}
@@ -14,6 +15,10 @@ use Rattle.compaction_model.specs.declared.version.Version.{Version}
 abbrev pub count_same : List ℕ → List (List ℕ) → ℕ
 count_same k [] = 0
 count_same k (j ∷ js) = if same j k then count_same k js + 1 else count_same k js
+
+-- no key of the range is among these
+abbrev pub none_within : KeyRange → List (List ℕ) → Bool
+none_within range ks = not (list_any (λ k. contains range k) ks)
 
 -- the version before this place is earlier, and the one at it isn't
 pub record IsFirstFrom (revision : ℕ) (vs : List Version) (place : ℕ) : Type 0 where

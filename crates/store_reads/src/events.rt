@@ -1,5 +1,6 @@
-ghost use Rattle.std.specs.Prelude.{◌≡◌, ◌≤◌, ◌<◌, ◌-◌, ◌+◌, ◌^◌, if◌then◌else◌, [], ◌++◌, length, get_or, IfOk, OnOk};
+ghost use Rattle.std.specs.Prelude.{◌≡◌, ◌≤◌, ◌<◌, ◌-◌, ◌+◌, ◌^◌, true, if◌then◌else◌, [], ◌++◌, length, get_or, IfOk, OnOk};
 ghost use Rattle.std.specs.Option.{option_copied};
+ghost use Rattle.etcd_types.specs.Ranges.{is_one};
 ghost use Rattle.store_model.specs.History.{History};
 ghost use Rattle.store_model.specs.Events.{watch_events};
 ghost use Rattle.store_model.specs.Watches.{next_after};
@@ -15,13 +16,50 @@ use std::alloc::Global;
 use store_history::Batch;
 use store_index::{Index, left_now};
 
-/// The events of a watch from a revision on, which can still be read. Where there is none, it goes on from that revision.
+/// The events of a watch from a revision on, which can still be read. Where there is none, it goes on from that revision. A watch
+/// of one key costs what its versions from there on do, and any other one what the revisions from there on do.
 pub fn watch_events(
     alloc: Global,
     index: &Index,
     ask: &WatchAsk,
     from: u64,
 ) -> Result<Batch, NoMemory>
+    requires { index.now.compacted ≤ from }
+    ensures events { IfOk result (λ batch. (h : History) → HoldsKept index.now h → batch.events ≡ watch_events h index.now.compacted ask.now from) }
+    ensures next { IfOk result (λ batch. (h : History) → HoldsKept index.now h → batch.next ≡ next_after from batch.events) }
+{
+    if ask.range.is_one() {
+        Ok(key_events(alloc, index, ask, from)?)
+    } else {
+        Ok(range_events(alloc, index, ask, from)?)
+    }
+}
+
+/// The same for a watch of one key: only those revisions are looked at that have a version of it.
+fn key_events(alloc: Global, index: &Index, ask: &WatchAsk, from: u64) -> Result<Batch, NoMemory>
+    requires one { is_one ask.now.range ≡ true }
+    requires from { index.now.compacted ≤ from }
+    ensures events { IfOk result (λ batch. (h : History) → HoldsKept index.now h → batch.events ≡ watch_events h index.now.compacted ask.now from) }
+    ensures next { IfOk result (λ batch. (h : History) → HoldsKept index.now h → batch.next ≡ next_after from batch.events) }
+{
+    let mut batch = Batch {
+        events: List::new(alloc),
+        next: from,
+    };
+    let versions = index.kept_versions(&ask.range.key);
+    let mut revision = from.max(2);
+    let mut at = first_from(versions, revision);
+    while at < versions.len() {
+        let changed = versions[at].revision;
+        add_events(alloc, &mut batch, index, ask, changed)?;
+        revision = changed + 1;
+        at = first_from(versions, revision);
+    }
+    Ok(batch)
+}
+
+/// The same for any watch: each revision is looked at.
+fn range_events(alloc: Global, index: &Index, ask: &WatchAsk, from: u64) -> Result<Batch, NoMemory>
     requires { index.now.compacted ≤ from }
     ensures events { IfOk result (λ batch. (h : History) → HoldsKept index.now h → batch.events ≡ watch_events h index.now.compacted ask.now from) }
     ensures next { IfOk result (λ batch. (h : History) → HoldsKept index.now h → batch.next ≡ next_after from batch.events) }

@@ -15,11 +15,11 @@ use crate::shop::{exec, open_watch};
 use crate::watch::follow;
 use etcd_types::{Request, WatchAsk};
 use http_talk::{RefusalForm, tell};
-use outside::{CREWS, Clock, Sink, Source};
+use outside::{Clock, Sink, Source};
 use shop_dialog::{Stop, StoreEnd};
 use std::alloc::Global;
 use std::sync::Wait;
-use store_machine::StoreMachine;
+use store_machine::{StoreMachine, lot_of_watch};
 use turn_hub::{Hub, Pass};
 
 /// Executes a request that opens no watch, and tells its answer. None where that was written.
@@ -49,11 +49,6 @@ fn execute<R: Wait, K: Sink, C: Clock>(
         },
         Err(fault) => Some(end_of(fault)),
     }
-}
-
-/// The lot in which a watch's pass rests.
-fn lot_of_watch(number: u64) -> u32 {
-    (number % u64::from(CREWS)) as u32
 }
 
 /// The end of a connection that stopped so.

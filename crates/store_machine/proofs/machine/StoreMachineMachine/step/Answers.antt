@@ -6,15 +6,15 @@ use Rattle.store_machine.proofs.Steps.{timed_after}
 use Rattle.store_machine.proofs.Machines.{steps_so}
 use Rattle.store_machine.proofs.machine.StoreMachineMachine.step.Goals as goal
 
-pub step-requires-clause-timed : goal.step-requires-clause-timed
-step-requires-clause-timed c = subst (λ (k : Kept). ∥ Timed k ∥₁) (sym c.deref_mut.ensures.value) c.args.self.now.timed
+pub step-answer-requires-clause-timed : goal.step-answer-requires-clause-timed
+step-answer-requires-clause-timed c = subst (λ (k : Kept). ∥ Timed k ∥₁) (sym c.deref_mut.ensures.value) c.args.self.now.timed
 
 pub invariant_of-self : goal.invariant_of-self
 invariant_of-self c = record {
-  timed = timed_after c.deref_mut.result.now c.step.new.self c.args.event c.args.now c.step.result
-      (subst (λ (k : Kept). ∥ Timed k ∥₁) (sym c.deref_mut.ensures.value) c.args.self.now.timed) c.step.ensures;
+  timed = timed_after c.deref_mut.result.now c.step-answer.new.self c.args.event c.args.now c.step-answer.result
+      (subst (λ (k : Kept). ∥ Timed k ∥₁) (sym c.deref_mut.ensures.value) c.args.self.now.timed) c.step-answer.ensures;
 }
 
 pub returns : goal.returns
-returns c = steps_so c.args.self.now _ c.args.event c.args.now c.step.result
-    (λ s h t. c.step.ensures s (subst (λ (k : Kept). Holds k s) (sym c.deref_mut.ensures.value) h) t)
+returns c = steps_so c.args.self.now _ c.args.event c.args.now c.step-answer.result
+    (λ s h t. c.step-answer.ensures s (subst (λ (k : Kept). Holds k s) (sym c.deref_mut.ensures.value) h) t)

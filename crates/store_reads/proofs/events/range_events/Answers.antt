@@ -4,7 +4,7 @@ use Rattle.etcd_types.specs.declared.watch.Event.{Event}
 use Rattle.store_history.proofs.EventLemmas.{telling_on, going_on}
 use Rattle.store_reads.specs.Told.{left_to_tell}
 use Rattle.store_reads.proofs.TellingProofs.{left_after, revision_told}
-use Rattle.store_reads.proofs.events.watch_events.Goals as goal
+use Rattle.store_reads.proofs.events.range_events.Goals as goal
 
 pub loop-revision-preserved : goal.loop-revision-preserved
 loop-revision-preserved c = record {

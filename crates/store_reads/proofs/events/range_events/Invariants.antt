@@ -5,7 +5,7 @@ use Rattle.store_model.specs.Events.{events_after, events}
 use Rattle.store_model.specs.Watches.{next_after}
 use Rattle.store_history.specs.Batches.{told}
 use Rattle.store_index.specs.Index.{HoldsKept}
-use Rattle.store_reads.proofs.events.watch_events.Given as goal
+use Rattle.store_reads.proofs.events.range_events.Given as goal
 
 abbrev pub invariant-loop-revision : goal.invariant-loop-revision
 invariant-loop-revision l = record {
