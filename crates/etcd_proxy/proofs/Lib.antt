@@ -3,3 +3,4 @@ pub mod Generated
 pub mod Lines
 pub mod Started
 pub mod AuditEndings
+pub mod Stored

@@ -1,6 +1,7 @@
 pub mod Generated
 pub mod Run
 pub mod Start
+pub mod Store
 pub mod Texts
 pub mod Words
 pub mod Audit

@@ -27,11 +27,13 @@ etcd_proxy serves clients of an etcd cluster, and replays scripted schedules of 
 usage: etcd_proxy replay < SCRIPT
        etcd_proxy replay --generate N
        etcd_proxy audit < TRANSCRIPT
+       etcd_proxy store ADDRESS
        etcd_proxy grpc-proxy start OPTIONS
 
   replay             reads a script from the input and writes its transcript to the output
   --generate N       replays the script that is generated from N, 1 to 20000, and writes counts of its transcript
   audit              reads a transcript from the input, says whether it keeps the rules of one, and writes its counts
+  store ADDRESS      serves a store of one member with nothing in it, at host:port; nothing is kept at its end
   grpc-proxy start   serves; with --help it shows its options
   --help             shows this
   --version          shows the version

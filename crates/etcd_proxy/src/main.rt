@@ -1,5 +1,5 @@
-//! The command `etcd_proxy`: `grpc-proxy start`, which serves clients of a cluster, and `replay`, which runs a script over proxies and a
-//! small store, and writes what happened.
+//! The command `etcd_proxy`: `grpc-proxy start`, which serves clients of a cluster, `store`, which serves a small store, and `replay`, which
+//! runs a script over proxies and a small store, and writes what happened.
 #![tactic(auto)]
 
 mod asker;
@@ -11,23 +11,27 @@ mod newest;
 mod own;
 mod revoke;
 mod run;
+mod shop;
 mod shown;
 mod start;
 mod stop;
+mod store;
 mod system;
 mod told;
 mod words;
 
 use crate::asker::{Asker, askers_of, begin_all, revokers_of};
 use crate::door::door_of;
+use crate::shop::{CONNECTIONS, ShopSystem};
 use crate::shown::{Teller, pages_of};
 use crate::stop::{Ender, Leaving};
 use crate::system::System;
-use crate::words::{NoWords, options_of};
+use crate::words::{NoWords, address_of, options_of};
 use etcd_types::NoMemory;
 use metrics_pages::Pages;
 use outside::{Reading, Writing};
 use part_threads::{Nothing, spawner_of};
+use shop_threads::{NoShops, shops_of};
 use sockets::{Halt, SocketHost};
 use start_words::{StartSettings, read_start};
 use state_file::Sessions;
@@ -157,7 +161,7 @@ fn main(rt: HostRuntime) -> ExitCode {
     let settings = settings_of(rt.alloc(), words);
     let (most_connections, has_error_field) = match &settings {
         Some(settings) => (settings.max_connections, settings.etcd_errors),
-        None => (0, false),
+        None => (CONNECTIONS, false),
     };
     let (Ok(halt), Ok(sessions), Ok(door)) = (
         Arc::new(rt.alloc(), Halt::new()),
@@ -166,6 +170,17 @@ fn main(rt: HostRuntime) -> ExitCode {
     ) else {
         return ExitCode::from(ending::tell_no_words(NoWords::NoMemory, &mut errors));
     };
+    // A store that nothing can start a connection for ends at once.
+    let shops = match address_of(words) {
+        Some(_) => match ShopSystem::new(rt, rt.alloc()) {
+            Ok(system) => shops_of(rt, rt.alloc(), system, CONNECTIONS),
+            Err(NoMemory) => None,
+        },
+        None => None,
+    };
+    if shops.is_none() && address_of(words).is_some() {
+        return ExitCode::from(ending::tell_no_words(NoWords::NoMemory, &mut errors));
+    }
     // Words that serve nobody start no thread. A server that nothing can start a part for ends as one whose first worker can't be started.
     let outfit = match &settings {
         Some(settings) => outfit_of(rt, rt.alloc(), settings, &sessions, &halt),
@@ -203,8 +218,8 @@ fn main(rt: HostRuntime) -> ExitCode {
         .until(halt)
         .keeping(sessions)
         .through(door);
-    match server {
-        Some((mut spawner, leaving)) => {
+    match (server, shops) {
+        (Some((mut spawner, leaving)), _) => {
             let status = run::run(
                 &rt,
                 rt.alloc(),
@@ -214,6 +229,7 @@ fn main(rt: HostRuntime) -> ExitCode {
                 &mut errors,
                 &mut host,
                 &mut spawner,
+                &mut NoShops::new(),
             );
             // a server has this status where it was to stop
             if status == 0 {
@@ -224,7 +240,7 @@ fn main(rt: HostRuntime) -> ExitCode {
             }
             ExitCode::from(status)
         }
-        None => {
+        (None, Some(mut shops)) => {
             let status = run::run(
                 &rt,
                 rt.alloc(),
@@ -234,6 +250,21 @@ fn main(rt: HostRuntime) -> ExitCode {
                 &mut errors,
                 &mut host,
                 &mut Nothing::new(),
+                &mut shops,
+            );
+            ExitCode::from(status)
+        }
+        (None, None) => {
+            let status = run::run(
+                &rt,
+                rt.alloc(),
+                words,
+                &mut input,
+                &mut output,
+                &mut errors,
+                &mut host,
+                &mut Nothing::new(),
+                &mut NoShops::new(),
             );
             ExitCode::from(status)
         }

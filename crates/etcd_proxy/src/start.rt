@@ -121,7 +121,7 @@ fn service_of(settings: StartSettings) -> Service
 }
 
 /// Tells why a server ended, and answers the status for it.
-fn end_with<E: Sink>(errors: &mut E, end: ServeEnd) -> u8
+pub(crate) fn end_with<E: Sink>(errors: &mut E, end: ServeEnd) -> u8
     ensures status { result ≡ status_of_end end }
     ensures tells { Tells (E.written errors.old) (E.written errors.new) (E.faults errors.old) (E.faults errors.new) (text_of_end end) }
 {
@@ -203,7 +203,7 @@ fn first_paragraph(alloc: Global, text: &[u8]) -> Result<Vec<u8>, NoMemory>
 }
 
 /// Memory was wanting.
-fn want<E: Sink>(errors: &mut E) -> u8
+pub(crate) fn want<E: Sink>(errors: &mut E) -> u8
     ensures { Wants (E.written errors.old) (E.written errors.new) (E.faults errors.old) (E.faults errors.new) result }
 {
     tell(errors, b"no memory\n");

@@ -6,7 +6,7 @@ use outside::{Failed, Sink, write_whole};
 
 /// How the command is used.
 pub(crate) const USAGE: &[u8] =
-    b"usage: etcd_proxy replay [--generate N] or audit or grpc-proxy start OPTIONS\n";
+    b"usage: etcd_proxy replay [--generate N] or audit or store ADDRESS or grpc-proxy start OPTIONS\n";
 
 /// Writes a text to the output.
 pub(crate) fn print<K: Sink, E: Sink>(output: &mut K, errors: &mut E, text: &[u8]) -> u8

@@ -1,7 +1,9 @@
 ghost use Rattle.std.specs.Prelude.{◌≡◌, IfSome, option_map};
 ghost use Rattle.etcd_proxy.specs.Start.{options_of};
+ghost use Rattle.etcd_proxy.specs.Store.{address_of};
 ghost use Rattle.etcd_proxy.specs.Words.{command_of, named, named_with, IsInRange};
 
+use start_words::is_address;
 use text_words::number_of;
 
 /// The greatest number that a script is generated from.
@@ -77,6 +79,18 @@ pub(crate) fn options_of(words: &[String]) -> Option<&[String]>
     match words {
         [program, command, options @ ..]
             if program.as_str() == "grpc-proxy" && command.as_str() == "start" => { Some(options) }
+        _ => None,
+    }
+}
+
+/// The address behind `store`, where the words are these two and it is `host:port`.
+pub(crate) fn address_of(words: &[String]) -> Option<&[u8]>
+    ensures { option_map (λ address. address.now) result ≡ address_of words.now }
+{
+    match words {
+        [command, address] if command.as_str() == "store" && is_address(address.as_bytes()) => {
+            Some(address.as_bytes())
+        }
         _ => None,
     }
 }

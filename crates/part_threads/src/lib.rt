@@ -4,11 +4,8 @@
 mod carried;
 mod ends;
 mod further;
-mod handover;
-mod job;
 mod load;
 mod lookout;
-mod open;
 mod outfit;
 mod probes;
 mod threaded;

@@ -3,6 +3,7 @@ ghost use Rattle.part_threads.specs.Loads.{part_of};
 
 use outside::{Follow, Part, TicketRange};
 use proxy_parts::Place;
+use thread_makers::Duty;
 
 /// What a part is, but for its place.
 #[derive(Drop)]
@@ -13,15 +14,8 @@ pub(crate) enum Load<C> {
     Follower(Follow),
 }
 
-/// What the thread of a part is for, as far as it makes a difference to how the thread is made.
-#[derive(Clone, Copy, Debug, PartialEq, Eq)]
-pub(crate) enum Duty {
-    Ticks,
-    Talks,
-    Calls,
-}
-
 impl<C> Load<C> {
+    /// What the part's thread is for.
     pub(crate) fn duty(&self) -> Duty {
         match self {
             Load::Ticker => Duty::Ticks,

@@ -1,16 +1,15 @@
 use crate::carried::Carried;
 use crate::ends::Ends;
 use crate::further::Further;
-use crate::job::{Equips, Work};
-use crate::load::{Duty, Load};
+use crate::load::Load;
 use crate::lookout::Lookout;
-use crate::open::Open;
 use crate::probes::Probes;
 use etcd_types::NoMemory;
 use outside::{Part, Spawner};
 use proxy_parts::{Place, run_part};
 use std::alloc::Global;
 use std::sync::Wait;
+use thread_makers::{Duty, Equips, Open, Work};
 
 /// A part on its way to its thread, but for its place.
 #[derive(Drop)]

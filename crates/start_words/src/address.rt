@@ -46,7 +46,7 @@ pub(crate) fn colon(word: &[u8]) -> Option<usize>
 }
 
 /// Whether a word is `host:port`, with a host of letters, digits, `.` and `-` and a port from 1 to 65,535.
-pub(crate) fn is_address(word: &[u8]) -> bool
+pub fn is_address(word: &[u8]) -> bool
     ensures { result ≡ spec.is_address word.now }
 {
     match colon(word) {

@@ -13,6 +13,7 @@ mod told;
 mod values;
 mod wrong;
 
+pub use address::is_address;
 pub use fault::{Cause, StartOption};
 pub use read::read_start;
 pub use settings::StartSettings;

@@ -5,6 +5,7 @@ use Rattle.part_threads.proofs.Crossing.{lookout_send}
 use Rattle.metrics_pages.proofs.pages.Pages.TheSendSync as pages
 use Rattle.etcd_proxy.proofs.shown.TellerOf.TheSendSync as teller
 use Rattle.etcd_proxy.proofs.system.SystemOf.TheSendSync as system
+use Rattle.etcd_proxy.proofs.shop.ShopSystem.TheSendSync as shop
 use Rattle.etcd_proxy.proofs.main.Goals as goal
 
 pub begin_all-requires-in-Ok-enders_of-2-send-W : goal.begin_all-requires-in-Ok-enders_of-2-send-W
@@ -12,3 +13,6 @@ begin_all-requires-in-Ok-enders_of-2-send-W g c κs = search (sendable, crosses,
 
 pub spawner_of-requires-send-E : goal.spawner_of-requires-send-E
 spawner_of-requires-send-E g c κs = search (sendable, crosses, system.the_send, lookout_send) depth 20
+
+pub shops_of-requires-send-E : goal.shops_of-requires-send-E
+shops_of-requires-send-E g c κs = search (sendable, crosses, shop.the_send) depth 20

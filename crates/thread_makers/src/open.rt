@@ -4,13 +4,13 @@ use std::sync::atomic::AtomicU64;
 use std::sync::atomic::Ordering::SeqCst;
 
 /// One of the connections that are open.
-pub(crate) struct Open {
+pub struct Open {
     count: Arc<AtomicU64, Global>,
 }
 
 impl Open {
     /// Counts one more, or nothing where there are `most` already.
-    pub(crate) fn count(count: &Arc<AtomicU64, Global>, most: u64) -> Option<Open> {
+    pub fn count(count: &Arc<AtomicU64, Global>, most: u64) -> Option<Open> {
         let count = Arc::try_clone(count).ok()?;
         let before = count.fetch_add(1, SeqCst);
         let open = Open { count };

@@ -4,14 +4,14 @@ use std::sync::{Arc, Condvar, Mutex, Wait};
 
 /// What one thread lays for another.
 #[derive(Drop)]
-pub(crate) struct Handover<T> {
+pub struct Handover<T> {
     laid: Mutex<Option<T>>,
     told: Condvar,
 }
 
 impl<T: Drop> Handover<T> {
     /// Nothing laid yet, for two threads.
-    pub(crate) fn new(
+    pub fn new(
         alloc: Global,
     ) -> Result<(Arc<Handover<T>, Global>, Arc<Handover<T>, Global>), NoMemory> {
         let one = Arc::new(
@@ -26,7 +26,7 @@ impl<T: Drop> Handover<T> {
     }
 
     /// Lays a thing, once none lies there.
-    pub(crate) fn lay<R: Wait>(&self, rt: &R, thing: T) {
+    pub fn lay<R: Wait>(&self, rt: &R, thing: T) {
         let mut laid = self.laid.lock(rt);
         for _ in rt.forever() {
             if laid.is_none() {
@@ -42,7 +42,7 @@ impl<T: Drop> Handover<T> {
 
     /// Takes what is laid, once it is. Its frame is gone while the part runs.
     #[inline(never)]
-    pub(crate) fn take<R: Wait>(&self, rt: &R) -> T {
+    pub fn take<R: Wait>(&self, rt: &R) -> T {
         let mut laid = self.laid.lock(rt);
         for _ in rt.forever() {
             if let Some(thing) = (*laid).take() {

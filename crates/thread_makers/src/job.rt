@@ -1,5 +1,5 @@
+use crate::duty::Duty;
 use crate::handover::Handover;
-use crate::load::Duty;
 use etcd_types::NoMemory;
 use jiff::Timestamp;
 use std::alloc::Global;
@@ -18,21 +18,22 @@ const LINES_MS: u64 = 1_000;
 const CONNECTION_STACK_BYTES: usize = 1_048_576;
 
 /// What a thread does with a `P` and a `Q`.
-pub(crate) trait Work<R, P, Q>: Drop {
+pub trait Work<R, P, Q>: Drop {
+    /// Does it.
     fn work(self, rt: &R, with: P, load: Q);
 }
 
 /// What makes the work of one thread after another.
-pub(crate) trait Equips<W>: Drop {
+pub trait Equips<W>: Drop {
     /// The work of a thread of this duty, or nothing where some of it can't be had.
     fn equip(&self, duty: Duty) -> Option<W>;
 }
 
 /// Where what a thread works with is laid.
 #[derive(Drop)]
-pub(crate) struct Desk<P, Q> {
-    pub(crate) with: Arc<Handover<P>, Global>,
-    pub(crate) load: Arc<Handover<Q>, Global>,
+pub struct Desk<P, Q> {
+    pub with: Arc<Handover<P>, Global>,
+    pub load: Arc<Handover<Q>, Global>,
 }
 
 /// How a thread of this duty begins.
@@ -81,7 +82,7 @@ fn is_over<R: Times>(rt: &R, then: Option<Duration>) -> bool {
 
 /// Who waits for a thread, and is told of its desk.
 #[derive(Drop)]
-pub(crate) struct Ask<P, Q> {
+pub struct Ask<P, Q> {
     /// What the thread is for.
     duty: Duty,
     desk: Arc<Handover<Option<Desk<P, Q>>>, Global>,
@@ -117,12 +118,12 @@ fn make_threads<
 
 /// What makes threads, in a thread of its own: a spawner of parts asks it for one.
 #[derive(Drop)]
-pub(crate) struct Maker<P, Q> {
+pub struct Maker<P, Q> {
     asked: Arc<Handover<Ask<P, Q>>, Global>,
 }
 
 /// A maker of threads with this equipment that has made none, or nothing where no thread can be made for it, which is told.
-pub(crate) fn begin_making<
+pub fn begin_making<
     R: Threads + Wait + Times + Eprint + Copy + Send + 'static,
     P: Drop + Send + 'static,
     Q: Drop + Send + 'static,
@@ -143,13 +144,14 @@ pub(crate) fn begin_making<
 }
 
 impl<P: Drop, Q: Drop> Maker<P, Q> {
-    pub(crate) fn another(&self) -> Result<Maker<P, Q>, NoMemory> {
+    /// The same, for a further spawner.
+    pub fn another(&self) -> Result<Maker<P, Q>, NoMemory> {
         let asked = Arc::try_clone(&self.asked)?;
         Ok(Maker { asked })
     }
 
     /// The desk of a new thread of this duty, or nothing where none can be made.
-    pub(crate) fn desk<R: Wait>(&self, rt: &R, alloc: Global, duty: Duty) -> Option<Desk<P, Q>> {
+    pub fn desk<R: Wait>(&self, rt: &R, alloc: Global, duty: Duty) -> Option<Desk<P, Q>> {
         let (ours, theirs) = Handover::<Option<Desk<P, Q>>>::new(alloc).ok()?;
         let ask = Ask { duty, desk: theirs };
         self.asked.lay(rt, ask);
