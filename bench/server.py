@@ -1,5 +1,5 @@
 #!/usr/bin/env python3
-"""What bench/server.sh measures."""
+"""What bench/server.sh measures, and how: bench/store_server.py measures by it too."""
 import json, os, re, resource, select, shutil, socket, struct, subprocess, sys, tempfile, time
 
 sys.path.insert(0, os.path.join(os.path.dirname(os.path.abspath(__file__)), "..", "tests"))
@@ -268,13 +268,19 @@ def readings(all_watches, proxy):
     return reply, last
 
 
-def watches(cluster, proxy, count, milliseconds):
-    before = sized(proxy.process.pid)
+def begun(proxy, count):
+    """So many equal watches."""
     all_watches = [Watch(proxy.port, {"key": text64("w/"), "range_end": text64("w0")}) for _ in range(count)]
     watched(all_watches, lambda: all(w.created for w in all_watches), 60, "all watches are created")
-    after = sized(proxy.process.pid)
     for watch in all_watches:
         watch.socket.setsockopt(socket.SOL_SOCKET, STAMPED, 1)
+    return all_watches
+
+
+def watches(cluster, proxy, count, milliseconds):
+    before = sized(proxy.process.pid)
+    all_watches = begun(proxy, count)
+    after = sized(proxy.process.pid)
     came, host = quietest(PUTS, lambda: arrival(all_watches, proxy), lambda one: one[2])
     first, last = Took(one[0] for one in came), Took(one[1] for one in came)
     used = processor_time([proxy.process.pid])
@@ -347,8 +353,14 @@ def main():
             one.stop()
         cluster.stop()
         shutil.rmtree(folder, ignore_errors=True)
+    return judged()
+
+
+def judged():
+    """Says which marks are missed. The status."""
     print(f"marks missed: {'; '.join(MISSED)}" if MISSED else "all marks are met")
     return 1 if MISSED else 0
 
 
-sys.exit(main())
+if __name__ == "__main__":
+    sys.exit(main())

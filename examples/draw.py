@@ -1,15 +1,18 @@
 #!/usr/bin/env python3
 """Draws a transcript of `replay` as a picture (SVG).
 
-    python3 draw.py < TRANSCRIPT > PICTURE.svg
+    python3 draw.py [--refused N] < TRANSCRIPT > PICTURE.svg
 
 Time runs down. Each proxy has a column and the store has one; beside a proxy's column stands what its clients asked and were
 told. An arrow leads from where a call was sent to where the store executed it, and from there to where its answer was
 delivered; likewise for the openings of streams and their messages. What was lost, or never came, ends in a cross.
 It reads the transcript alone: the grammar of its lines is that of docs/FORMATS.md.
+
+With `--refused N`, where `audit` refuses line N, that line is marked. Those behind it aren't drawn, since nothing is known of them.
 """
 import math
 import sys
+from copy import deepcopy
 from dataclasses import dataclass
 from urllib.parse import unquote
 from xml.sax.saxutils import escape
@@ -17,6 +20,7 @@ from xml.sax.saxutils import escape
 ROW, SPACING, MARGIN, TOP = 30, 380, 430, 70
 LONGEST = 48  # characters of a label; the whole text is its tooltip
 STORE = "store"
+FAULTS = (ValueError, TypeError, KeyError, IndexError, ZeroDivisionError)  # of a line that is no item, or isn't in order
 
 STYLE = """
 text { font: 12px monospace; fill: #222; }
@@ -28,6 +32,8 @@ text { font: 12px monospace; fill: #222; }
 .arrow { stroke-width: 1.5; fill: none; }
 .cross { stroke: #b03030; stroke-width: 2; }
 .uncalled { fill: #2a7f3f; font-weight: bold; } .asked { fill: #1f5fa8; } .told, .taken { fill: #222; } .event { fill: #777; }
+"""
+REFUSED_STYLE = """.refused { fill: #b03030; font-weight: bold; } .band { fill: #f8d7d7; }
 """
 
 
@@ -68,6 +74,7 @@ class Picture:
         self.proxies, self.arrows, self.notes = [], [], []
         self.calls, self.streams, self.messages = {}, {}, {}
         self.named = set()  # tickets that a sent call names, by proxy
+        self.refused = None  # the row of the refused line, and its text
 
     def note(self, kind, column, text):
         self.notes.append(Note(kind, column, self.row, text))
@@ -254,17 +261,24 @@ class Drawing:
         self.parts.append(f'<circle class="{note.kind}" cx="{x}" cy="{y}" r="3"/>')
         self.text(x - 10 if left else x + 10, y + 4, note.kind, "end" if left else "start", note.text)
 
+    def band(self, row, text):
+        self.parts.append(f'<rect class="band" x="0" y="{self.y(row) - ROW / 2:.0f}" width="{self.width}" height="{ROW}"/>')
+        self.text(10, self.y(row) + 4, "refused", "start", text)
+
     def svg(self):
+        if self.picture.refused:
+            self.band(*self.picture.refused)
         for name in self.columns:
             self.column(name)
         for arrow in self.picture.arrows:
             self.arrow(arrow)
         for note in self.picture.notes:
             self.note(note)
+        style = STYLE + (REFUSED_STYLE if self.picture.refused else "")
         return "\n".join(
             [
                 f'<svg xmlns="http://www.w3.org/2000/svg" width="{self.width}" height="{self.height}">',
-                f"<title>{escape(self.picture.title)}</title><style>{STYLE}</style>",
+                f"<title>{escape(self.picture.title)}</title><style>{style}</style>",
                 '<marker id="tip" viewBox="0 0 8 8" refX="8" refY="4" markerWidth="8" markerHeight="8" orient="auto">',
                 '<path d="M0 0L8 4L0 8z" fill="context-stroke"/></marker>',
                 '<rect width="100%" height="100%" fill="white"/>',
@@ -275,16 +289,40 @@ class Drawing:
         )
 
 
-def main():
+def with_refused(picture, number, line):
+    """The picture with this line marked, which an audit refuses. Where it can be drawn it is; else it has the mark alone."""
+    tried = deepcopy(picture)
+    try:
+        tried.read(line)
+        drawn = deepcopy(tried)
+        drawn.finish()
+        Drawing(drawn).svg()
+    except FAULTS:
+        tried = picture
+        tried.row += 1
+    tried.row = max(tried.row, 1)
+    tried.refused = (tried.row, f"line {number}: {readable(line.split(' '))}")
+    return tried
+
+
+def main(words):
+    refused = None
+    if len(words) == 2 and words[0] == "--refused" and words[1].isdecimal():
+        refused = int(words[1])
+    elif words:
+        sys.exit("usage: draw.py [--refused N] < TRANSCRIPT > PICTURE.svg")
     picture = Picture()
     for number, line in enumerate(sys.stdin.read().splitlines(), 1):
+        if number == refused:
+            picture = with_refused(picture, number, line)
+            break
         try:
             picture.read(line)
-        except (ValueError, TypeError, KeyError, IndexError) as fault:
+        except FAULTS as fault:
             sys.exit(f"draw.py: line {number} is no item of a transcript: {line[:80]} ({fault})")
     picture.finish()
     print(Drawing(picture).svg())
 
 
 if __name__ == "__main__":
-    main()
+    main(sys.argv[1:])

@@ -1,7 +1,7 @@
 #!/usr/bin/env python3
 """Tries the proxy before a cluster of three real etcd members on loopback.
 
-usage: cluster.py PROGRAM [--short] [PART ..]
+usage: cluster.py PROGRAM [--short] [--store] [PART ..]
 
 PROGRAM is the built etcd_proxy. The parts, all of them where none is named, in this order:
 
@@ -59,6 +59,12 @@ down       with all members down cached reads go on to the session's end, and al
 
 --short is what the gate runs: the first four and `clients`, and beside them `quiet`, `quiet_links` and `quiet_owner`, with smaller numbers and with patience
 for a busy machine.
+
+--store has the program's own small store (`etcd_proxy store ADDRESS`) in the members' place. Then the parts are `answers`, of the store through proxies and
+by itself, beside an etcd; `truth`, `watches` and `canceled`, where no member fails; and, without --short,
+
+store_clients
+           curl, and the tests of Debian's python3-etcd3gw, at the store itself
 """
 import base64, bisect, contextlib, heapq, http.client, http.server, itertools, json, os, random, re, resource
 import select, selectors, shutil, signal, socket, subprocess, sys, tempfile, threading, time, types
@@ -113,6 +119,9 @@ def post(port, path, body, timeout=10):
 
 class Cluster:
     """Members of etcd, numbered from 0."""
+
+    # They may be killed and stopped, others go on, and etcd's own tools know them.
+    is_etcd = True
 
     def __init__(self, folder, count=3):
         self.folder = folder
@@ -198,6 +207,27 @@ class Cluster:
             if process.poll() is None:
                 process.kill()
                 process.wait()
+
+
+class Store(Cluster):
+    """The program's own small store in the members' place."""
+
+    is_etcd = False
+
+    def __init__(self, folder, program):
+        self.program = program
+        super().__init__(folder, 1)
+
+    def start(self, number):
+        with open(f"{self.folder}/store.told", "ab") as told:
+            self.processes[number] = subprocess.Popen([self.program, "store", f"127.0.0.1:{self.ports[number]}"],
+                                                      stdin=subprocess.DEVNULL, stdout=told, stderr=told)
+
+    def watchers(self):
+        """It doesn't count its watchers."""
+
+    def unwatched(self):
+        pass
 
 
 # how a line of the program begins, but those on what it serves and on why it ended
@@ -411,6 +441,17 @@ def unnumbered(value):
     return [unnumbered(v) for v in value] if isinstance(value, list) else value
 
 
+def likened(value):
+    """A value without what the small store tells otherwise than etcd: its cluster's number, and the header of a cancellation, in which etcd has no revision."""
+    if isinstance(value, dict):
+        return {n: likened(v) for n, v in value.items() if n != "cluster_id" and not (n == "header" and "canceled" in value)}
+    return [likened(v) for v in value] if isinstance(value, list) else value
+
+
+# The small store sorts by rising keys alone, and doesn't filter by revisions.
+UNSORTED = (501, {"code": 12, "message": "store: unsupported"})
+
+
 def told_whole(member, port, number, past):
     """What a proxy told where no call of its was lost: a member may take longer than a call may, which its clients are told by code 14."""
     for attempt in range(3):
@@ -421,20 +462,36 @@ def told_whole(member, port, number, past):
     return told
 
 
+def alike(name, told, past, seen):
+    """What was told is what was told past it. How many of the calls the small store refused that etcd doesn't."""
+    refused = 0
+    for (path, body, status, answer), (_, _, wanted, theirs) in zip(told.rows, past.rows):
+        if (status, answer) == UNSORTED:
+            refused += 1
+            continue
+        # The status of a code is the proxy's own; those of code 9 differ between releases of the cluster.
+        check(seen(answer) == seen(theirs) and (status == wanted or theirs.get("code") == 9),
+              f"{path} {json.dumps(body)}:\n  through {name} {status} {json.dumps(seen(answer))}\n  past it {wanted} {json.dumps(seen(theirs))}")
+    return refused
+
+
 def answers(world):
-    """Each path answers the same through a proxy and past it."""
-    proxies = [("the proxy", world.proxy("plain", ttl=60), lambda v: v), ("the proxy with a namespace", world.proxy("named", "--namespace=n/", ttl=60), lambda v: v),
-               ("the proxy that leases", world.proxy("leasing", f"--leasing-prefix={LEASING}", ttl=60), unnumbered)]
-    member = world.cluster.ports[0]
-    past = Told(member, member, "G/", 1_000_000)
-    for number, (name, proxy, seen) in enumerate(proxies):
-        told = told_whole(member, proxy.port, number, past)
-        for (path, body, status, answer), (_, _, wanted, theirs) in zip(told.rows, past.rows):
-            # The status of a code is the proxy's own; those of code 9 differ between releases of the cluster.
-            check(seen(answer) == seen(theirs) and (status == wanted or theirs.get("code") == 9),
-                  f"{path} {json.dumps(body)}:\n  through {name} {status} {json.dumps(seen(answer))}\n  past it {wanted} {json.dumps(seen(theirs))}")
+    """Each path answers the same through a proxy and past it, where etcd answers."""
+    is_etcd, member = world.cluster.is_etcd, world.cluster.ports[0]
+    whole = (lambda value: value) if is_etcd else likened
+    # who leases comes last, since it writes when it likes
+    proxies = [("the proxy", [], whole), ("the proxy with a namespace", ["--namespace=n/"], whole),
+               ("the proxy that leases", [f"--leasing-prefix={LEASING}"], lambda value: unnumbered(whole(value)))]
+    with world.etcd() as other:
+        past = Told(other, other, "G/", 1_000_000)
+    refused = set() if is_etcd else {alike("nothing", told_whole(member, member, len(proxies), past), past, whole)}
+    for number, (name, options, seen) in enumerate(proxies):
+        proxy = world.proxy(f"answers{number}", *options, ttl=60)
+        refused.add(alike(name, told_whole(member, proxy.port, number, past), past, seen))
         proxy.stop()
-    print(f"answers: {len(past.rows)} calls answer the same past the proxies and through each of {len(proxies)}")
+    check(refused == {0 if is_etcd else 2}, f"so many ranges that are sorted or filtered were refused: {refused}")
+    also = "" if is_etcd else ", and by the store itself, but for two that it refuses"
+    print(f"answers: {len(past.rows)} calls answer the same past the proxies and through each of {len(proxies)}{also}")
 
 
 # ---- one order of all that clients were told, by the cluster's own history
@@ -803,13 +860,15 @@ def troubles(world, trial, chance):
 
     def compacted(number):
         cluster.compact(trial.history.next - 1)
-        subprocess.run(["etcdctl", f"--endpoints=127.0.0.1:{cluster.ports[number]}", "defrag"], capture_output=True,
-                       env={**os.environ, "ETCDCTL_API": "3"})
+        if cluster.is_etcd:
+            subprocess.run(["etcdctl", f"--endpoints=127.0.0.1:{cluster.ports[number]}", "defrag"], capture_output=True,
+                           env={**os.environ, "ETCDCTL_API": "3"})
 
     happened, kinds = [], []
+    all_kinds = [proxy_dies, proxy_rests, compacted, *([member_dies, member_rests] if cluster.is_etcd else [])]
     while not ended.wait(1):
         # each kind once before any comes again
-        kinds = kinds or chance.sample([proxy_dies, proxy_rests, member_dies, member_rests, compacted], 5)
+        kinds = kinds or chance.sample(all_kinds, len(all_kinds))
         what = kinds.pop()
         what(chance.choice(trial.proxies) if what in (proxy_dies, proxy_rests) else chance.randrange(len(cluster.ports)))
         happened.append(what.__name__)
@@ -1024,14 +1083,14 @@ def watches(world):
     world.cluster.unwatched()
     all_watches = [Watch(proxy.port, {"key": text64("w/"), "range_end": text64("w0")}) for _ in range(count)]
     watched(all_watches, lambda: all(w.created for w in all_watches), 30, "all watches are created")
-    check(world.cluster.watchers() == 1, f"{count} equal watches: {world.cluster.watchers()} watchers")
+    check(world.cluster.watchers() in (1, None), f"{count} equal watches: {world.cluster.watchers()} watchers")
     written = []
     for number in range(20):
         value = f"value {number}"
         written.append((put(proxy, f"w/{number % 3}", value), value))
-        if number == 7:
+        if number == 7 and world.cluster.is_etcd:
             world.cluster.kill(1)
-        if number == 14:
+        if number == 14 and world.cluster.is_etcd:
             world.cluster.start(1)
     last = written[-1]
     watched(all_watches, lambda: all(w.events and w.events[-1][0] >= last[0] for w in all_watches), 60, "all events come")
@@ -1041,11 +1100,12 @@ def watches(world):
         check(revisions == sorted(set(revisions)), f"a watch received {watch.events}")
         check(set(written) <= set(watch.events), f"a watch received {watch.events}, and {written} was written")
         check(watch.events == all_watches[0].events and watch.created == 1 and not watch.ended, "two equal watches received other events")
-    until(lambda: all(world.cluster.answers(n) for n in range(3)), 30, "the members answer")
+    until(lambda: all(map(world.cluster.answers, range(len(world.cluster.ports)))), 30, "the members answer")
     for watch in all_watches:
         watch.socket.close()
     proxy.stop()
-    print(f"watches: {count} equal watches were one watcher; each received {len(all_watches[0].events)} events once and in order")
+    shared = "were one watcher" if world.cluster.is_etcd else "were begun"
+    print(f"watches: {count} equal watches {shared}; each received {len(all_watches[0].events)} events once and in order")
 
 
 # ---- at rest
@@ -2344,6 +2404,14 @@ def real_clients(world):
     print("real_clients: all that is here was served")
 
 
+def store_clients(world):
+    """curl, and clients that others wrote, at the small store itself."""
+    words = [os.path.join(os.path.dirname(os.path.abspath(__file__)), "real_clients.py"), "store", str(world.cluster.ports[0])]
+    told = subprocess.run([sys.executable, *words], env={**os.environ, "PATIENCE": str(PATIENCE)})
+    check(told.returncode == 0, "a client wasn't served")
+    print("store_clients: all that is here was served")
+
+
 def down(world):
     """With all members down a cached read is answered up to the session's end, and nothing else is."""
     proxy, cluster = world.proxy("down", f"--leasing-prefix={LEASING}"), world.cluster
@@ -2381,12 +2449,25 @@ def in_memory():
 class World:
     """What the parts stand on."""
 
-    def __init__(self, program, short, folder=None, cluster=None):
+    def __init__(self, program, short, folder=None, cluster=None, is_store=False):
         self.program, self.short, self.ttl = program, short, 5
         self.seed = int(os.environ.get("SEED", time.time()))
         self.folder = folder or tempfile.mkdtemp(prefix="etcd-proxy-", dir=in_memory())
         self.proxies = []
-        self.cluster = cluster or Cluster(self.folder)
+        self.cluster = cluster or (Store(self.folder, program) if is_store else Cluster(self.folder))
+
+    @contextlib.contextmanager
+    def etcd(self):
+        """The port of a member of etcd: of one of its own where the cluster is none."""
+        if self.cluster.is_etcd:
+            yield self.cluster.ports[0]
+            return
+        folder = tempfile.mkdtemp(prefix="etcd-", dir=self.folder)
+        cluster = Cluster(folder, 1)
+        try:
+            yield cluster.ports[0]
+        finally:
+            cluster.stop()
 
     @contextlib.contextmanager
     def beside(self, name):
@@ -2416,17 +2497,22 @@ PARTS = [answers, truth, links, watches, rest, clients, halves, leavers, cancele
 # what the gate runs; those that stand on clusters of their own beside the others
 SHORT = [[answers, truth, links, watches, clients], [quiet, quiet_links, quiet_owner]]
 
+# what is tried with the small store in the members' place, and what of it the gate runs
+STORE = [answers, truth, watches, canceled, store_clients]
+SHORT_STORE = [answers, truth, watches, canceled]
+
 
 def main(words):
     global PATIENCE
     sys.stdout.reconfigure(line_buffering=True)
     # a shell that starts this in the background has SIGINT ignored, which what is started here would inherit
     signal.signal(signal.SIGINT, signal.default_int_handler)
-    short = "--short" in words
+    short, is_store = "--short" in words, "--store" in words
     PATIENCE *= 4 if short else 1
-    program, *names = [word for word in words if word != "--short"]
-    rows = [[part for part in PARTS if part.__name__ in names]] if names else SHORT if short else [PARTS]
-    world = World(os.path.abspath(program), short)
+    program, *names = [word for word in words if word not in ("--short", "--store")]
+    parts, short_rows = (STORE, [SHORT_STORE]) if is_store else (PARTS, SHORT)
+    rows = [[part for part in parts if part.__name__ in names]] if names else short_rows if short else [parts]
+    world = World(os.path.abspath(program), short, is_store=is_store)
 
     def tried(row):
         for part in row:

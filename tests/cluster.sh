@@ -2,7 +2,9 @@
 # Tries the proxy before three real etcd members on loopback: its answers beside theirs, reads beside all acknowledged writes, and equal watches,
 # while proxies and members are killed, stopped and compacted (tests/cluster.py says what each part asks).
 #
-# usage: tests/cluster.sh PROGRAM [--short] [PART ..]
+# usage: tests/cluster.sh PROGRAM [--short] [--store] [PART ..]
+#
+# With --store the program's own small store is in the members' place, and an etcd beside it.
 #
 # It needs Debian's etcd-server, etcd-client and curl, and python3, and installs them where it may. Where they can't be had it says so, and ends with
 # status 0.

@@ -32,3 +32,13 @@ if python3 "$draw" < "$work/spoiled" > "$work/picture" 2> "$work/told"; then
     exit 1
 fi
 grep -q '^draw.py: line 3 ' "$work/told" || { echo "pictures: $(cat "$work/told")" >&2; exit 1; }
+
+# A refused line is marked, also where it can't be drawn, and those behind it aren't drawn.
+printf 'world 1 ~ ~\nstarted 1\nexecuted 7 ok 1.1.1.1 leases 0\nstarted 2\n' > "$work/refused"
+python3 "$draw" --refused 3 < "$work/refused" > "$work/picture"
+python3 -c 'import sys, xml.dom.minidom; xml.dom.minidom.parse(sys.argv[1])' "$work/picture"
+grep -q 'class="halo refused".*line 3: executed 7 ' "$work/picture" || { echo "pictures: a refused line isn't marked" >&2; exit 1; }
+if grep -q 'proxy 2' "$work/picture"; then
+    echo "pictures: a line behind the refused one is drawn" >&2
+    exit 1
+fi

@@ -2,6 +2,7 @@
 """Clients and fronts that others wrote, unchanged, with running proxies on loopback.
 
 usage: real_clients.py PROGRAM PORT PORT PROCESS PROCESS
+       real_clients.py store PORT
 
 PROGRAM is the built etcd_proxy. Two proxies before one cluster, with one leasing prefix, are at the ports, and have these process numbers. The
 front's settings are the blocks of docs/OPERATIONS.md as they stand there, but for ports and folders. What isn't here and can't be installed isn't
@@ -15,6 +16,8 @@ unit, deployment
            systemd and kubectl read the blocks for them, where they are here
 etcd3gw, patroni
            tests/debian_clients.py
+
+With `store`, curl and etcd3gw ask the program's own small store at the port, with no proxy between; what it doesn't serve isn't asked for.
 """
 import base64, contextlib, json, os, queue, re, shutil, socket, subprocess, sys, tempfile, threading, time
 
@@ -211,8 +214,8 @@ def watched(at, past, key):
     return min(took)
 
 
-def served(name, at, past, large=True):
-    """All that a client asks for is answered here, where `past` is a proxy itself."""
+def called(name, at, past, large=True):
+    """Calls are answered here, where `past` is the server itself."""
     key = f"real/{name}/"
     at.put(key + "a", "1")
     check(at.value(key + "a") == "1" and past.value(key + "a") == "1", f"{name}: a range behind a put")
@@ -224,11 +227,16 @@ def served(name, at, past, large=True):
         at.done("/v3/kv/deleterange", {"key": text64(key + "large")})
     check(at.connects(20) == 1, f"{name}: a connection isn't kept")
     check(at.connects(5, "-H", "Connection: close") == 5, f"{name}: a connection is kept that isn't to be")
+    took = watched(at, past, key + "w")
+    check(took < 0.15 * PATIENCE, f"{name}: a watch is told of a put {took:.2f} s later at the soonest")
+
+
+def served(name, at, past, large=True):
+    """All that a client asks for is answered here, where `past` is a proxy itself."""
+    called(name, at, past, large)
     for path, body in (("/version", b'{"etcdserver":"3.4.0","etcdcluster":"3.4.0"}'), ("/health", b'{"health":"true"}')):
         check(curl(*at.words, at.url + path) == (200, body), f"{name}: GET {path}: {curl(*at.words, at.url + path)}")
         check(curl(*at.words, "-I", at.url + path)[0] == 200, f"{name}: HEAD {path}")
-    took = watched(at, past, key + "w")
-    check(took < 0.15 * PATIENCE, f"{name}: a watch is told of a put {took:.2f} s later at the soonest")
 
 
 class Closing:
@@ -263,13 +271,14 @@ def sent_once(name, at, past, closing):
           f"{name}: {closing.taken} puts were taken and not answered, {version} were done: {told}")
 
 
-# by the proxies with --etcd-errors
+# by the small store, and by the proxies with --etcd-errors
+BARE = (400, {"message": "proxy: bad request", "code": 3})
 REFUSED = (400, {"error": "proxy: bad request", "message": "proxy: bad request", "code": 3})
 
 
-def refused_for_its_version(name, at):
+def refused_for_its_version(name, at, wanted=REFUSED):
     told = at.post("/v3/kv/range", {"key": text64("?")})
-    check(told == REFUSED, f"{name}: HTTP/1.0 is answered {told}")
+    check(told == wanted, f"{name}: HTTP/1.0 is answered {told}")
 
 
 # ---- the proxy itself, and each front
@@ -455,25 +464,49 @@ def try_debian(*words):
     print(told.stdout.splitlines()[-1])
 
 
-def main(program, *numbers):
+# what the small store doesn't serve: what a member tells of itself, and ranges that are sorted otherwise than by rising keys
+UNSERVED = ["test_client_status", "test_client_members", "test_get_prefix_sort_order", "test_get_prefix_sort_order_explicit_sort_target_key",
+            "test_get_prefix_sort_order_explicit_sort_target_rev"]
+
+
+def try_store(port):
+    at = At(f"http://127.0.0.1:{port}")
+    called("curl", at, at)
+    refused_for_its_version("curl", At(at.url, "--http1.0"), BARE)
+    print("curl: the small store served a put of a megabyte, a watch, and connections that were kept or not")
+    try_etcd3gw(port, *UNSERVED)
+
+
+def try_etcd3gw(port, *others):
+    if have("python3-etcd3gw", f"{DEBIAN}/etcd3gw/client.py"):
+        try_debian("etcd3gw", port, *others)
+
+
+def try_proxies(folder, program, *numbers):
     ports, processes = [int(number) for number in numbers[:2]], numbers[2:]
+    try_curl(ports)
+    tls = have("openssl", "openssl")
+    if tls:
+        certificates(folder)
+    if tls and have("nginx-light", "nginx"):
+        try_nginx(folder, ports)
+    if tls and have("haproxy", "haproxy"):
+        try_haproxy(folder, ports)
+    if tls and have("stunnel4", "stunnel4"):
+        try_stunnel(folder, os.path.abspath(program))
+    try_files(folder)
+    try_etcd3gw(ports[0])
+    if have("patroni", f"{DEBIAN}/patroni/dcs/etcd3.py"):
+        try_debian("patroni", *ports, *processes)
+
+
+def main(what, *numbers):
     folder = tempfile.mkdtemp(prefix="real-clients-")
     try:
-        try_curl(ports)
-        tls = have("openssl", "openssl")
-        if tls:
-            certificates(folder)
-        if tls and have("nginx-light", "nginx"):
-            try_nginx(folder, ports)
-        if tls and have("haproxy", "haproxy"):
-            try_haproxy(folder, ports)
-        if tls and have("stunnel4", "stunnel4"):
-            try_stunnel(folder, os.path.abspath(program))
-        try_files(folder)
-        if have("python3-etcd3gw", f"{DEBIAN}/etcd3gw/client.py"):
-            try_debian("etcd3gw", ports[0])
-        if have("patroni", f"{DEBIAN}/patroni/dcs/etcd3.py"):
-            try_debian("patroni", *ports, *processes)
+        if what == "store":
+            try_store(*numbers)
+        else:
+            try_proxies(folder, what, *numbers)
     except (Failure, subprocess.SubprocessError) as failure:
         print(f"real_clients: {failure}", file=sys.stderr)
         return 1

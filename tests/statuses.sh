@@ -23,7 +23,7 @@ comes_to() {
     fi
 }
 
-usage='usage: etcd_proxy replay [--generate N] or audit or grpc-proxy start OPTIONS\n'
+usage='usage: etcd_proxy replay [--generate N] or audit or store ADDRESS or grpc-proxy start OPTIONS\n'
 comes_to '' 'replay' 0 '' ''
 comes_to 'world 1 ~ ~\nstart 1' 'replay' 0 'world 1 ~ ~\nstarted 1\n' ''
 comes_to '' '--version' 0 'etcd_proxy 0.1.0\n' ''
@@ -41,6 +41,9 @@ comes_to '' 'replay --generate 20001' 2 '' "$usage"
 comes_to '' 'replay --generate 1 1' 2 '' "$usage"
 comes_to '' 'replay x' 2 '' "$usage"
 comes_to '' "$(printf '\377')" 2 '' "$usage"
+for words in 'store' 'store 127.0.0.1' 'store 127.0.0.1:0' 'store 127.0.0.1:02379' 'store 127.0.0.1:2379 x'; do
+    comes_to '' "$words" 2 '' "$usage"
+done
 comes_to '' 'grpc-proxy' 2 '' "$usage"
 comes_to '' 'grpc-proxy stop' 2 '' "$usage"
 comes_to '' 'grpc-proxy start' 2 '' "error: the following required arguments were not provided: --endpoints <HOST:PORT,..>\n$usage"
@@ -81,6 +84,13 @@ got=0
 "$program" grpc-proxy start --endpoints=127.0.0.1:2379 --listen-addr=192.0.2.1:9 > "$work/output" 2> "$work/errors" || got=$?
 [ "$got" -eq 7 ] && ! grep -q '^serving' "$work/errors" && grep -q "can't listen on 192.0.2.1:9: " "$work/errors" && grep -q '^listener fault$' "$work/errors" || {
     echo "statuses: an address that can't be listened on: status $got" >&2
+    failures=$((failures + 1))
+}
+
+got=0
+"$program" store 192.0.2.1:9 > "$work/output" 2> "$work/errors" || got=$?
+[ "$got" -eq 7 ] && ! grep -q '^serving' "$work/errors" && grep -q "can't listen on 192.0.2.1:9: " "$work/errors" && [ "$(tail -n 1 "$work/errors")" = 'listener fault' ] || {
+    echo "statuses: an address at which a store can't be served: status $got" >&2
     failures=$((failures + 1))
 }
 
