@@ -1,3 +1,4 @@
+pub mod DeadlineOrder
 pub mod Room
 pub mod Steps
 pub mod Parts

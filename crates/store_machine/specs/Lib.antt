@@ -1,3 +1,4 @@
+pub mod Order
 pub mod Rows
 pub mod Holding
 pub mod Standing

@@ -1,7 +1,9 @@
-ghost use Rattle.std.specs.Prelude.{◌≡◌, ◌≤◌, ◌<◌, ℕ, [], length, insert, remove, map, IfOk, IfSome, IfNone, OnOk};
-ghost use Rattle.shop_model.specs.Deadlines.{with_deadline, without_deadline, put_off, due, ends_at};
+ghost use Rattle.std.specs.Prelude.{◌≡◌, ◌+◌, ◌≤◌, ◌<◌, ℕ, nat_lt, true, [], length, insert, remove, map, vec_len, IfOk, IfSome, IfNone, OnOk};
+ghost use Rattle.std.specs.Vec.{vec_capacity};
+ghost use Rattle.shop_model.specs.Deadlines.{deadline_number, with_deadline, without_deadline, put_off, due, ends_at};
 ghost use Rattle.shop_model.specs.Steps.{after_grant, after_keepalive, deadlines_after};
-ghost use Rattle.store_machine.specs.Rows.{rows, HasSpare};
+ghost use Rattle.store_world.specs.Rising.{AreRising, place_in};
+ghost use Rattle.store_machine.specs.Order.{are_rising, are_from};
 
 use etcd_types::{Answer, Body, List, NoMemory, Request};
 use shop_model::Deadline;
@@ -11,14 +13,21 @@ use std::alloc::Global;
 #[derive(Drop)]
 pub(crate) struct Deadlines {
     items: Vec<Deadline>,
+    /// No deadline comes before this reading of the clock, so until then none is looked at.
+    soonest: u64,
+    ghost rising: { are_rising items.items ≡ true },
+    ghost none_before: { are_from soonest items.items ≡ true },
 }
 
 impl Deadlines {
+    ghost use Rattle.store_machine.specs.Rows.{rows, HasSpare};
+
     pub(crate) fn new(alloc: Global) -> Deadlines
         ensures { rows result ≡ [] }
     {
         Deadlines {
             items: Vec::new(alloc),
+            soonest: u64::MAX,
         }
     }
 
@@ -30,7 +39,16 @@ impl Deadlines {
 
     /// Whether a lease is due.
     pub(crate) fn has_due(&self, now: u64) -> bool {
-        self.items.iter().any(|deadline| deadline.at <= now)
+        self.soonest <= now && self.items.iter().any(|deadline| deadline.at <= now)
+    }
+
+    /// Notes anew when the first deadline comes, where it may have come.
+    pub(crate) fn look(&mut self, now: u64)
+        ensures { rows self.new ≡ rows self.old }
+    {
+        if self.soonest <= now {
+            self.soonest = soonest(self.items.as_slice());
+        }
     }
 
     /// The leases that are due, by rising numbers. It takes no memory where none is.
@@ -38,6 +56,9 @@ impl Deadlines {
         ensures { IfOk result (λ numbers. numbers ≡ due now (rows self.now)) }
     {
         let mut numbers = List::new(alloc);
+        if now < self.soonest {
+            return Ok(numbers);
+        }
         for deadline in &self.items {
             if deadline.at <= now {
                 numbers.push(deadline.number)?;
@@ -100,13 +121,13 @@ impl Deadlines {
         }
     }
 
-    /// Puts the deadline in its place, in the room that was made.
+    /// One more, in the room that was made.
     fn add(&mut self, deadline: Deadline)
         requires { HasSpare self.old }
         ensures { rows self.new ≡ with_deadline deadline (rows self.old) }
     {
-        let place = place_of(self.items.as_slice(), deadline.number);
-        self.items.insert(place, deadline).unwrap();
+        self.soonest = self.soonest.min(deadline.at);
+        put(&mut self.items, deadline);
     }
 
     pub(crate) fn remove(&mut self, number: u64)
@@ -125,12 +146,25 @@ fn ends_at(now: u64, ttl: u64) -> u64
     now.saturating_add(ttl.saturating_mul(1000))
 }
 
+/// Puts the deadline in its place, in the room that was made.
+fn put(deadlines: &mut Vec<Deadline>, deadline: Deadline)
+    requires spare { vec_len deadlines.old + 1 ≤ vec_capacity deadlines.old }
+    requires rising { AreRising deadline_number deadlines.old.items }
+    ensures { deadlines.new.items ≡ with_deadline deadline deadlines.old.items }
+{
+    let place = place_of(deadlines.as_slice(), deadline.number);
+    deadlines.insert(place, deadline).unwrap();
+}
+
 /// The lease of this number expires not before this reading of the clock.
 fn put_off(deadlines: &mut Vec<Deadline>, number: u64, at: u64)
+    requires { AreRising deadline_number deadlines.old.items }
     ensures { deadlines.new.items ≡ map (put_off number at) deadlines.old.items }
 {
-    for deadline in deadlines.iter_mut() {
-        put_off_one(deadline, number, at);
+    let mut place = place_of(deadlines.as_slice(), number);
+    while place < deadlines.len() && deadlines[place].number == number {
+        put_off_one(&mut deadlines[place], number, at);
+        place += 1;
     }
 }
 
@@ -142,29 +176,44 @@ fn put_off_one(deadline: &mut Deadline, number: u64, at: u64)
     }
 }
 
-/// The place of a number among rising ones.
-fn place_of(deadlines: &[Deadline], number: u64) -> usize
-    ensures within { result ≤ length deadlines.now }
-    ensures place { (at : ℕ) → with_deadline (record { number = number; at = at }) deadlines.now ≡ insert deadlines.now result (record { number = number; at = at }) }
+/// A reading of the clock that none of them comes before.
+fn soonest(deadlines: &[Deadline]) -> u64
+    ensures { are_from result deadlines.now ≡ true }
 {
-    for (index, deadline) in deadlines.iter().enumerate() {
-        if number <= deadline.number {
-            return index;
-        }
+    let mut soonest = u64::MAX;
+    for deadline in deadlines {
+        soonest = soonest.min(deadline.at);
     }
-    deadlines.len()
+    soonest
+}
+
+/// The place of a number among rising ones, behind all lower ones.
+fn place_of(deadlines: &[Deadline], number: u64) -> usize
+    requires { AreRising deadline_number deadlines.now }
+    ensures within { result ≤ length deadlines.now }
+    ensures place { result ≡ place_in deadline_number number deadlines.now }
+    ensures goes { (at : ℕ) → with_deadline (record { number = number; at = at }) deadlines.now ≡ insert deadlines.now result (record { number = number; at = at }) }
+{
+    deadlines.partition_point(
+        |deadline: &Deadline| -> bool
+            ensures { result ≡ nat_lt deadline.now.number number }
+        { deadline.number < number },
+    )
 }
 
 /// Where the deadline of the lease of this number is.
 fn place_found(deadlines: &[Deadline], number: u64) -> Option<usize>
+    requires { AreRising deadline_number deadlines.now }
     ensures within { IfSome result (λ place. place < length deadlines.now) }
     ensures found { IfSome result (λ place. without_deadline number deadlines.now ≡ remove deadlines.now place) }
     ensures none { IfNone result (without_deadline number deadlines.now ≡ deadlines.now) }
 {
-    for (index, deadline) in deadlines.iter().enumerate() {
-        if deadline.number == number {
-            return Some(index);
-        }
+    let place = place_of(deadlines, number);
+    let Some(found) = deadlines.get(place) else {
+        return None;
+    };
+    if found.number != number {
+        return None;
     }
-    None
+    Some(place)
 }

@@ -1,64 +1,30 @@
 // Whom a step gave something to take. No clause speaks of it: waking too many costs time, and who is not woken rests on until a later
 // step wakes it, or for ten seconds.
 
-use etcd_types::{Answer, Bytes, KeyRange, NoMemory, Op, Request};
-use outside::{CREWS, LOT_WORDS, Roused};
+use crate::lots::Lots;
+use crate::watchers::Watchers;
+use etcd_types::{Answer, Bytes, KeyRange, Op, Request};
+use outside::Roused;
 use shop_model::{StoreEvent, StoreOutcome, StoreStepFault};
 use std::alloc::Global;
-use std::collections::BTreeMap;
+use std::mem;
+use store_world::Store;
 
-/// The lot in which the pass of a watch rests.
-pub fn lot_of_watch(number: u64) -> u32 {
-    (number % u64::from(CREWS)) as u32
-}
+/// How long a period is, in milliseconds: three times as long as a pass rests at most. So a watch that is still followed asked for a
+/// message in this period or in the one before.
+const PERIOD_MS: u64 = 30_000;
 
-/// A set of lots, with a bit for each.
-#[derive(Clone, Copy, Debug)]
-struct Lots {
-    words: [u64; LOT_WORDS as usize],
-}
-
-impl Lots {
-    fn none() -> Lots {
-        Lots {
-            words: [0; LOT_WORDS as usize],
-        }
-    }
-
-    fn add(&mut self, lot: u32) {
-        if let Some(word) = self.words.get_mut((lot / 64) as usize) {
-            *word |= 1u64.wrapping_shl(lot);
-        }
-    }
-
-    fn add_all(&mut self, others: &Lots) {
-        for (number, word) in self.words.iter_mut().enumerate() {
-            *word |= others.word(number as u32);
-        }
-    }
-
-    fn word(&self, number: u32) -> u64 {
-        self.words.get(number as usize).copied().unwrap_or(0)
-    }
-}
-
-/// The watches of a range of more keys than one.
-#[derive(Drop)]
-struct Followed {
-    range: KeyRange,
-    lots: Lots,
-}
-
-/// In which lots the watches rest that follow a key, and whom the last step roused.
+/// In which lots the watches rest that follow a key, and whom the last step roused. A watch that asks for no more messages is
+/// forgotten with the period in which it last did.
 #[derive(Drop)]
 pub(crate) struct Followers {
     alloc: Global,
-    /// The watches of one key.
-    keys: BTreeMap<Bytes, Lots>,
-    /// The watches of more keys, a row for each range.
-    ranges: Vec<Followed>,
-    /// Whether memory was wanting to note a watch. Each change rouses everybody then.
-    unknown: bool,
+    /// The watches of this period.
+    now: Watchers,
+    /// Those of the one before.
+    before: Watchers,
+    /// When this period ends, by the clock of the steps.
+    until: u64,
     roused: Roused,
     lots: Lots,
 }
@@ -67,9 +33,9 @@ impl Followers {
     pub(crate) fn new(alloc: Global) -> Followers {
         Followers {
             alloc,
-            keys: BTreeMap::new(alloc),
-            ranges: Vec::new(alloc),
-            unknown: false,
+            now: Watchers::new(alloc),
+            before: Watchers::new(alloc),
+            until: 0,
             roused: Roused::Nobody,
             lots: Lots::none(),
         }
@@ -83,15 +49,18 @@ impl Followers {
         self.lots.word(number)
     }
 
-    /// Notes whom a step roused, before which leases may have expired.
+    /// Notes whom a step of the store roused, before which leases may have expired.
     pub(crate) fn note(
         &mut self,
+        store: &Store,
         event: &StoreEvent,
+        now: u64,
         answer: &Result<StoreOutcome, StoreStepFault>,
         expired: bool,
     ) {
         self.roused = Roused::Nobody;
         self.lots = Lots::none();
+        self.end_period(now);
         match event {
             StoreEvent::Exec(request) => {
                 if matches!(answer, Ok(StoreOutcome::Answer(Answer::Done(_)))) {
@@ -100,13 +69,32 @@ impl Followers {
             }
             StoreEvent::Open(ask) => {
                 if let Ok(StoreOutcome::Opened(number)) = answer {
-                    self.follow(&ask.range, lot_of_watch(*number));
+                    self.now.follow(*number, &ask.range);
                 }
             }
-            StoreEvent::Push(_) => {}
+            StoreEvent::Push(number) => self.keep(store, *number),
         }
         if expired {
             self.roused = Roused::Everybody;
+        }
+    }
+
+    /// Begins a new period where this one is over.
+    fn end_period(&mut self, now: u64) {
+        if now < self.until {
+            return;
+        }
+        self.until = now.saturating_add(PERIOD_MS);
+        self.before = mem::replace(&mut self.now, Watchers::new(self.alloc));
+    }
+
+    /// Notes that the watch of this number still asks for messages.
+    fn keep(&mut self, store: &Store, number: u64) {
+        if self.now.has(number) {
+            return;
+        }
+        if let Some(range) = store.watched(number) {
+            self.now.follow(number, range);
         }
     }
 
@@ -150,56 +138,15 @@ impl Followers {
 
     /// Rouses the watches of the key.
     fn rouse_key(&mut self, key: &Bytes) {
-        if self.unknown {
-            self.roused = Roused::Everybody;
-            return;
-        }
-        let mut lots = self.lots;
-        if let Some(followers) = self.keys.get(key) {
-            lots.add_all(followers);
-        }
-        for followed in &self.ranges {
-            if followed.range.contains(key) {
-                lots.add_all(&followed.lots);
+        match (self.now.lots_of(key), self.before.lots_of(key)) {
+            (Some(now), Some(before)) => {
+                self.lots.add_all(&now);
+                self.lots.add_all(&before);
+                if matches!(self.roused, Roused::Nobody) {
+                    self.roused = Roused::Lots;
+                }
             }
+            _ => self.roused = Roused::Everybody,
         }
-        self.lots = lots;
-        if matches!(self.roused, Roused::Nobody) {
-            self.roused = Roused::Lots;
-        }
-    }
-
-    /// Notes that a watch of the range rests in this lot.
-    fn follow(&mut self, range: &KeyRange, lot: u32) {
-        let noted = if range.is_one() {
-            self.follow_key(&range.key, lot)
-        } else {
-            self.follow_range(range, lot)
-        };
-        if noted.is_err() {
-            self.unknown = true;
-        }
-    }
-
-    fn follow_key(&mut self, key: &Bytes, lot: u32) -> Result<(), NoMemory> {
-        let mut lots = self.keys.get(key).copied().unwrap_or(Lots::none());
-        lots.add(lot);
-        let key = key.copy(self.alloc)?;
-        self.keys.insert(key, lots)?;
-        Ok(())
-    }
-
-    fn follow_range(&mut self, range: &KeyRange, lot: u32) -> Result<(), NoMemory> {
-        for followed in self.ranges.iter_mut() {
-            if followed.range == *range {
-                followed.lots.add(lot);
-                return Ok(());
-            }
-        }
-        let mut lots = Lots::none();
-        lots.add(lot);
-        let range = range.copy(self.alloc)?;
-        self.ranges.push(Followed { range, lots })?;
-        Ok(())
     }
 }

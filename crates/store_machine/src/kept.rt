@@ -93,6 +93,7 @@ impl Kept {
         ensures err { OnErr result ((s : Shop) → Holds self.old s → EndedSome now s self.new) }
     {
         self.end_due(now)?;
+        self.deadlines.look(now);
         catch_up(&mut self.store)?;
         Ok(())
     }

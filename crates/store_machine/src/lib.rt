@@ -7,9 +7,11 @@ mod ending;
 mod followers;
 mod kept;
 mod laws;
+mod lots;
 mod machine;
+mod watchers;
 
-pub use followers::lot_of_watch;
 pub use laws::machines_stand_for_shops;
+pub use lots::lot_of_watch;
 pub use machine::StoreMachine;
 pub use shop_model::{StoreEvent, StoreOutcome, StoreStepFault};

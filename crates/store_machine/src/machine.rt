@@ -54,7 +54,8 @@ impl Machine for StoreMachine {
     fn step(&mut self, event: StoreEvent, now: u64) -> Result<StoreOutcome, StoreStepFault> {
         let expiring = self.kept.has_due(now);
         let answer = self.kept.step(&event, now);
-        self.followers.note(&event, &answer, expiring);
+        self.followers
+            .note(&self.kept.store, &event, now, &answer, expiring);
         answer
     }
 

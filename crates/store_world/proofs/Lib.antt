@@ -1,3 +1,4 @@
+pub mod RisingLemmas
 pub mod LeaseLemmas
 pub mod MemberLemmas
 pub mod PushLemmas

@@ -1,3 +1,4 @@
+pub mod Rising
 pub mod ProperLeases
 pub mod Store
 pub mod Running

@@ -1,5 +1,6 @@
--- A message that is found for a watch, before the watch moves on.
+-- A message that is found for a watch, before the watch moves on; and the range of a watch.
 use Rattle.std.specs.Prelude.{◌≡◌, ℕ, Option, None, Some, Ok}
+use Rattle.etcd_types.specs.declared.key_range.KeyRange.{KeyRange}
 use Rattle.store_model.specs.declared.watch.OpenWatch.{OpenWatch}
 use Rattle.store_model.specs.State.{State}
 use Rattle.store_model.specs.Watches.{Pushed, with_next, watch_of}
@@ -16,3 +17,6 @@ IsPush s number w push step = step ≡ Ok (moved s number w push.next, push.item
 -- the same, for the watch of this number
 abbrev pub IsPushOf : State → ℕ → Push → Pushed → Type 0
 IsPushOf s number push step = (w : OpenWatch) × (watch_of s number ≡ Some w) × IsPush s number w push step
+
+abbrev pub watched_range : OpenWatch → KeyRange
+watched_range w = w.ask.range

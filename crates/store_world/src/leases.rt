@@ -1,7 +1,8 @@
-ghost use Rattle.std.specs.Prelude.{◌≡◌, ◌≤◌, ℕ, ◌<◌, true, [], length, insert, remove, map, IfOk, IfSome, IfNone, OnOk, OnErr};
+ghost use Rattle.std.specs.Prelude.{◌≡◌, ◌≤◌, ◌<◌, true, [], length, nat_lt, remove, map, IfOk, IfSome, IfNone, OnOk, OnErr};
+ghost use Rattle.std.specs.Option.{option_copied};
 ghost use Rattle.store_model.specs.Leases.{granted, least_free, with_lease, without_lease, lease_number};
 ghost use Rattle.store_model.specs.Transactions.{has_lease};
-ghost use Rattle.store_world.specs.ProperLeases.{AreProper};
+ghost use Rattle.store_world.specs.Rising.{AreRising, place_in, row_of};
 
 use etcd_types::{List, NoMemory};
 use std::alloc::Global;
@@ -12,7 +13,7 @@ use store_model::Lease;
 pub(crate) const LONGEST_TTL_SECONDS: u64 = 9_000_000_000;
 
 /// The leases of a store, by rising numbers. Contracts see it as the list of leases. Their numbers
-/// are positive, and no time to live is above the longest.
+/// are positive and rise, and no time to live is above the longest.
 #[derive(Debug, Drop)]
 pub(crate) struct Leases {
     items: Vec<Lease>,
@@ -21,13 +22,15 @@ pub(crate) struct Leases {
 impl Model for Leases {
     ghost use Rattle.std.specs.Prelude.{List};
     ghost use Rattle.store_model.specs.declared.lease.Lease.{Lease};
+    ghost use Rattle.store_model.specs.Leases.{lease_number};
+    ghost use Rattle.store_world.specs.Rising.{AreRising};
     ghost use Rattle.store_world.specs.ProperLeases.{AreProper};
 
     ghost Value = { List Lease };
 
     ghost view = { λ l. l.items.items };
 
-    ghost invariant = { λ l. AreProper l.items.items };
+    ghost invariant = { λ l. AreProper l.items.items × AreRising lease_number l.items.items };
 }
 
 impl Leases {
@@ -43,7 +46,7 @@ impl Leases {
         ensures there { result ≡ has_lease self.now number }
         ensures positive { result ≡ true → 0 < number }
     {
-        has_lease(self.items.as_slice(), number)
+        lease_found(self.items.as_slice(), number).is_some()
     }
 
     /// The time to live that the lease was granted, or 0 where there is none.
@@ -51,12 +54,10 @@ impl Leases {
         ensures ttl { result ≡ granted self.now number }
         ensures short { result ≤ 9_000_000_000 }
     {
-        for lease in &self.items {
-            if lease.number == number {
-                return lease.ttl;
-            }
+        match lease_found(self.items.as_slice(), number) {
+            Some(lease) => lease.ttl,
+            None => 0,
         }
-        0
     }
 
     /// The least positive number that is not in use.
@@ -105,35 +106,47 @@ impl Leases {
     }
 }
 
-fn has_lease(leases: &[Lease], number: u64) -> bool
-    ensures { result ≡ has_lease leases.now number }
+/// The place of a number among rising ones, behind all lower ones.
+fn place_of(leases: &[Lease], number: u64) -> usize
+    requires { AreRising lease_number leases.now }
+    ensures within { result ≤ length leases.now }
+    ensures place { result ≡ place_in lease_number number leases.now }
 {
-    leases.iter().any(|lease| lease.number == number)
+    leases.partition_point(
+        |lease: &Lease| -> bool
+            ensures { result ≡ nat_lt lease.now.number number }
+        { lease.number < number },
+    )
 }
 
-/// The place of a number among rising ones.
-fn place_of(leases: &[Lease], number: u64) -> usize
-    ensures within { result ≤ length leases.now }
-    ensures place { (ttl : ℕ) → with_lease (record { number = number; ttl = ttl }) leases.now ≡ insert leases.now result (record { number = number; ttl = ttl }) }
+/// The lease of this number.
+fn lease_found(leases: &[Lease], number: u64) -> Option<&Lease>
+    requires { AreRising lease_number leases.now }
+    ensures { option_copied result ≡ row_of lease_number number leases.now }
 {
-    for (index, lease) in leases.iter().enumerate() {
-        if number <= lease.number {
-            return index;
-        }
+    let place = place_of(leases, number);
+    let Some(found) = leases.get(place) else {
+        return None;
+    };
+    if found.number != number {
+        return None;
     }
-    leases.len()
+    Some(found)
 }
 
 /// Where the lease of this number is.
 fn place_found(leases: &[Lease], number: u64) -> Option<usize>
+    requires { AreRising lease_number leases.now }
     ensures within { IfSome result (λ place. place < length leases.now) }
     ensures found { IfSome result (λ place. without_lease number leases.now ≡ remove leases.now place) }
     ensures none { IfNone result (without_lease number leases.now ≡ leases.now) }
 {
-    for (index, lease) in leases.iter().enumerate() {
-        if lease.number == number {
-            return Some(index);
-        }
+    let place = place_of(leases, number);
+    let Some(found) = leases.get(place) else {
+        return None;
+    };
+    if found.number != number {
+        return None;
     }
-    None
+    Some(place)
 }

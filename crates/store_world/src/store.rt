@@ -1,16 +1,18 @@
 ghost use Rattle.std.specs.Prelude.{◌≡◌, ◌<◌, ◌≤◌, ◌^◌, false, length, min, IfOk, IfErr, OnErr};
+ghost use Rattle.std.specs.Option.{option_copied, option_map};
 ghost use Rattle.etcd_types.specs.declared.request.Request.TheVariants as request;
 ghost use Rattle.store_model.specs.History.{newest};
 ghost use Rattle.store_model.specs.State.{State, HasMember, starting};
 ghost use Rattle.store_model.specs.Step.{exec, IsExecuted};
 ghost use Rattle.store_model.specs.Leases.{expired};
 ghost use Rattle.store_model.specs.Members.{applied};
-ghost use Rattle.store_model.specs.Watches.{opened, pushed, progressed};
+ghost use Rattle.store_model.specs.Watches.{watch_of, opened, pushed, progressed};
 ghost use Rattle.store_index.specs.Count.{count_kept};
+ghost use Rattle.store_world.specs.Pushes.{watched_range};
 
 use crate::leases::Leases;
 use crate::table::Table;
-use etcd_types::{Answer, NoMemory, Request, WatchAsk, WatchItem};
+use etcd_types::{Answer, KeyRange, NoMemory, Request, WatchAsk, WatchItem};
 use std::alloc::Global;
 use store_index::Index;
 use store_model::{OpenWatch, StoreFault};
@@ -128,6 +130,16 @@ impl Store {
         ensures err { OnErr result (self.new ≡ self.old) }
     {
         self.open(member, ask)
+    }
+
+    /// The range of a watch, or none where no watch of this number was opened. It takes no memory.
+    pub fn watched(&self, watch: u64) -> Option<&KeyRange>
+        ensures { (s : State) → Stands self.now s → option_copied result ≡ option_map watched_range (watch_of s watch) }
+    {
+        match self.watch(watch) {
+            Some(watch) => Some(&watch.ask.range),
+            None => None,
+        }
     }
 
     /// Pushes the next message of a watch: that it was created, then its events, or a cancellation where it fell behind a

@@ -84,7 +84,7 @@ impl Store {
     }
 
     /// The watch of this number.
-    fn watch(&self, number: u64) -> Option<&OpenWatch>
+    pub(crate) fn watch(&self, number: u64) -> Option<&OpenWatch>
         ensures { option_copied result ≡ watch_of (state_of self.now []) number }
     {
         if number == 0 {

@@ -9,11 +9,13 @@ use Rattle.store_machine.proofs.kept.Kept.settle.Goals as goal
 
 pub returns-clause-ok : goal.returns-clause-ok
 returns-clause-ok c = λ s h.
-    caught c.end_due.new.self c.catch_up.new.store (all_ended (due c.args.now s.deadlines) s) c.in_ok-catch_up.ensures.ok (c.in_ok-end_due.ensures.ok s h)
+    let all = all_ended (due c.args.now s.deadlines) s in
+    caught (record c.end_due.new.self { deadlines = c.look.new.self }) c.catch_up.new.store all c.in_ok-catch_up.ensures.ok
+    (holds_with c.end_due.new.self c.end_due.new.self.store c.look.new.self all refl c.look.ensures (c.in_ok-end_due.ensures.ok s h))
 
 pub returns-in_err-catch_up-clause-err : goal.returns-in_err-catch_up-clause-err
 returns-in_err-catch_up-clause-err c =
     let p = err_from_is_err_and c.from_residual-in_err-catch_up.result c.from_residual-in_err-catch_up.ensures.1 in
     rw p.1
-    (λ s h. ended_all c.args.now s (record c.end_due.new.self { store = c.catch_up.new.store })
-    (holds_with c.end_due.new.self c.catch_up.new.store c.end_due.new.self.deadlines (all_ended (due c.args.now s.deadlines) s) c.in_err-catch_up.ensures.err refl (c.in_ok-end_due.ensures.ok s h)))
+    (λ s h. ended_all c.args.now s (record c.end_due.new.self { store = c.catch_up.new.store; deadlines = c.look.new.self })
+    (holds_with c.end_due.new.self c.catch_up.new.store c.look.new.self (all_ended (due c.args.now s.deadlines) s) c.in_err-catch_up.ensures.err c.look.ensures (c.in_ok-end_due.ensures.ok s h)))
