@@ -11,6 +11,6 @@ mod probes;
 mod threaded;
 
 pub use ends::Ends;
-pub use further::Nothing;
 pub use lookout::Lookout;
+pub use thread_makers::Nothing;
 pub use threaded::{Server, Threaded, spawner_of};

@@ -6,7 +6,7 @@ ghost use Rattle.proxy_parts.specs.declared.place.Place.{Place};
 
 use crate::carried::Carried;
 use crate::ends::Ends;
-use crate::further::{Further, Nothing};
+use crate::further::Further;
 use crate::load::{Load, join, split};
 use crate::outfit::{Equipment, Equipped, Laid};
 use etcd_types::NoMemory;
@@ -17,7 +17,7 @@ use std::rt::Clock as Times;
 use std::sync::atomic::AtomicU64;
 use std::sync::{Arc, Wait};
 use std::thread::Threads;
-use thread_makers::{Maker, Open, begin_making};
+use thread_makers::{Maker, Nothing, Open, begin_making};
 
 /// What starts each part in a thread of its own. It tells nothing of the parts; where no thread can be made, it is said why in one line on
 /// the standard error. What the parts meet outside isn't its own but that of the thread which makes threads for it: so its type says only

@@ -1,9 +1,10 @@
 -- A place on its way may cross threads, since the store's machine may.
 use denote.RattleType.{RattleType}
-use denote.Param.Send.{IsSend, sendable}
+use denote.Enum.Declared as enum
+use denote.Param.Send.{IsSend, IsSync, plain_send, plain_sync, struct_send, struct_sync, enum_send, recorded_send, recorded_sync}
+use denote.Struct.Declared as struct
 use Rattle.std.proofs.Crossing.{crosses}
-use Rattle.atomic_table.proofs.shared.Seat.TheSendSync as seat
-use Rattle.atomic_table.proofs.shared.Shared.TheSendSync as shared
+use Rattle.atomic_table.specs.declared.shared.TableRule.{Ghosts}
 use Rattle.turn_hub.proofs.hub.HubOf.TheSendSync as hub
 use Rattle.turn_hub.proofs.pass.PassOf.TheSendSync as pass
 use Rattle.shop_threads.proofs.carried.CarriedOf.TheSendSync as carried
@@ -15,17 +16,43 @@ use Rattle.store_machine.specs.contracts.machine.StoreMachineMachine.TheImpl as 
 use Rattle.shop_threads.specs.contracts.carried.CarriedOf as carried-of
 use Rattle.turn_hub.specs.contracts.hub.HubOf as hub-of
 use Rattle.turn_hub.specs.contracts.view.Stowed as stowed
+use Rattle.turn_hub.specs.contracts.view.Note as note
 use Rattle.turn_hub.specs.contracts.view.View as view
 use Rattle.turn_hub.specs.contracts.view.Opening as opening
 use Rattle.turn_hub.specs.contracts.rule.Turns as turning
 use Rattle.turn_hub.specs.contracts.pass.PassOf as pass-of
 use Rattle.turn_hub.specs.contracts.pass.Rests as resting
 use Rattle.turn_hub.specs.contracts.history.Entry as entry
+use Rattle.std.specs.contracts.result.Result as result
 use Rattle.std.specs.contracts.snapshot.Snapshot as snapshot
 use Rattle.store_machine.specs.contracts.machine.StoreMachine as machine
 use Rattle.shop_model.specs.contracts.event.StoreEvent as event
 use Rattle.shop_model.specs.contracts.event.StoreOutcome as outcome
 use Rattle.shop_model.specs.contracts.event.StoreStepFault as fault
+
+-- ---- what lies in a hub and is kept of one, as far as its machine may cross threads
+snapshot_send : (R : RattleType) → IsSend (snapshot.the_row R)
+snapshot_send R = search crosses depth 1
+
+snapshot_sync : (R : RattleType) → IsSync (snapshot.the_row R)
+snapshot_sync R = search crosses depth 1
+
+opening_send : (M : RattleType) → IsSend (opening.the_row M)
+opening_send M =
+    let T = opening.the_type M in
+    recorded_send (struct.field T).row T.D T.to T.to_one (struct_send (struct.shape T) (snapshot_send M, (plain_send _ _ _ _ _, tt)))
+
+opening_sync : (M : RattleType) → IsSync (opening.the_row M)
+opening_sync M =
+    let T = opening.the_type M in
+    recorded_sync (struct.field T).row T.D T.to T.to_one (struct_sync (struct.shape T) (snapshot_sync M, (plain_sync _ _ _ _ _, tt)))
+
+stowed_send : (M E O F : RattleType) → IsSend M → IsSend (stowed.the_row M E O F)
+stowed_send M E O F m =
+    let T = stowed.the_type M E O F in
+    let noted : IsSend (note.the_field M E O F).row =
+    struct_send (struct.shape (note.the_type M E O F)) (snapshot_send M, (snapshot_send E, (plain_send _ _ _ _ _, (snapshot_send (result.the_row O F), tt)))) in
+    recorded_send (enum.field T).row T.D T.to T.to_one (enum_send (enum.shape T) ((m, tt), (tt, ((noted, tt), tt))))
 
 -- ---- what a hub of the store's machine and its passes are made of
 
@@ -41,8 +68,11 @@ opening-row = opening.the_row machine.the_row
 abbrev entry-row : RattleType
 entry-row = entry.the_row event.the_row outcome.the_row fault.the_row
 
+abbrev hub-ghosts : Ghosts (turning.the_row machine.the_row).Denot (stowed-row).Denot (view-row).Denot (opening-row).Denot
+hub-ghosts = turns.ghosts machine.the_row event.the_row outcome.the_row fault.the_row stepping.ghosts turns.no_dict turns.no_dict turns.no_dict turns.no_dict turns.no_dict
+
 abbrev hub-row : RattleType
-hub-row = hub-of.the_row stowed-row view-row opening-row (turning.the_row machine.the_row) (turns.ghosts machine.the_row event.the_row outcome.the_row fault.the_row stepping.ghosts turns.no_dict turns.no_dict turns.no_dict turns.no_dict turns.no_dict)
+hub-row = hub-of.the_row stowed-row view-row opening-row (turning.the_row machine.the_row) hub-ghosts
 
 abbrev pass-row : RattleType
 pass-row = pass-of.the_row stowed-row view-row (snapshot.the_row opening-row) opening-row entry-row resting.the_row (rests.ghosts machine.the_row event.the_row outcome.the_row fault.the_row)
@@ -50,5 +80,19 @@ pass-row = pass-of.the_row stowed-row view-row (snapshot.the_row opening-row) op
 abbrev pub carried-row : RattleType
 carried-row = carried-of.the_row hub-row pass-row admits.ghosts
 
+-- ---- a hub, its passes and a place
+slot_send : IsSend stowed-row
+slot_send = stowed_send machine.the_row event.the_row outcome.the_row fault.the_row store.the_send
+
+hub_send : IsSend hub-row
+hub_send = hub.the_send stowed-row view-row opening-row (turning.the_row machine.the_row) hub-ghosts slot_send (opening_send machine.the_row)
+
+hub_sync : IsSync hub-row
+hub_sync = hub.the_sync stowed-row view-row opening-row (turning.the_row machine.the_row) hub-ghosts slot_send (opening_sync machine.the_row)
+
+pass_send : IsSend pass-row
+pass_send = pass.the_send stowed-row view-row (snapshot.the_row opening-row) opening-row entry-row resting.the_row
+    (rests.ghosts machine.the_row event.the_row outcome.the_row fault.the_row) slot_send (snapshot_send opening-row)
+
 pub carried_send : IsSend carried-row
-carried_send = search (sendable, crosses, store.the_send, seat.the_send, shared.the_send, shared.the_sync, hub.the_send, hub.the_sync, pass.the_send, carried.the_send) depth 20
+carried_send = search (carried.the_send, hub_send, hub_sync, pass_send) depth 4

@@ -3,10 +3,13 @@
 
 mod carried;
 mod ends;
-mod none;
 mod outfit;
 mod threaded;
 
 pub use ends::ShopEnds;
-pub use none::NoShops;
+use store_serve::StorePlace;
+use thread_makers::Nothing;
 pub use threaded::{Shops, ShopsOf, shops_of};
+
+/// What starts no connection to a store. A command that serves none has it.
+pub type NoShops<C> = Nothing<StorePlace, C>;

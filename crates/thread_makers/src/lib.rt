@@ -5,9 +5,11 @@
 mod duty;
 mod handover;
 mod job;
+mod nothing;
 mod open;
 
 pub use duty::Duty;
 pub use handover::Handover;
 pub use job::{Ask, Desk, Equips, Maker, Work, begin_making};
+pub use nothing::Nothing;
 pub use open::Open;

@@ -2,7 +2,7 @@
 use denote.Param.Send.{sendable}
 use Rattle.std.proofs.Crossing.{crosses}
 use Rattle.part_threads.proofs.threaded.Threaded.TheSendSync as threaded
-use Rattle.part_threads.proofs.further.Nothing.TheSendSync as nothing
+use Rattle.thread_makers.proofs.nothing.Nothing.TheSendSync as nothing
 use Rattle.part_threads.proofs.Crossing.{carried_send}
 use Rattle.part_threads.proofs.threaded.spawner_of.Goals as goal
 

@@ -2,33 +2,32 @@ ghost use Rattle.std.specs.Prelude.{◌≡◌, IfErr, IsErr, None, ◌∷◌, []
 ghost use Rattle.outside.specs.Calls.{Adds, Handed, is_done};
 ghost use Rattle.outside.specs.Faults.{HasCause, one_more};
 ghost use Rattle.outside.specs.declared.parts.Part.{Part};
-ghost use Rattle.store_serve.specs.declared.place.StorePlace.{StorePlace};
 
 use outside::{Part, Spawner};
 use std::marker::PhantomData;
-use store_serve::StorePlace;
 
-/// What starts no connection: it refuses each. A command that serves no store has it.
+/// What starts nothing: it refuses each part of these contexts and clients. Who follows a stream has it, since following starts nothing,
+/// and so has who serves no such clients.
 #[derive(Drop)]
-pub struct NoShops<C> {
+pub struct Nothing<P, C> {
     faults: u64,
-    of: PhantomData<C>,
+    of: PhantomData<(P, C)>,
 }
 
-impl<C> NoShops<C> {
+impl<P, C> Nothing<P, C> {
     /// One that has refused none.
-    pub fn new() -> NoShops<C>
+    pub fn new() -> Nothing<P, C>
         ensures fresh { result.faults ≡ 0 }
     {
-        NoShops {
+        Nothing {
             faults: 0,
             of: PhantomData,
         }
     }
 }
 
-impl<C: Drop> Spawner for NoShops<C> {
-    type Pass = StorePlace;
+impl<P: Drop, C: Drop> Spawner for Nothing<P, C> {
+    type Pass = P;
 
     type Conn = C;
 
@@ -38,8 +37,8 @@ impl<C: Drop> Spawner for NoShops<C> {
 
     ghost faults = { λ s. s.faults };
 
-    fn start(&mut self, part: Part<StorePlace, C>) -> Result<(), Part<StorePlace, C>>
-        ensures untold { Adds {A = Handed (Part StorePlace C)} None None (record { part = part; started = is_done result } ∷ []) }
+    fn start(&mut self, part: Part<P, C>) -> Result<(), Part<P, C>>
+        ensures untold { Adds {A = Handed (Part P C)} None None (record { part = part; started = is_done result } ∷ []) }
         ensures back { IfErr result (λ refused. refused ≡ part) }
         ensures cause { HasCause self.old.faults self.new.faults result }
         ensures refused { IsErr result }
