@@ -1,6 +1,5 @@
 -- The events of the whole history for a watch are those that a watch of the store which asks for the records before would be told.
-use Rattle.std.proofs.Common.{◌≡◌, ℕ, Bool, true, false, cond, ◌||◌, nat_lt, List, [], ◌∷◌, map, filter, Option, None, Some, refl, sym, ◌∙◌, ap, arith}
-use Rattle.std.proofs.lemmas.Bool.{le-leb}
+use Rattle.std.proofs.Common.{◌≡◌, ℕ, Bool, true, false, cond, List, [], ◌∷◌, map, filter, Option, refl, sym, ◌∙◌, ap}
 use Rattle.etcd_types.specs.declared.key_range.KeyRange.{KeyRange}
 use Rattle.etcd_types.specs.declared.record.Kv.{Kv}
 use Rattle.etcd_types.specs.declared.request.WatchAsk.{WatchAsk}
@@ -13,17 +12,7 @@ use Rattle.store_model.specs.History.{History}
 use Rattle.watch_model.specs.Joining.{watched_range}
 use Rattle.world_model.specs.Received.{history_events, is_from}
 use Rattle.audit_clients.specs.Stored.{with_prev}
-
-or_true : (b : Bool) → b || true ≡ true
-or_true true = refl
-or_true false = refl
-
--- nothing is compacted at revision 0
-all_visible : (revision : ℕ) (prev : Option Kv) → visible_prev 0 revision prev ≡ prev
-all_visible revision None = refl
-all_visible revision (Some kv) =
-    ap (λ (b : Bool). cond (nat_lt 0 revision || b) (Some kv) None) (le-leb 0 kv.modified (omega arith))
-    ∙ ap (λ (b : Bool). cond b (Some kv) None) (or_true (nat_lt 0 revision))
+use Rattle.audit_store.proofs.VisibleEvents.{all_visible}
 
 told_whole : (p : List ℕ) (ask : WatchAsk) (e : Event) → told_event 0 (with_prev p ask) e ≡ e
 told_whole p ask e = ap (λ (prev : Option Kv). record { change = e.change; prev = prev }) (all_visible (event_revision e) e.prev)
@@ -79,7 +68,7 @@ history_told h p ask start =
     ap (filter (is_from start)) (ap (λ (es : List Event). map (told_event 0 (with_prev p ask)) (filter (passes (with_prev p ask)) es)) (from_begin range h) ∙ all_told p ask (filter (passes (with_prev p ask)) all) ∙ passing_so p ask all)
     ∙ swapped (is_from start) (passes ask) all
 
-pub told_so : (h : History) (p : List ℕ) (ask : WatchAsk) (start : ℕ) (revisions : History) (asked : WatchAsk) (batch found : List Event) → asked ≡ with_prev p ask → revisions ≡ h
-    → batch ≡ watch_events revisions 0 asked 0 → found ≡ filter (is_from start) batch → found ≡ history_events h p ask start
-told_so h p ask start revisions asked batch found a r b f =
-    f ∙ ap (filter (is_from start)) (b ∙ (λ i. watch_events (r i) 0 (a i) 0)) ∙ history_told h p ask start
+pub told_so : (h : History) (p : List ℕ) (ask : WatchAsk) (start : ℕ) (asked : WatchAsk) (batch found : List Event) → asked ≡ with_prev p ask
+    → batch ≡ watch_events h 0 asked 0 → found ≡ filter (is_from start) batch → found ≡ history_events h p ask start
+told_so h p ask start asked batch found a b f =
+    f ∙ ap (filter (is_from start)) (b ∙ ap (λ (w : WatchAsk). watch_events h 0 w 0) a) ∙ history_told h p ask start

@@ -2,7 +2,6 @@ pub mod Quiet
 pub mod Sent
 pub mod HistoryEvents
 pub mod Fronts
-pub mod Counts
 pub mod Turns
 pub mod Greatest
 pub mod LeaseAnswers

@@ -7,7 +7,7 @@ ghost use Rattle.audit_store.specs.Store.{Stands};
 ghost use Rattle.world_model.specs.Received.{history_events as events_for, is_from as is_from_start};
 
 use crate::keys::{same_changes, stored_change, stored_changes, stored_record, watched_range};
-use audit_store::{Store, watch_events};
+use audit_store::Store;
 use equal_values::{same_change, same_prev};
 use etcd_types::{Bytes, Change, Event, Kv, List, NoMemory, WatchAsk};
 use namespace_keys::range_under;
@@ -63,8 +63,8 @@ pub(crate) fn history_events(
     ensures { IfOk result (λ events. (s : State) → Stands store.now s → events ≡ events_for s.history namespace.now ask.now start) }
 {
     let asked = asked_with_prev(alloc, namespace, ask)?;
-    let batch = watch_events(alloc, store.revisions(), 0, &asked, 0)?;
-    Ok(events_from(alloc, batch.events.as_slice(), start)?)
+    let events = store.events(&asked, 0)?;
+    Ok(events_from(alloc, events.as_slice(), start)?)
 }
 
 /// Whether the record before the event can't be seen any more, or wasn't there.

@@ -3,6 +3,7 @@ ghost use Rattle.std.specs.List.{list_all};
 ghost use Rattle.std.specs.Option.{option_copied};
 ghost use Rattle.audit_clients.specs.Given.{Forgets, Gave, KeepsNewest, Raises, answer_revision as revision_of_answer, is_one, message_revision as revision_of_message, newest_at};
 ghost use Rattle.audit_lives.specs.Index.{TellsAll};
+ghost use Rattle.audit_model.specs.Summaries.{summary as summary_of};
 ghost use Rattle.audit_model.specs.Unsent.{is_true_header as is_header_true};
 ghost use Rattle.audit_store.specs.Store.{Stands};
 ghost use Rattle.script_text.specs.declared.item.Item.{Item as Told};
@@ -12,6 +13,7 @@ ghost use Rattle.world_model.specs.Reads.{given as given_to};
 
 use crate::floors::raise_by;
 use audit_lives::{Index, next_message, opener_in, sender_in};
+use audit_model::Summary;
 use audit_store::Store;
 use etcd_types::{Answer, Header, NoMemory, WatchItem};
 use replay_parts::Numbers;
@@ -47,13 +49,20 @@ impl Given {
         &self.index
     }
 
+    /// What is reported of the items.
+    pub fn summary(&self) -> Summary
+        ensures { (items : Values Told) → Gave self.now items → result ≡ summary_of items }
+    {
+        self.index.summary()
+    }
+
     /// By the next item, too, behind these.
     pub fn take(&mut self, alloc: Global, items: &[Item], item: &Item) -> Result<(), NoMemory>
         ensures { OnOk result (Gave self.old items.now → Gave self.new (items.now ++ item.now ∷ [])) }
     {
         raise_by(alloc, &mut self.floors, items, item)?;
         renew(&mut self.newest, &self.index, items, item)?;
-        self.index.take(item)?;
+        self.index.take(items, item)?;
         Ok(())
     }
 }

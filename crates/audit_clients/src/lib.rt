@@ -8,13 +8,11 @@ mod given;
 mod keys;
 mod reads;
 mod snapshots;
-mod summaries;
 mod taken;
 mod takes;
 mod unsent;
 
 pub use floors::too_early;
 pub use given::Given;
-pub use summaries::summary;
 pub use takes::takes_so;
 pub use unsent::replies_so;

@@ -10,7 +10,7 @@ ghost use Rattle.world_model.specs.Reads.{shown as shown_as, shown_now as shows_
 
 use crate::given::{Given, is_true_header};
 use audit_lives::namespace_of;
-use audit_store::{Store, record_now};
+use audit_store::Store;
 use equal_values::same_body;
 use etcd_types::{Body, Bytes, Kv, List, NoMemory, RangeAsk, Reply, Sort};
 use namespace_keys::key_under;
@@ -70,7 +70,7 @@ fn shown_now(alloc: Global, store: &Store, items: &[Item], key: &Bytes) -> Resul
 {
     let namespace = namespace_of(alloc, items)?;
     let stored = key_under(alloc, &namespace, key)?;
-    let found = record_now(alloc, store.revisions(), &[], &stored)?;
+    let found = store.record(&stored)?;
     Ok(shown(alloc, key, found)?)
 }
 

@@ -27,7 +27,7 @@ life_from_more p so_far (j ∷ items) i = by (begins p j) (life_from_more p [] i
     by true new on = new
     by false new on = on
 
-life_more : (p : ℕ) (items : List Item) (i : Item) → life p (items ++ i ∷ []) ≡ cond (begins p i) [] (life p items ++ i ∷ [])
+pub life_more : (p : ℕ) (items : List Item) (i : Item) → life p (items ++ i ∷ []) ≡ cond (begins p i) [] (life p items ++ i ∷ [])
 life_more p items i = life_from_more p [] items i
 
 pub any_more : (test : Item → Bool) (items : List Item) (i : Item) → list_any test (items ++ i ∷ []) ≡ list_any test items || test i
@@ -130,7 +130,7 @@ few test (i ∷ items) = by (test i) (few test items)
     by true h = omega (arith, h)
     by false h = omega (arith, h)
 
-count_next : (test : Item → Bool) (items : List Item) (i : Item) → length (filter test (items ++ i ∷ [])) ≡ cond (test i) (length (filter test items) + 1) (length (filter test items))
+pub count_next : (test : Item → Bool) (items : List Item) (i : Item) → length (filter test (items ++ i ∷ [])) ≡ cond (test i) (length (filter test items) + 1) (length (filter test items))
 count_next test [] i = by (test i)
   where
     by : (b : Bool) → length (cond b (i ∷ []) []) ≡ cond b (length {A = Item} [] + 1) (length {A = Item} [])

@@ -1,9 +1,11 @@
 pub mod Walks
 pub mod Found
 pub mod LifeSteps
-pub mod Rests
 pub mod GivenItems
 pub mod Growing
 pub mod Senders
 pub mod Telling
 pub mod LookUps
+pub mod Counting
+pub mod Summing
+pub mod More

@@ -1,5 +1,5 @@
--- What an index of items tells: for each look-up the first place that tells it, and counts.
-use Rattle.std.specs.Prelude.{◌≡◌, ◌≤◌, ℕ, false, List, length, drop, count_by, nat_lt}
+-- What an index of items tells: for each look-up the first place that tells it, and counts; and what is reported of them.
+use Rattle.std.specs.Prelude.{◌≡◌, ◌≤◌, ◌-◌, ℕ, false, List, length, drop, count_by, nat_lt}
 use Rattle.first_places.specs.Firsts.{Firsts}
 use Rattle.first_places.specs.Places.{is_number, value_at}
 use Rattle.script_text.specs.declared.item.Item.{Item}
@@ -8,11 +8,16 @@ use Rattle.audit_model.specs.Order.{has_started}
 use Rattle.audit_model.specs.Streams.{streams_opened}
 use Rattle.world_model.specs.Lives.{clock_of, delivers, life, sent_it}
 use Rattle.audit_lives.specs.Finds.{pushes_into}
+use Rattle.audit_lives.specs.Sums.{TellsSums}
 use Rattle.audit_lives.specs.Pairs.{asked, given, replied, named, sent_own, opened_own, sent, executed, settled, opened, ended, cancelled}
 use Rattle.audit_lives.specs.declared.calls_told.CallsTold.{CallsTold}
 use Rattle.audit_lives.specs.declared.index.Index.{Index}
 use Rattle.audit_lives.specs.declared.lives_told.LivesTold.{LivesTold}
 use Rattle.audit_lives.specs.declared.streams_told.StreamsTold.{StreamsTold}
+
+-- how many items stand before the life that the proxy has now
+abbrev pub life_start : ℕ → List Item → ℕ
+life_start p items = length items - length (life p items)
 
 -- where the life begins that each proxy has now: behind its last start, or at the first item
 pub record Starts (starts : List (ℕ × ℕ)) (items : List Item) : Type 0 where
@@ -54,3 +59,4 @@ pub record TellsAll (index : Index) (items : List Item) : Type 0 where
   pub lives : TellsLives index.lives items
   pub calls : TellsCalls index.calls items
   pub streams : TellsStreams index.streams items
+  pub sums : TellsSums index.sums (value_at index.lives.starts) items

@@ -1,7 +1,8 @@
 ghost use Rattle.std.specs.Prelude.{◌≡◌, ℕ, true, ◌++◌, ◌∷◌, [], List as Values, OnOk};
 ghost use Rattle.audit_model.specs.Calls.{sender_of as first_sender};
+ghost use Rattle.audit_model.specs.Summaries.{summary as summary_of};
 ghost use Rattle.first_places.specs.Places.{is_number};
-ghost use Rattle.audit_lives.specs.Index.{TellsAll};
+ghost use Rattle.audit_lives.specs.Index.{TellsAll, life_start as start_of_life};
 ghost use Rattle.std.specs.Option.{option_copied};
 ghost use Rattle.world_model.specs.Lives.{asked_as as first_asked, clock_of as last_clock, executed_to as first_answer, is_named as has_call, life as last_life, sent_it};
 ghost use Rattle.script_text.specs.declared.item.Item.{Item as Told};
@@ -9,6 +10,8 @@ ghost use Rattle.script_text.specs.declared.item.Item.{Item as Told};
 use crate::calls_told::CallsTold;
 use crate::lives_told::LivesTold;
 use crate::streams_told::StreamsTold;
+use crate::sums::Sums;
+use audit_model::Summary;
 use etcd_types::{Answer, NoMemory, Request};
 use script_text::Item;
 use std::alloc::Global;
@@ -23,6 +26,7 @@ pub struct Index {
     pub(crate) lives: LivesTold,
     pub(crate) calls: CallsTold,
     pub(crate) streams: StreamsTold,
+    pub(crate) sums: Sums,
 }
 
 impl Index {
@@ -35,6 +39,7 @@ impl Index {
             lives: LivesTold::new(alloc),
             calls: CallsTold::new(alloc),
             streams: StreamsTold::new(alloc),
+            sums: Sums::new(alloc),
         }
     }
 
@@ -80,13 +85,32 @@ impl Index {
         self.lives.clock_of(proxy)
     }
 
-    /// With the next item.
-    pub fn take(&mut self, item: &Item) -> Result<(), NoMemory>
-        ensures { OnOk result ((items : Values Told) → TellsAll self.old items → TellsAll self.new (items ++ item.now ∷ [])) }
+    /// How many items stand before the life that the proxy has now.
+    pub fn life_start(&self, proxy: u64) -> u64
+        ensures { (items : Values Told) → TellsAll self.now items → result ≡ start_of_life proxy items }
+    {
+        self.lives.starts.of(proxy)
+    }
+
+    /// What is reported of the items.
+    pub fn summary(&self) -> Summary
+        ensures { (items : Values Told) → TellsAll self.now items → result ≡ summary_of items }
+    {
+        Summary {
+            items: self.count,
+            unsent: self.sums.unsent,
+            watches: self.sums.watches,
+        }
+    }
+
+    /// With the next item, behind these.
+    pub fn take(&mut self, items: &[Item], item: &Item) -> Result<(), NoMemory>
+        ensures { OnOk result (TellsAll self.old items.now → TellsAll self.new (items.now ++ item.now ∷ [])) }
     {
         if self.count >= MOST_ITEMS {
             return Err(NoMemory);
         }
+        self.sums.follow(&self.lives, items, item, self.count)?;
         self.lives.take(item, self.count)?;
         self.calls.take(item, self.count)?;
         self.streams.take(item, self.count)?;

@@ -12,14 +12,15 @@ mod order;
 mod pairs;
 mod streams;
 mod streams_told;
+mod sums;
 mod tickets;
 mod watches;
 
 pub use calls::sender_in;
 pub use given::next_message;
 pub use index::Index;
-pub use lives::{clock_of, life, rest_of_life};
+pub use lives::{clock_of, life};
 pub use order::{about, fits_behind};
 pub use streams::opener_in;
-pub use tickets::{asked_as, is_named, is_watch};
+pub use tickets::asked_as;
 pub use watches::{namespace_of, taken_for};

@@ -1,7 +1,7 @@
 ghost use Rattle.std.specs.Prelude.{◌≡◌, ◌<◌, ◌+◌, if◌then◌else◌};
 ghost use Rattle.audit_lives.specs.Finds.{members_in};
 ghost use Rattle.audit_model.specs.Order.{is_member as is_of_members, members_of as count_members};
-ghost use Rattle.world_model.specs.Lives.{begins as is_beginning, clock_by as set_clock, clock_of as last_clock, life as last_life, rest_of_life as rest_till_start};
+ghost use Rattle.world_model.specs.Lives.{begins as is_beginning, clock_by as set_clock, clock_of as last_clock, life as last_life};
 
 use script_text::Item;
 
@@ -36,18 +36,6 @@ pub fn life(proxy: u64, items: &[Item]) -> &[Item]
         start = start_behind(proxy, start, place, item);
     }
     &items[start..]
-}
-
-/// The items up to the proxy's next start.
-pub fn rest_of_life(proxy: u64, items: &[Item]) -> &[Item]
-    ensures { result.now ≡ rest_till_start proxy items.now }
-{
-    for (place, item) in items.iter().enumerate() {
-        if begins(proxy, item) {
-            return &items[..place];
-        }
-    }
-    items
 }
 
 fn set_clock(proxy: u64, now: u64, item: &Item) -> u64

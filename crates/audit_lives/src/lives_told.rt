@@ -117,7 +117,8 @@ impl LivesTold {
     /// With the next item, which has this place.
     pub(crate) fn take(&mut self, item: &Item, place: u64) -> Result<(), NoMemory>
         requires { place < 2 ^ 63 }
-        ensures { OnOk result ((items : Listed Told) → place ≡ length items → TellsLives self.old items → TellsLives self.new (items ++ item.now ∷ [])) }
+        ensures lives { OnOk result ((items : Listed Told) → place ≡ length items → TellsLives self.old items → TellsLives self.new (items ++ item.now ∷ [])) }
+        ensures starts { OnOk result ((p : ℕ) → value_at self.new.starts p ≡ (if begins p item.now then place + 1 else value_at self.old.starts p)) }
     {
         self.asked.tell(asked(item), &self.starts, place)?;
         self.given.tell(given(item), &self.starts, place)?;

@@ -4,7 +4,7 @@ ghost use Rattle.audit_lives.specs.Finds.{asked_in, told_by, told_of};
 ghost use Rattle.audit_lives.specs.Index.{TellsAll};
 ghost use Rattle.audit_model.specs.Order.{is_watch as is_a_watch, is_replied as has_reply, is_watch_of as is_watch_there, knows_ticket as is_known_ticket, knows_watch as is_known_watch};
 ghost use Rattle.script_text.specs.declared.item.Item.{Item as Told};
-ghost use Rattle.world_model.specs.Lives.{asked_as as first_asked, names as is_naming, is_named as has_call, life as last_life};
+ghost use Rattle.world_model.specs.Lives.{asked_as as first_asked, life as last_life};
 
 use crate::index::Index;
 use etcd_types::Request;
@@ -40,26 +40,6 @@ pub fn asked_as(proxy: u64, ticket: u64, items: &[Item]) -> Option<&Request>
         }
     }
     None
-}
-
-fn names(proxy: u64, ticket: u64, item: &Item) -> bool
-    ensures { result ≡ is_naming proxy ticket item.now }
-{
-    match item {
-        Item::Sent {
-            proxy: p,
-            ticket: t,
-            ..
-        } => *p == proxy && *t == ticket,
-        _ => false,
-    }
-}
-
-/// Whether a call of the proxy names the ticket.
-pub fn is_named(proxy: u64, ticket: u64, items: &[Item]) -> bool
-    ensures { result ≡ has_call proxy ticket items.now }
-{
-    items.iter().any(|item| names(proxy, ticket, item))
 }
 
 /// Whether the request opens a watch.

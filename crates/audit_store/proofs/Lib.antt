@@ -1,5 +1,8 @@
 pub mod LeaseLemmas
+pub mod MemberLemmas
 pub mod PushLemmas
+pub mod RunProofs
+pub mod RunSteps
 pub mod Stores
-pub mod HistoryLemmas
-pub mod EventRules
+pub mod VisibleEvents
+pub mod VisibleReads

@@ -1,5 +1,6 @@
-pub mod ShortLeases
+pub mod ProperLeases
 pub mod Store
 pub mod Running
 pub mod Faults
 pub mod Pushes
+pub mod Visible

@@ -1,28 +1,31 @@
 -- What a store stands for, and what a call does with it.
 use Rattle.std.specs.Prelude.{◌≡◌, ◌<◌, ℕ, length}
 use Rattle.etcd_types.specs.declared.answer.Answer.{Answer}
-use Rattle.store_model.specs.History.{newest}
+use Rattle.store_model.specs.History.{History, newest}
 use Rattle.store_model.specs.State.{State}
 use Rattle.store_model.specs.Step.{Step}
+use Rattle.store_index.specs.Index.{HoldsKept}
 use Rattle.audit_store.specs.declared.store.Store.{Store}
 
-abbrev pub state_of : Store → State
-state_of store =
+-- the state with this history
+abbrev pub state_of : Store → History → State
+state_of store h =
     record {
-      history = store.revisions;
+      history = h;
       compacted = store.compacted;
       leases = store.leases;
       applied = store.applied;
       watches = store.watches;
     }
 
--- this store stands for that state
-abbrev pub Stands : Store → State → Type 0
-Stands store s = s ≡ state_of store
+-- this store stands for that state: its index holds the state's whole history, and all else is the same
+pub record Stands (store : Store) (s : State) : Type 0 where
+  pub history : HoldsKept store.index s.history
+  pub rest : s ≡ state_of store s.history
 
--- each store stands for some state
+-- there is a state that each store stands for; there may be many
 abbrev pub StandForStates : Type 0
-StandForStates = (store : Store) → (s : State) × Stands store s
+StandForStates = (store : Store) → ∥ ((s : State) × Stands store s) ∥₁
 
 -- what two states of one store have in common: the newest revision, and how many members there are
 pub record Agree (s t : State) : Type 0 where

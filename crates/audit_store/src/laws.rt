@@ -1,6 +1,6 @@
 ghost use Rattle.audit_store.specs.Store.{StandForStates, StatesAgree};
 
-/// A law: each store stands for some state.
+/// A law: for each store there is a state that it stands for.
 pub fn stores_stand_for_states()
     ensures { StandForStates }
 {}

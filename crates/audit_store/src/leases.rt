@@ -1,7 +1,7 @@
-ghost use Rattle.std.specs.Prelude.{◌≡◌, ◌≤◌, ℕ, ◌<◌, [], length, insert, remove, map, IfOk, IfSome, IfNone, OnOk, OnErr};
+ghost use Rattle.std.specs.Prelude.{◌≡◌, ◌≤◌, ℕ, ◌<◌, true, [], length, insert, remove, map, IfOk, IfSome, IfNone, OnOk, OnErr};
 ghost use Rattle.store_model.specs.Leases.{granted, least_free, with_lease, without_lease, lease_number};
 ghost use Rattle.store_model.specs.Transactions.{has_lease};
-ghost use Rattle.audit_store.specs.ShortLeases.{AreShort};
+ghost use Rattle.audit_store.specs.ProperLeases.{AreProper};
 
 use etcd_types::{List, NoMemory};
 use std::alloc::Global;
@@ -9,9 +9,10 @@ use std::marker::Model;
 use store_model::Lease;
 
 /// The longest time to live of a lease, in seconds.
-pub(crate) const LONGEST_TTL: u64 = 9_000_000_000;
+pub(crate) const LONGEST_TTL_SECONDS: u64 = 9_000_000_000;
 
-/// The leases of a store, by rising numbers. Contracts see it as the list of leases. No time to live is above the longest.
+/// The leases of a store, by rising numbers. Contracts see it as the list of leases. Their numbers
+/// are positive, and no time to live is above the longest.
 #[derive(Debug, Drop)]
 pub(crate) struct Leases {
     items: Vec<Lease>,
@@ -20,13 +21,13 @@ pub(crate) struct Leases {
 impl Model for Leases {
     ghost use Rattle.std.specs.Prelude.{List};
     ghost use Rattle.store_model.specs.declared.lease.Lease.{Lease};
-    ghost use Rattle.audit_store.specs.ShortLeases.{AreShort};
+    ghost use Rattle.audit_store.specs.ProperLeases.{AreProper};
 
     ghost Value = { List Lease };
 
     ghost view = { λ l. l.items.items };
 
-    ghost invariant = { λ l. AreShort l.items.items };
+    ghost invariant = { λ l. AreProper l.items.items };
 }
 
 impl Leases {
@@ -39,9 +40,10 @@ impl Leases {
     }
 
     pub(crate) fn has(&self, number: u64) -> bool
-        ensures { result ≡ has_lease self.now number }
+        ensures there { result ≡ has_lease self.now number }
+        ensures positive { result ≡ true → 0 < number }
     {
-        self.items.iter().any(|lease| lease.number == number)
+        has_lease(self.items.as_slice(), number)
     }
 
     /// The time to live that the lease was granted, or 0 where there is none.
@@ -59,7 +61,8 @@ impl Leases {
 
     /// The least positive number that is not in use.
     pub(crate) fn least_free(&self) -> u64
-        ensures { result ≡ least_free self.now }
+        ensures number { result ≡ least_free self.now }
+        ensures positive { 0 < result }
     {
         let mut number = 1;
         for lease in &self.items {
@@ -73,7 +76,8 @@ impl Leases {
 
     /// Puts the lease in its place.
     pub(crate) fn add(&mut self, lease: Lease) -> Result<(), NoMemory>
-        requires { lease.ttl ≤ 9_000_000_000 }
+        requires short { lease.ttl ≤ 9_000_000_000 }
+        requires positive { 0 < lease.number }
         ensures ok { OnOk result (self.new ≡ with_lease lease self.old) }
         ensures err { OnErr result (self.new ≡ self.old) }
     {
@@ -99,6 +103,12 @@ impl Leases {
         }
         Ok(numbers)
     }
+}
+
+fn has_lease(leases: &[Lease], number: u64) -> bool
+    ensures { result ≡ has_lease leases.now number }
+{
+    leases.iter().any(|lease| lease.number == number)
 }
 
 /// The place of a number among rising ones.

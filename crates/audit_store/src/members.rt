@@ -1,18 +1,19 @@
-ghost use Rattle.std.specs.Prelude.{◌≡◌, IfOk, IfErr, OnErr};
+ghost use Rattle.std.specs.Prelude.{◌≡◌, ◌<◌, ◌^◌, IfOk, IfErr, OnErr};
 ghost use Rattle.store_model.specs.Members.{applied};
 ghost use Rattle.store_model.specs.Leases.{expired};
+ghost use Rattle.store_model.specs.History.{History};
+ghost use Rattle.store_index.specs.Index.{HoldsKept};
 ghost use Rattle.audit_store.specs.Store.{state_of};
 ghost use Rattle.audit_store.specs.Faults.{StepsTo, IsFault};
 
-use crate::requests::newest;
 use crate::store::Store;
 use store_model::StoreFault;
 
 impl Store {
     #[tactic(auto, unfolding(store_model::specs::Members::applied))]
     pub(crate) fn apply_at(&mut self, member: u32, revision: u64) -> Result<(), StoreFault>
-        ensures step { IfOk result (λ _. StepsTo self.new (applied (state_of self.old) member revision)) }
-        ensures fault { IfErr result (λ fault. IsFault fault (applied (state_of self.old) member revision)) }
+        ensures step { IfOk result (λ _. (h : History) → HoldsKept self.old.index h → StepsTo self.new (applied (state_of self.old h) member revision)) }
+        ensures fault { IfErr result (λ fault. (h : History) → HoldsKept self.old.index h → IsFault fault (applied (state_of self.old h) member revision)) }
         ensures err { OnErr result (self.new ≡ self.old) }
     {
         let members = self.applied.as_slice();
@@ -21,7 +22,7 @@ impl Store {
         }
         let place = (member - 1) as usize;
         let applied = members[place];
-        let newest = newest(self.revisions.as_slice());
+        let newest = self.index.newest;
         if revision < applied || newest < revision {
             return Err(StoreFault::BadApply { applied, newest });
         }
@@ -31,8 +32,9 @@ impl Store {
 
     #[tactic(auto, unfolding(store_model::specs::Leases::expired))]
     pub(crate) fn expire_lease(&mut self, lease: u64) -> Result<(), StoreFault>
-        ensures step { IfOk result (λ _. StepsTo self.new (expired (state_of self.old) lease)) }
-        ensures fault { IfErr result (λ fault. IsFault fault (expired (state_of self.old) lease)) }
+        requires { self.old.index.newest < 2 ^ 63 }
+        ensures step { IfOk result (λ _. (h : History) → HoldsKept self.old.index h → StepsTo self.new (expired (state_of self.old h) lease)) }
+        ensures fault { IfErr result (λ fault. (h : History) → HoldsKept self.old.index h → IsFault fault (expired (state_of self.old h) lease)) }
         ensures err { OnErr result (self.new ≡ self.old) }
     {
         if !self.leases.has(lease) {

@@ -1,52 +1,38 @@
 ghost use Rattle.std.specs.Prelude.{◌≡◌, IfOk};
-ghost use Rattle.store_model.specs.History.{with_revision};
-ghost use Rattle.store_model.specs.Ranges.{records_now};
-ghost use Rattle.store_model.specs.Reads.{asked_history, read};
+ghost use Rattle.audit_store.specs.Visible.{is_dropped as is_read_dropped};
+ghost use Rattle.store_model.specs.History.{History, with_revision, up_to_revision};
+ghost use Rattle.store_model.specs.Reads.{read as read_at};
+ghost use Rattle.store_index.specs.Index.{HoldsKept};
 
-use crate::records::{records_now, up_to_revision};
-use etcd_types::{Body, KeyRange, Kv, List, NoMemory, RangeAsk, Refusal};
+use etcd_types::{Body, NoMemory, RangeAsk, Refusal};
 use std::alloc::Global;
-use store_history::{is_unsupported, range_body};
+use store_index::Index;
 use store_model::KeyChange;
+use store_reads::read;
 use store_refusals as refusals;
 
-/// What the range is answered on the revisions with `made` as the last one, where `latest` is the newest revision.
-pub(crate) fn read(
-    alloc: Global,
-    revisions: &[List<KeyChange>],
-    made: &[KeyChange],
-    latest: u64,
-    compacted: u64,
-    ask: &RangeAsk,
-) -> Result<Result<Body, Refusal>, NoMemory>
-    ensures { IfOk result (λ told. told ≡ read (with_revision revisions.now made.now) latest compacted ask.now) }
+/// Whether the range asks for a revision below the compaction.
+fn is_dropped(compacted: u64, latest: u64, ask: &RangeAsk) -> bool
+    ensures { result ≡ is_read_dropped compacted latest ask.now }
 {
-    if latest < ask.revision {
-        return Ok(Err(refusals::future_revision(alloc)?));
-    }
-    if ask.revision != 0 && ask.revision < compacted {
-        return Ok(Err(refusals::compacted_revision(alloc)?));
-    }
-    if is_unsupported(&ask.sort) {
-        return Ok(Err(refusals::unsupported(alloc)?));
-    }
-    let records = asked_records(alloc, revisions, made, ask.revision, &ask.range)?;
-    Ok(Ok(range_body(alloc, ask, records)?))
+    !(latest < ask.revision) && (ask.revision != 0 && ask.revision < compacted)
 }
 
-fn asked_records(
+/// What the range is answered on the history up to the revision `latest`, at this compaction.
+pub(crate) fn visible_read(
     alloc: Global,
-    revisions: &[List<KeyChange>],
+    index: &Index,
+    compacted: u64,
     made: &[KeyChange],
-    revision: u64,
-    range: &KeyRange,
-) -> Result<List<Kv>, NoMemory>
-    ensures { IfOk result (λ records. records ≡ records_now (asked_history (with_revision revisions.now made.now) revision) range.now) }
+    latest: u64,
+    ask: &RangeAsk,
+) -> Result<Result<Body, Refusal>, NoMemory>
+    requires { index.now.compacted ≡ 0 }
+    ensures { IfOk result (λ told. (h : History) → HoldsKept index.now h
+        → told ≡ read_at (up_to_revision (with_revision h made.now) latest) latest compacted ask.now) }
 {
-    if revision == 0 || (revisions.len() as u64) < revision - 1 {
-        Ok(records_now(alloc, revisions, made, range)?)
-    } else {
-        let earlier = up_to_revision(revisions, revision);
-        Ok(records_now(alloc, earlier, &[], range)?)
+    if is_dropped(compacted, latest, ask) {
+        return Ok(Err(refusals::compacted_revision(alloc)?));
     }
+    Ok(read(alloc, index, made, latest, ask)?)
 }

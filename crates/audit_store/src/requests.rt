@@ -1,22 +1,21 @@
-ghost use Rattle.std.specs.Prelude.{◌≡◌, [], IfOk, OnOk, OnErr};
+ghost use Rattle.std.specs.Prelude.{◌≡◌, ◌<◌, ◌≤◌, ◌^◌, [], IfOk, OnOk, OnErr};
 ghost use Rattle.etcd_types.specs.declared.operation.Op.TheVariants as op;
-ghost use Rattle.store_model.specs.History.{newest, with_revision};
+ghost use Rattle.store_model.specs.History.{History, newest, with_revision};
 ghost use Rattle.store_model.specs.State.{header, applied_by, HasMember};
 ghost use Rattle.store_model.specs.Step.{exec, IsExecuted, done, exec_compact, settled, told_at, exec_op, exec_range, read_applied};
 ghost use Rattle.etcd_types.specs.declared.answer.Body.TheVariants as body;
 ghost use Rattle.store_model.specs.Leases.{granted};
 ghost use Rattle.store_model.specs.Transactions.{run_txn};
+ghost use Rattle.store_index.specs.Index.{HoldsKept};
 ghost use Rattle.audit_store.specs.Store.{Stands, Takes, state_of};
 ghost use Rattle.audit_store.specs.Running.{ran_of};
 
-use crate::reads::read;
-use crate::records::up_to_revision;
+use crate::reads::visible_read;
 use crate::store::Store;
 use etcd_types::{
-    Answer, Body, DeleteAsk, Header, List, NoMemory, PutAsk, RangeAsk, Refusal, Reply, Request,
-    TxnAsk,
+    Answer, Body, DeleteAsk, Header, NoMemory, PutAsk, RangeAsk, Refusal, Reply, Request, TxnAsk,
 };
-use store_model::KeyChange;
+use store_index::Changes;
 use store_refusals as refusals;
 use store_refusals::first_refusal_of_txn;
 
@@ -24,9 +23,10 @@ impl Store {
     /// Does the request, as the definitions say of the state that this store holds.
     #[tactic(auto, unfolding(store_model::specs::Step::exec))]
     pub(crate) fn exec(&mut self, member: u32, request: &Request) -> Result<Answer, NoMemory>
+        requires room { self.old.index.newest < 2 ^ 63 }
         requires executed { IsExecuted request.now }
-        requires member { HasMember (state_of self.old) member }
-        ensures step { IfOk result (λ answer. Takes self.new answer (exec (state_of self.old) member request.now)) }
+        requires member { HasMember (state_of self.old []) member }
+        ensures step { IfOk result (λ answer. (h : History) → HoldsKept self.old.index h → Takes self.new answer (exec (state_of self.old h) member request.now)) }
         ensures err { OnErr result (self.new ≡ self.old) }
     {
         match request {
@@ -51,20 +51,20 @@ impl Store {
     }
 
     fn keep_alive(&self, member: u32, lease: u64) -> Answer
-        ensures { Takes self.now result (done (state_of self.now) member (body.KeepAlive lease (granted self.now.leases lease))) }
+        ensures { (h : History) → HoldsKept self.now.index h → Takes self.now result (done (state_of self.now h) member (body.KeepAlive lease (granted self.now.leases lease))) }
     {
         let ttl = self.leases.granted(lease);
         self.done(member, Body::KeepAlive { lease, ttl })
     }
 
     pub(crate) fn exec_compact(&mut self, member: u32, revision: u64) -> Result<Answer, NoMemory>
-        ensures step { IfOk result (λ answer. Takes self.new answer (exec_compact (state_of self.old) member revision)) }
+        ensures step { IfOk result (λ answer. (h : History) → HoldsKept self.old.index h → Takes self.new answer (exec_compact (state_of self.old h) member revision)) }
         ensures err { OnErr result (self.new ≡ self.old) }
     {
         if revision <= self.compacted {
             return Ok(Answer::Refused(refusals::compacted_revision(self.alloc)?));
         }
-        if newest(self.revisions.as_slice()) < revision {
+        if self.index.newest < revision {
             return Ok(Answer::Refused(refusals::future_revision(self.alloc)?));
         }
         self.compacted = revision;
@@ -72,7 +72,8 @@ impl Store {
     }
 
     fn exec_txn(&mut self, member: u32, txn: &TxnAsk) -> Result<Answer, NoMemory>
-        ensures step { IfOk result (λ answer. Takes self.new answer (exec_op (state_of self.old) member (op.Txn txn.now))) }
+        requires room { self.old.index.newest < 2 ^ 63 }
+        ensures step { IfOk result (λ answer. (h : History) → HoldsKept self.old.index h → Takes self.new answer (exec_op (state_of self.old h) member (op.Txn txn.now))) }
         ensures err { OnErr result (self.new ≡ self.old) }
     {
         match first_refusal_of_txn(self.alloc, txn)? {
@@ -82,27 +83,31 @@ impl Store {
     }
 
     fn exec_lists(&mut self, member: u32, txn: &TxnAsk) -> Result<Answer, NoMemory>
-        ensures step { IfOk result (λ answer. Takes self.new answer (settled (state_of self.old) member (run_txn (state_of self.old) txn.now []))) }
+        requires room { self.old.index.newest < 2 ^ 63 }
+        ensures step { IfOk result (λ answer. (h : History) → HoldsKept self.old.index h
+            → Takes self.new answer
+            (settled (state_of self.old h) member (run_txn (state_of self.old h) txn.now []))) }
         ensures err { OnErr result (self.new ≡ self.old) }
     {
-        let mut made = List::new(self.alloc);
+        let mut made = Changes::new(self.alloc);
         let told = self.run_txn(txn, &mut made)?;
         Ok(self.settle(member, made, told)?)
     }
 
     /// The answer, with the newest revision in its header.
     pub(crate) fn done(&self, member: u32, body: Body) -> Answer
-        ensures { Takes self.now result (done (state_of self.now) member body) }
+        ensures { (h : History) → HoldsKept self.now.index h → Takes self.now result (done (state_of self.now h) member body) }
     {
         Answer::Done(Reply {
-            header: header(member, newest(self.revisions.as_slice())),
+            header: header(member, self.index.newest),
             body,
         })
     }
 
     pub(crate) fn exec_range(&mut self, member: u32, ask: &RangeAsk) -> Result<Answer, NoMemory>
-        requires member { HasMember (state_of self.old) member }
-        ensures step { IfOk result (λ answer. Takes self.new answer (exec_range (state_of self.old) member ask.now)) }
+        requires room { self.old.index.newest < 2 ^ 63 }
+        requires member { HasMember (state_of self.old []) member }
+        ensures step { IfOk result (λ answer. (h : History) → HoldsKept self.old.index h → Takes self.new answer (exec_range (state_of self.old h) member ask.now)) }
         ensures err { OnErr result (self.new ≡ self.old) }
     {
         if ask.range.key.is_empty() {
@@ -111,31 +116,33 @@ impl Store {
         if ask.serializable {
             return Ok(self.read_applied(member, ask)?);
         }
-        let made = List::new(self.alloc);
+        let made = Changes::new(self.alloc);
         let told = self.run_range(ask, &made)?;
         Ok(self.settle(member, made, told)?)
     }
 
     pub(crate) fn exec_put(&mut self, member: u32, ask: &PutAsk) -> Result<Answer, NoMemory>
-        ensures step { IfOk result (λ answer. Takes self.new answer (exec_op (state_of self.old) member (op.Put ask.now))) }
+        requires room { self.old.index.newest < 2 ^ 63 }
+        ensures step { IfOk result (λ answer. (h : History) → HoldsKept self.old.index h → Takes self.new answer (exec_op (state_of self.old h) member (op.Put ask.now))) }
         ensures err { OnErr result (self.new ≡ self.old) }
     {
         if ask.key.is_empty() {
             return Ok(Answer::Refused(refusals::key_not_provided(self.alloc)?));
         }
-        let mut made = List::new(self.alloc);
+        let mut made = Changes::new(self.alloc);
         let told = self.run_put(ask, &mut made)?;
         Ok(self.settle(member, made, told)?)
     }
 
     pub(crate) fn exec_delete(&mut self, member: u32, ask: &DeleteAsk) -> Result<Answer, NoMemory>
-        ensures step { IfOk result (λ answer. Takes self.new answer (exec_op (state_of self.old) member (op.Delete ask.now))) }
+        requires room { self.old.index.newest < 2 ^ 63 }
+        ensures step { IfOk result (λ answer. (h : History) → HoldsKept self.old.index h → Takes self.new answer (exec_op (state_of self.old h) member (op.Delete ask.now))) }
         ensures err { OnErr result (self.new ≡ self.old) }
     {
         if ask.range.key.is_empty() {
             return Ok(Answer::Refused(refusals::key_not_provided(self.alloc)?));
         }
-        let mut made = List::new(self.alloc);
+        let mut made = Changes::new(self.alloc);
         let told = self.run_delete(ask, &mut made)?;
         Ok(self.settle(member, made, told)?)
     }
@@ -144,10 +151,11 @@ impl Store {
     fn settle(
         &mut self,
         member: u32,
-        made: List<KeyChange>,
+        made: Changes,
         told: Result<Body, Refusal>,
     ) -> Result<Answer, NoMemory>
-        ensures step { IfOk result (λ answer. Takes self.new answer (settled (state_of self.old) member (ran_of made told))) }
+        requires room { self.old.index.newest < 2 ^ 63 }
+        ensures step { IfOk result (λ answer. (h : History) → HoldsKept self.old.index h → Takes self.new answer (settled (state_of self.old h) member (ran_of made told))) }
         ensures err { OnErr result (self.new ≡ self.old) }
     {
         match told {
@@ -156,34 +164,38 @@ impl Store {
         }
     }
 
-    fn commit(&mut self, member: u32, made: List<KeyChange>, body: Body) -> Result<Answer, NoMemory>
-        ensures step { IfOk result (λ answer. Takes self.new answer (done (record (state_of self.old) { history = with_revision self.old.revisions made }) member body)) }
+    fn commit(&mut self, member: u32, made: Changes, body: Body) -> Result<Answer, NoMemory>
+        requires room { self.old.index.newest < 2 ^ 63 }
+        ensures step { IfOk result (λ answer. (h : History) → HoldsKept self.old.index h
+            → Takes self.new answer
+            (done (record (state_of self.old h) { history = with_revision h made }) member body)) }
         ensures err { OnErr result (self.new ≡ self.old) }
     {
         self.add_revision(made)?;
         Ok(self.done(member, body))
     }
 
-    pub(crate) fn add_revision(&mut self, made: List<KeyChange>) -> Result<(), NoMemory>
-        ensures ok { OnOk result (self.new ≡ record self.old { revisions = with_revision self.old.revisions made }) }
+    pub(crate) fn add_revision(&mut self, made: Changes) -> Result<(), NoMemory>
+        requires { self.old.index.newest < 2 ^ 63 }
+        ensures ok { OnOk result ((h : History) → HoldsKept self.old.index h → Stands self.new (record (state_of self.old h) { history = with_revision h made })) }
+        ensures leases { self.new.leases ≡ self.old.leases }
         ensures err { OnErr result (self.new ≡ self.old) }
     {
-        if !made.as_slice().is_empty() {
-            self.revisions.push(made)?;
-        }
+        self.index.add(made)?;
         Ok(())
     }
 
     fn read_applied(&self, member: u32, ask: &RangeAsk) -> Result<Answer, NoMemory>
-        requires { HasMember (state_of self.now) member }
-        ensures { IfOk result (λ answer. Takes self.now answer (read_applied (state_of self.now) member (applied_by (state_of self.now) member) ask.now)) }
+        requires { HasMember (state_of self.now []) member }
+        ensures { IfOk result (λ answer. (h : History) → HoldsKept self.now.index h
+            → Takes self.now answer
+            (read_applied (state_of self.now h) member (applied_by (state_of self.now h) member) ask.now)) }
     {
         let applied = self.applied_by(member);
         if applied < self.compacted {
             return Ok(Answer::Refused(refusals::compacted_revision(self.alloc)?));
         }
-        let revisions = up_to_revision(self.revisions.as_slice(), applied);
-        match read(self.alloc, revisions, &[], applied, self.compacted, ask)? {
+        match visible_read(self.alloc, &self.index, self.compacted, &[], applied, ask)? {
             Ok(body) => Ok(Answer::Done(Reply {
                 header: header(member, applied),
                 body,
@@ -193,18 +205,11 @@ impl Store {
     }
 
     fn applied_by(&self, member: u32) -> u64
-        requires { HasMember (state_of self.now) member }
-        ensures { result ≡ applied_by (state_of self.now) member }
+        requires { HasMember (state_of self.now []) member }
+        ensures { result ≡ applied_by (state_of self.now []) member }
     {
         self.applied.as_slice()[(member - 1) as usize]
     }
-}
-
-/// The newest revision.
-pub(crate) fn newest(revisions: &[List<KeyChange>]) -> u64
-    ensures { result ≡ newest revisions.now }
-{
-    revisions.len() as u64 + 1
 }
 
 pub(crate) fn header(member: u32, revision: u64) -> Header

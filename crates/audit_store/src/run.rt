@@ -1,17 +1,19 @@
-ghost use Rattle.std.specs.Prelude.{◌≡◌, ◌++◌, map, IfOk, OnOk};
+ghost use Rattle.std.specs.Prelude.{◌≡◌, [], ◌∷◌, ◌++◌, None, map, IfOk, OnOk};
+ghost use Rattle.etcd_types.specs.declared.answer.Body.TheVariants as body;
 ghost use Rattle.store_model.specs.declared.history.KeyChange.TheVariants as change;
-ghost use Rattle.store_model.specs.History.{newest, with_revision};
+ghost use Rattle.store_model.specs.History.{History};
 ghost use Rattle.store_model.specs.Transactions.{put_on, run_put, deletion, delete_all, run_delete, run_range, run, run_all, run_txn};
+ghost use Rattle.store_index.specs.Index.{HoldsKept};
 ghost use Rattle.audit_store.specs.Store.{state_of};
 ghost use Rattle.audit_store.specs.Running.{Runs, RunsAll};
 
-use crate::compares::all_hold;
-use crate::reads::read;
-use crate::records::{record_now, records_now};
+use crate::reads::visible_read;
 use crate::store::Store;
 use etcd_types::{Body, DeleteAsk, Kv, List, NoMemory, Op, PutAsk, RangeAsk, Refusal, TxnAsk};
 use std::alloc::Global;
+use store_index::Changes;
 use store_model::KeyChange;
+use store_reads::{all_hold, latest, record_now};
 use store_refusals as refusals;
 
 /// Operations run in order, and `made` is what the request changed so far. Each gives its answer, or the refusal of the
@@ -22,9 +24,9 @@ impl Store {
     pub(crate) fn run(
         &self,
         operation: &Op,
-        made: &mut List<KeyChange>,
+        made: &mut Changes,
     ) -> Result<Result<Body, Refusal>, NoMemory>
-        ensures { IfOk result (λ told. Runs told made.new (run (state_of self.now) operation.now made.old)) }
+        ensures { IfOk result (λ told. (h : History) → HoldsKept self.now.index h → Runs told made.new (run (state_of self.now h) operation.now made.old)) }
     {
         match operation {
             Op::Range(ask) => Ok(self.run_range(ask, made)?),
@@ -38,17 +40,11 @@ impl Store {
     pub(crate) fn run_txn(
         &self,
         txn: &TxnAsk,
-        made: &mut List<KeyChange>,
+        made: &mut Changes,
     ) -> Result<Result<Body, Refusal>, NoMemory>
-        ensures { IfOk result (λ told. Runs told made.new (run_txn (state_of self.now) txn.now made.old)) }
+        ensures { IfOk result (λ told. (h : History) → HoldsKept self.now.index h → Runs told made.new (run_txn (state_of self.now h) txn.now made.old)) }
     {
-        let revisions = self.revisions.as_slice();
-        let succeeded = all_hold(
-            self.alloc,
-            revisions,
-            made.as_slice(),
-            txn.compare.as_slice(),
-        )?;
+        let succeeded = all_hold(&self.index, made.as_slice(), txn.compare.as_slice())?;
         let branch = if succeeded {
             &txn.success
         } else {
@@ -64,9 +60,9 @@ impl Store {
     fn run_all(
         &self,
         operations: &List<Op>,
-        made: &mut List<KeyChange>,
+        made: &mut Changes,
     ) -> Result<Result<List<Body>, Refusal>, NoMemory>
-        ensures { IfOk result (λ told. RunsAll told made.new (run_all (state_of self.now) operations.now made.old)) }
+        ensures { IfOk result (λ told. (h : History) → HoldsKept self.now.index h → RunsAll told made.new (run_all (state_of self.now h) operations.now made.old)) }
     {
         let mut bodies = List::new(self.alloc);
         for operation in operations.as_slice() {
@@ -81,61 +77,66 @@ impl Store {
     pub(crate) fn run_range(
         &self,
         ask: &RangeAsk,
-        made: &List<KeyChange>,
+        made: &Changes,
     ) -> Result<Result<Body, Refusal>, NoMemory>
-        ensures { IfOk result (λ told. Runs told made.now (run_range (state_of self.now) ask.now made.now)) }
+        ensures { IfOk result (λ told. (h : History) → HoldsKept self.now.index h → Runs told made.now (run_range (state_of self.now h) ask.now made.now)) }
     {
         let changes = made.as_slice();
-        let revisions = self.revisions.as_slice();
-        let latest = latest(revisions, changes);
-        let told = read(self.alloc, revisions, changes, latest, self.compacted, ask)?;
+        let latest = latest(&self.index, changes);
+        let told = visible_read(
+            self.alloc,
+            &self.index,
+            self.compacted,
+            changes,
+            latest,
+            ask,
+        )?;
         Ok(told)
     }
 
     pub(crate) fn run_put(
         &self,
         ask: &PutAsk,
-        made: &mut List<KeyChange>,
+        made: &mut Changes,
     ) -> Result<Result<Body, Refusal>, NoMemory>
-        ensures { IfOk result (λ told. Runs told made.new (run_put (state_of self.now) ask.now made.old)) }
+        ensures { IfOk result (λ told. (h : History) → HoldsKept self.now.index h → Runs told made.new (run_put (state_of self.now h) ask.now made.old)) }
     {
         if ask.lease != 0 && !self.leases.has(ask.lease) {
             return Ok(Err(refusals::lease_not_found(self.alloc)?));
         }
-        let revisions = self.revisions.as_slice();
-        let old = record_now(self.alloc, revisions, made.as_slice(), &ask.key)?;
+        if !ask.ignore_lease && !ask.prev_kv {
+            return Ok(Ok(put_plainly(self.alloc, ask, made)?));
+        }
+        let old = record_now(self.alloc, &self.index, made.as_slice(), &ask.key)?;
         Ok(put_on(self.alloc, ask, made, old)?)
     }
 
     pub(crate) fn run_delete(
         &self,
         ask: &DeleteAsk,
-        made: &mut List<KeyChange>,
+        made: &mut Changes,
     ) -> Result<Result<Body, Refusal>, NoMemory>
-        ensures { IfOk result (λ told. Runs told made.new (run_delete (state_of self.now) ask.now made.old)) }
+        ensures { IfOk result (λ told. (h : History) → HoldsKept self.now.index h → Runs told made.new (run_delete (state_of self.now h) ask.now made.old)) }
     {
-        let revisions = self.revisions.as_slice();
-        let gone = records_now(self.alloc, revisions, made.as_slice(), &ask.range)?;
+        let gone = self.index.records_with(&ask.range, made.as_slice())?;
         Ok(delete_all(self.alloc, ask, made, gone)?)
     }
 }
 
-/// The newest revision that an operation sees: what the request has changed so far counts as one.
-fn latest(revisions: &[List<KeyChange>], made: &[KeyChange]) -> u64
-    ensures { result ≡ newest (with_revision revisions.now made.now) }
+/// The put that needs nothing of the key's record before it, so that this isn't looked up.
+fn put_plainly(alloc: Global, ask: &PutAsk, made: &mut Changes) -> Result<Body, NoMemory>
+    ensures made { OnOk result (made.new ≡ made.old ++ change.Put ask.now.key ask.now.value ask.now.lease ∷ []) }
+    ensures body { IfOk result (λ told. told ≡ body.Put None) }
 {
-    if made.is_empty() {
-        revisions.len() as u64 + 1
-    } else {
-        revisions.len() as u64 + 2
-    }
+    made.push(put_change(alloc, ask, ask.lease)?)?;
+    Ok(Body::Put { prev: None })
 }
 
 /// The put, where `old` is the key's record before it.
 fn put_on(
     alloc: Global,
     ask: &PutAsk,
-    made: &mut List<KeyChange>,
+    made: &mut Changes,
     old: Option<Kv>,
 ) -> Result<Result<Body, Refusal>, NoMemory>
     ensures { IfOk result (λ told. Runs told made.new (put_on ask.now made.old old)) }
@@ -174,7 +175,7 @@ fn put_change(alloc: Global, ask: &PutAsk, lease: u64) -> Result<KeyChange, NoMe
 fn delete_all(
     alloc: Global,
     ask: &DeleteAsk,
-    made: &mut List<KeyChange>,
+    made: &mut Changes,
     gone: List<Kv>,
 ) -> Result<Result<Body, Refusal>, NoMemory>
     ensures { IfOk result (λ told. Runs told made.new (delete_all ask.now made.old gone)) }
@@ -185,11 +186,7 @@ fn delete_all(
     Ok(Ok(Body::Delete { deleted, prevs }))
 }
 
-pub(crate) fn add_deletions(
-    alloc: Global,
-    made: &mut List<KeyChange>,
-    gone: &[Kv],
-) -> Result<(), NoMemory>
+pub(crate) fn add_deletions(alloc: Global, made: &mut Changes, gone: &[Kv]) -> Result<(), NoMemory>
     ensures { OnOk result (made.new ≡ made.old ++ map deletion gone.now) }
 {
     for record in gone {

@@ -1,6 +1,8 @@
 ghost use Rattle.std.specs.Prelude.{◌≡◌, ◌<◌, ◌≤◌, ◌^◌, false, length, IfOk, IfErr, OnErr};
 ghost use Rattle.etcd_types.specs.declared.request.Request.TheVariants as request;
+ghost use Rattle.store_model.specs.Events.{watch_events as events_of_watch};
 ghost use Rattle.store_model.specs.History.{newest};
+ghost use Rattle.store_model.specs.Records.{record_now as record_at};
 ghost use Rattle.store_model.specs.State.{State, HasMember, starting};
 ghost use Rattle.store_model.specs.Step.{exec, IsExecuted};
 ghost use Rattle.store_model.specs.Leases.{expired};
@@ -8,22 +10,25 @@ ghost use Rattle.store_model.specs.Members.{applied};
 ghost use Rattle.store_model.specs.Watches.{opened, pushed, progressed};
 
 use crate::leases::Leases;
-use crate::requests::newest;
 use crate::table::Table;
-use etcd_types::{Answer, List, NoMemory, Request, WatchAsk, WatchItem};
+use etcd_types::{Answer, Bytes, Event, Kv, List, NoMemory, Request, WatchAsk, WatchItem};
 use std::alloc::Global;
-use store_model::{KeyChange, OpenWatch, StoreFault};
+use store_index::Index;
+use store_model::{OpenWatch, StoreFault};
+use store_reads::{record_now, watch_events};
 
 /// A store of one cluster, with the revisions that its members have applied.
 #[derive(Debug, Drop)]
 pub struct Store {
     pub(crate) alloc: Global,
-    pub(crate) revisions: List<List<KeyChange>>,
+    /// Of the whole history: no compaction is told to it.
+    pub(crate) index: Index,
     pub(crate) compacted: u64,
     pub(crate) leases: Leases,
     pub(crate) applied: Table<u64>,
     pub(crate) watches: Table<OpenWatch>,
     ghost has_a_member: { 0 < length applied },
+    ghost whole: { index.compacted ≡ 0 },
 }
 
 impl Store {
@@ -41,7 +46,7 @@ impl Store {
         }
         Ok(Store {
             alloc,
-            revisions: List::new(alloc),
+            index: Index::new(alloc),
             compacted: 0,
             leases: Leases::new(alloc),
             applied,
@@ -53,14 +58,7 @@ impl Store {
     pub fn newest(&self) -> u64
         ensures { (s : State) → Stands self.now s → result ≡ newest s.history }
     {
-        newest(self.revisions.as_slice())
-    }
-
-    /// The revisions that it made, from revision 2 on, each with its changes. It takes no memory.
-    pub fn revisions(&self) -> &[List<KeyChange>]
-        ensures { (s : State) → Stands self.now s → result.now ≡ s.history }
-    {
-        self.revisions.as_slice()
+        self.index.newest
     }
 
     /// The compaction revision, or 0 where there was none. It takes no memory.
@@ -68,6 +66,22 @@ impl Store {
         ensures { (s : State) → Stands self.now s → result ≡ s.compacted }
     {
         self.compacted
+    }
+
+    /// The record of the key, where it has one.
+    pub fn record(&self, key: &Bytes) -> Result<Option<Kv>, NoMemory>
+        ensures { IfOk result (λ found. (s : State) → Stands self.now s → found ≡ record_at s.history key.now) }
+    {
+        Ok(record_now(self.alloc, &self.index, &[], key)?)
+    }
+
+    /// The events of the whole history for a watch from a revision on, compacted or not. Where the records before were asked for, each
+    /// event has its own.
+    pub fn events(&self, ask: &WatchAsk, from: u64) -> Result<List<Event>, NoMemory>
+        ensures { IfOk result (λ events. (s : State) → Stands self.now s → events ≡ events_of_watch s.history 0 ask.now from) }
+    {
+        let batch = watch_events(self.alloc, &self.index, ask, from)?;
+        Ok(batch.events)
     }
 
     /// The number of members, from 1. It takes no memory.

@@ -1,18 +1,19 @@
-ghost use Rattle.std.specs.Prelude.{◌≡◌, ◌<◌, ◌≤◌, ◌+◌, ◌-◌, None, Some, slice_get, slice_set, length, IsSome, IfOk, IfErr, OnErr};
+ghost use Rattle.std.specs.Prelude.{◌≡◌, [], ◌<◌, ◌≤◌, ◌^◌, ◌-◌, None, Some, slice_get, slice_set, length, IsSome, IfOk, IfErr, OnErr};
 ghost use Rattle.std.specs.Option.{option_copied};
 ghost use Rattle.store_model.specs.declared.watch.OpenWatch.{OpenWatch};
-ghost use Rattle.store_model.specs.History.{newest};
+ghost use Rattle.store_model.specs.History.{History};
+ghost use Rattle.store_index.specs.Index.{HoldsKept};
 ghost use Rattle.store_model.specs.Watches.{watch_of, with_next, opened, pushed, push_to, progressed, progress_to, is_synced, watch_header, first_next};
-ghost use Rattle.audit_store.specs.Store.{state_of, Opens};
+ghost use Rattle.audit_store.specs.Store.{state_of, Stands, Opens};
 ghost use Rattle.audit_store.specs.Faults.{Gives, IsFault};
 ghost use Rattle.audit_store.specs.Pushes.{IsPush, IsPushOf, moved};
 
-use crate::events::watch_events;
-use crate::requests::{header, newest};
+use crate::events::visible_events;
+use crate::requests::header;
 use crate::store::Store;
 use crate::table::Table;
 use etcd_types::{Header, List, NoMemory, WatchAsk, WatchItem};
-use store_model::{KeyChange, OpenWatch, StoreFault};
+use store_model::{OpenWatch, StoreFault};
 
 /// A message of a watch, and the revision from which the watch goes on, where that changes.
 #[derive(Debug, Drop)]
@@ -23,7 +24,7 @@ pub(crate) struct Push {
 
 impl Store {
     pub(crate) fn open(&mut self, member: u32, ask: &WatchAsk) -> Result<u64, NoMemory>
-        ensures step { IfOk result (λ number. Opens self.new number (opened (state_of self.old) member ask.now)) }
+        ensures step { IfOk result (λ number. (h : History) → HoldsKept self.old.index h → Opens self.new number (opened (state_of self.old h) member ask.now)) }
         ensures err { OnErr result (self.new ≡ self.old) }
     {
         let number = self.watches.as_slice().len() as u64 + 1;
@@ -38,8 +39,8 @@ impl Store {
 
     /// Pushes what comes next on a watch.
     pub(crate) fn push_next(&mut self, number: u64) -> Result<WatchItem, StoreFault>
-        ensures step { IfOk result (λ item. Gives self.new item (pushed (state_of self.old) number)) }
-        ensures fault { IfErr result (λ fault. IsFault fault (pushed (state_of self.old) number)) }
+        ensures step { IfOk result (λ item. (h : History) → HoldsKept self.old.index h → Gives self.new item (pushed (state_of self.old h) number)) }
+        ensures fault { IfErr result (λ fault. (h : History) → HoldsKept self.old.index h → IsFault fault (pushed (state_of self.old h) number)) }
         ensures err { OnErr result (self.new ≡ self.old) }
     {
         match self.next_push(number) {
@@ -50,8 +51,8 @@ impl Store {
 
     #[tactic(auto, using(store_model::proofs::WatchLemmas::of_pushes))]
     fn next_push(&self, number: u64) -> Result<Push, StoreFault>
-        ensures step { IfOk result (λ push. IsPushOf (state_of self.now) number push (pushed (state_of self.now) number)) }
-        ensures fault { IfErr result (λ fault. IsFault fault (pushed (state_of self.now) number)) }
+        ensures step { IfOk result (λ push. (h : History) → HoldsKept self.now.index h → IsPushOf (state_of self.now h) number push (pushed (state_of self.now h) number)) }
+        ensures fault { IfErr result (λ fault. (h : History) → HoldsKept self.now.index h → IsFault fault (pushed (state_of self.now h) number)) }
     {
         match self.watch(number) {
             None => Err(StoreFault::NoSuchWatch(number)),
@@ -61,8 +62,8 @@ impl Store {
 
     /// Tells how far a watch has come.
     pub(crate) fn push_progress(&mut self, number: u64) -> Result<WatchItem, StoreFault>
-        ensures step { IfOk result (λ item. Gives self.new item (progressed (state_of self.old) number)) }
-        ensures fault { IfErr result (λ fault. IsFault fault (progressed (state_of self.old) number)) }
+        ensures step { IfOk result (λ item. (h : History) → HoldsKept self.old.index h → Gives self.new item (progressed (state_of self.old h) number)) }
+        ensures fault { IfErr result (λ fault. (h : History) → HoldsKept self.old.index h → IsFault fault (progressed (state_of self.old h) number)) }
         ensures err { OnErr result (self.new ≡ self.old) }
     {
         match self.next_progress(number) {
@@ -73,8 +74,8 @@ impl Store {
 
     #[tactic(auto, using(store_model::proofs::WatchLemmas::of_pushes))]
     fn next_progress(&self, number: u64) -> Result<Push, StoreFault>
-        ensures step { IfOk result (λ push. IsPushOf (state_of self.now) number push (progressed (state_of self.now) number)) }
-        ensures fault { IfErr result (λ fault. IsFault fault (progressed (state_of self.now) number)) }
+        ensures step { IfOk result (λ push. (h : History) → HoldsKept self.now.index h → IsPushOf (state_of self.now h) number push (progressed (state_of self.now h) number)) }
+        ensures fault { IfErr result (λ fault. (h : History) → HoldsKept self.now.index h → IsFault fault (progressed (state_of self.now h) number)) }
     {
         match self.watch(number) {
             None => Err(StoreFault::NoSuchWatch(number)),
@@ -84,7 +85,7 @@ impl Store {
 
     /// The watch of this number.
     fn watch(&self, number: u64) -> Option<&OpenWatch>
-        ensures { option_copied result ≡ watch_of (state_of self.now) number }
+        ensures { option_copied result ≡ watch_of (state_of self.now []) number }
     {
         if number == 0 {
             return None;
@@ -93,14 +94,16 @@ impl Store {
     }
 
     fn push_for(&self, number: u64, watch: &OpenWatch) -> Result<Push, StoreFault>
-        ensures step { IfOk result (λ push. IsPush (state_of self.now) number watch.now push (push_to (state_of self.now) number watch.now)) }
-        ensures fault { IfErr result (λ fault. IsFault fault (push_to (state_of self.now) number watch.now)) }
+        ensures step { IfOk result (λ push. (h : History) → HoldsKept self.now.index h
+            → IsPush (state_of self.now h) number watch.now push
+            (push_to (state_of self.now h) number watch.now)) }
+        ensures fault { IfErr result (λ fault. (h : History) → HoldsKept self.now.index h → IsFault fault (push_to (state_of self.now h) number watch.now)) }
     {
         let header = self.watch_header(watch);
         if watch.next == 0 {
             return Ok(Push {
                 item: WatchItem::Created(header),
-                next: Some(first_next(self.revisions.as_slice(), watch.ask.start)),
+                next: Some(first_next(self.index.newest, watch.ask.start)),
             });
         }
         if watch.next < self.compacted {
@@ -112,10 +115,9 @@ impl Store {
                 next: None,
             });
         }
-        let revisions = self.revisions.as_slice();
-        let batch = watch_events(
+        let batch = visible_events(
             self.alloc,
-            revisions,
+            &self.index,
             self.compacted,
             &watch.ask,
             watch.next,
@@ -133,18 +135,20 @@ impl Store {
     }
 
     fn progress_for(&self, number: u64, watch: &OpenWatch) -> Result<Push, StoreFault>
-        ensures step { IfOk result (λ push. IsPush (state_of self.now) number watch.now push (progress_to (state_of self.now) number watch.now)) }
-        ensures fault { IfErr result (λ fault. IsFault fault (progress_to (state_of self.now) number watch.now)) }
+        ensures step { IfOk result (λ push. (h : History) → HoldsKept self.now.index h
+            → IsPush (state_of self.now h) number watch.now push
+            (progress_to (state_of self.now h) number watch.now)) }
+        ensures fault { IfErr result (λ fault. (h : History) → HoldsKept self.now.index h → IsFault fault (progress_to (state_of self.now h) number watch.now)) }
     {
         if !watch.ask.progress {
             return Err(StoreFault::NotAsked(number));
         }
         let header = self.watch_header(watch);
-        let revisions = self.revisions.as_slice();
+        let newest = self.index.newest;
         if !self.is_synced(watch)? {
             return Err(StoreFault::NotSynced {
                 next: watch.next,
-                newest: newest(revisions),
+                newest,
             });
         }
         Ok(Push {
@@ -152,21 +156,20 @@ impl Store {
                 header,
                 events: List::new(self.alloc),
             },
-            next: Some(watch.next.max(behind_newest(revisions))),
+            next: Some(watch.next.max(newest + 1)),
         })
     }
 
     /// Whether the watch was created and has nothing to push.
     fn is_synced(&self, watch: &OpenWatch) -> Result<bool, NoMemory>
-        ensures { IfOk result (λ synced. synced ≡ is_synced (state_of self.now) watch.now) }
+        ensures { IfOk result (λ synced. (h : History) → HoldsKept self.now.index h → synced ≡ is_synced (state_of self.now h) watch.now) }
     {
         if watch.next == 0 || watch.next < self.compacted {
             return Ok(false);
         }
-        let revisions = self.revisions.as_slice();
-        let batch = watch_events(
+        let batch = visible_events(
             self.alloc,
-            revisions,
+            &self.index,
             self.compacted,
             &watch.ask,
             watch.next,
@@ -175,16 +178,18 @@ impl Store {
     }
 
     fn watch_header(&self, watch: &OpenWatch) -> Header
-        ensures { result ≡ watch_header (state_of self.now) watch.now }
+        ensures { (h : History) → HoldsKept self.now.index h → result ≡ watch_header (state_of self.now h) watch.now }
     {
-        header(watch.member, newest(self.revisions.as_slice()))
+        header(watch.member, self.index.newest)
     }
 
     /// Moves the watch on, and gives the message.
     fn go_on(&mut self, number: u64, push: Push) -> WatchItem
-        requires { IsSome (watch_of (state_of self.old) number) }
+        requires { IsSome (watch_of (state_of self.old []) number) }
         ensures item { result ≡ push.item }
-        ensures watch { (w : OpenWatch) → watch_of (state_of self.old) number ≡ Some w → state_of self.new ≡ moved (state_of self.old) number w push.next }
+        ensures watch { (h : History) (w : OpenWatch) → HoldsKept self.old.index h
+            → watch_of (state_of self.old h) number ≡ Some w
+            → Stands self.new (moved (state_of self.old h) number w push.next) }
     {
         if let Some(next) = push.next {
             self.set_next(number, next);
@@ -193,8 +198,10 @@ impl Store {
     }
 
     fn set_next(&mut self, number: u64, next: u64)
-        requires { IsSome (watch_of (state_of self.old) number) }
-        ensures { (w : OpenWatch) → watch_of (state_of self.old) number ≡ Some w → state_of self.new ≡ with_next (state_of self.old) number w next }
+        requires { IsSome (watch_of (state_of self.old []) number) }
+        ensures { (h : History) (w : OpenWatch) → HoldsKept self.old.index h
+            → watch_of (state_of self.old h) number ≡ Some w
+            → Stands self.new (with_next (state_of self.old h) number w next) }
     {
         self.watches.set_next((number - 1) as usize, next);
     }
@@ -212,18 +219,9 @@ impl Table<OpenWatch> {
 }
 
 /// The first revision of a watch: where it names none, the one behind the newest.
-fn first_next(revisions: &[List<KeyChange>], start: u64) -> u64
-    ensures { result ≡ first_next (newest revisions.now) start }
+fn first_next(newest: u64, start: u64) -> u64
+    requires { newest ≤ 2 ^ 63 }
+    ensures { result ≡ first_next newest start }
 {
-    if start == 0 {
-        behind_newest(revisions)
-    } else {
-        start
-    }
-}
-
-fn behind_newest(revisions: &[List<KeyChange>]) -> u64
-    ensures { result ≡ newest revisions.now + 1 }
-{
-    revisions.len() as u64 + 2
+    if start == 0 { newest + 1 } else { start }
 }

@@ -5,6 +5,7 @@ use Rattle.audit_clients.specs.Given.{Gave}
 use Rattle.audit_store.specs.Store.{Stands as StoreStands}
 use Rattle.watch_model.specs.Queues.{is_nil}
 use Rattle.world_model.specs.Answers.{Seen, seen}
+use Rattle.audit_model.specs.Summaries.{summary}
 use Rattle.audit_model.specs.declared.fault.AuditFault.{AuditFault}
 use Rattle.audit_model.specs.declared.fault.AuditFault.TheVariants as fault
 use Rattle.audit_text.specs.declared.audit.Audit.{Audit}
@@ -30,11 +31,13 @@ pub record Stands (audit : Audit) (items : List Item) : Type 0 where
   pub made : MadeBy audit.made items
   pub gave : Gave audit.given items
   pub whole : audit.fault ≡ None
+  pub report : audit.report ≡ summary items
 
 -- it has taken these, and the item behind them had this fault
 pub record Fails (audit : Audit) (items : List Item) (f : AuditFault) : Type 0 where
   pub kept : audit.items ≡ items
   pub fault : audit.fault ≡ Some f
+  pub report : audit.report ≡ summary items
 
 -- a fault of a step: it is this one, and the test failed; out of memory says nothing of the test
 abbrev pub Refuses : AuditFault → AuditFault → Bool → Type 0

@@ -8,7 +8,7 @@ ghost use Rattle.audit_text.specs.Standing.{Fails, IsFaultOf, MadeBy, MakesAll, 
 ghost use Rattle.script_text.specs.declared.item.Item.{Item as Told};
 
 use crate::made::Made;
-use audit_clients::{Given, summary};
+use audit_clients::Given;
 use audit_lives::about;
 use audit_model::{AuditFault, Summary};
 use etcd_types::{List, NoMemory};
@@ -24,6 +24,8 @@ pub struct Audit {
     given: Given,
     /// The fault that ended it.
     fault: Option<AuditFault>,
+    /// What is reported of the items.
+    report: Summary,
 }
 
 impl Audit {
@@ -37,6 +39,11 @@ impl Audit {
             made: None,
             given: Given::new(alloc),
             fault: None,
+            report: Summary {
+                items: 0,
+                unsent: 0,
+                watches: 0,
+            },
         }
     }
 
@@ -73,7 +80,7 @@ impl Audit {
         ensures stands { (before : Values Told) → Stands self before → result ≡ summary_of before }
         ensures fails { (before : Values Told) (f : Fault) → Fails self before f → result ≡ summary_of before }
     {
-        summary(self.items.as_slice())
+        self.report
     }
 
     /// Looks at the next item, which isn't kept yet.
@@ -81,6 +88,7 @@ impl Audit {
         ensures items { self.new.items ≡ self.old.items }
         ensures given { self.new.given ≡ self.old.given }
         ensures whole { self.new.fault ≡ self.old.fault }
+        ensures report { self.new.report ≡ self.old.report }
         ensures taken { OnOk result ((before : Values Told) → Stands self.old before → (broken before item.now ≡ None) × MadeBy self.new.made (before ++ item.now ∷ [])) }
         ensures fault { IfErr result (λ f. (before : Values Told) → Stands self.old before → IsFaultOf f (broken before item.now)) }
     {
@@ -95,6 +103,7 @@ impl Audit {
         ensures items { self.new.items ≡ self.old.items }
         ensures given { self.new.given ≡ self.old.given }
         ensures whole { self.new.fault ≡ self.old.fault }
+        ensures report { self.new.report ≡ self.old.report }
         ensures taken { OnOk result ((broken [] item.now ≡ None) × MadeBy self.new.made (item.now ∷ [])) }
         ensures fault { IfErr result (λ f. IsFaultOf f (broken [] item.now)) }
     {
@@ -109,8 +118,8 @@ impl Audit {
 
     /// Keeps the item that it has looked at. Where memory was wanting that ends it.
     fn keep(&mut self, item: Item) -> Result<(), AuditFault>
-        ensures ok { OnOk result ((self.new.items ≡ self.old.items ++ item ∷ []) × (self.new.made ≡ self.old.made) × (self.new.fault ≡ self.old.fault) × (Gave self.old.given self.old.items → Gave self.new.given (self.old.items ++ item ∷ []))) }
-        ensures err { IfErr result (λ f. (f ≡ no_memory) × (self.new.items ≡ self.old.items) × (self.new.fault ≡ Some f)) }
+        ensures ok { OnOk result ((self.new.items ≡ self.old.items ++ item ∷ []) × (self.new.made ≡ self.old.made) × (self.new.fault ≡ self.old.fault) × (Gave self.old.given self.old.items → Gave self.new.given (self.old.items ++ item ∷ []) × (self.new.report ≡ summary_of (self.old.items ++ item ∷ [])))) }
+        ensures err { IfErr result (λ f. (f ≡ no_memory) × (self.new.items ≡ self.old.items) × (self.new.fault ≡ Some f) × (self.new.report ≡ self.old.report)) }
     {
         match self.hold(item) {
             Ok(()) => Ok(()),
@@ -125,11 +134,12 @@ impl Audit {
     fn hold(&mut self, item: Item) -> Result<(), NoMemory>
         ensures made { self.new.made ≡ self.old.made }
         ensures fault { self.new.fault ≡ self.old.fault }
-        ensures ok { OnOk result ((self.new.items ≡ self.old.items ++ item ∷ []) × (Gave self.old.given self.old.items → Gave self.new.given (self.old.items ++ item ∷ []))) }
-        ensures err { OnErr result (self.new.items ≡ self.old.items) }
+        ensures ok { OnOk result ((self.new.items ≡ self.old.items ++ item ∷ []) × (Gave self.old.given self.old.items → Gave self.new.given (self.old.items ++ item ∷ []) × (self.new.report ≡ summary_of (self.old.items ++ item ∷ [])))) }
+        ensures err { OnErr result ((self.new.items ≡ self.old.items) × (self.new.report ≡ self.old.report)) }
     {
         self.given.take(self.alloc, self.items.as_slice(), &item)?;
         self.items.push(item)?;
+        self.report = self.given.summary();
         Ok(())
     }
 }

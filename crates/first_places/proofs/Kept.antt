@@ -19,14 +19,14 @@ both_tied Greater r = refl
 pub pair_tied : (w n a b : ℕ) → is_eq (pair_cmp (w, n) (a, b)) ≡ is_pair (Some (w, n)) a b
 pair_tied w n a b = both_tied (nat_cmp w a) (nat_cmp n b) ∙ (λ i. tied w a i && tied n b i)
 
-first_same : (w n a b : ℕ) → is_pair (Some (w, n)) a b ≡ true → w ≡ a
+pub first_same : (w n a b : ℕ) → is_pair (Some (w, n)) a b ≡ true → w ≡ a
 first_same w n a b e = eqb-true w a (one (w == a) (n == b) e)
   where
     one : (b c : Bool) → b && c ≡ true → b ≡ true
     one true c e = refl
     one false c e = e
 
-second_same : (w n a b : ℕ) → is_pair (Some (w, n)) a b ≡ true → n ≡ b
+pub second_same : (w n a b : ℕ) → is_pair (Some (w, n)) a b ≡ true → n ≡ b
 second_same w n a b e = eqb-true n b (two (w == a) (n == b) e)
   where
     two : (b c : Bool) → b && c ≡ true → c ≡ true

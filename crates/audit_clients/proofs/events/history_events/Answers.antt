@@ -6,5 +6,5 @@ use Rattle.audit_clients.proofs.events.history_events.Goals as goal
 
 pub returns : goal.returns
 returns c = λ s h.
-    told_so s.history c.args.namespace.now c.args.ask.now c.args.start c.revisions.result.now c.in_ok-asked.asked c.in_ok-batch.batch.events c.in_ok-events_from.field-0 c.in_ok-asked.ensures (c.revisions.ensures s h) c.in_ok-batch.ensures.events
+    told_so s.history c.args.namespace.now c.args.ask.now c.args.start c.in_ok-asked.asked c.in_ok-events.events c.in_ok-events_from.field-0 c.in_ok-asked.ensures (c.in_ok-events.ensures s h)
     (c.in_ok-events_from.ensures ∙ ap (filter (is_from c.args.start)) c.as_slice.ensures)

@@ -8,5 +8,5 @@ pub returns : goal.returns
 returns c = λ g. record {
   floors = c.in_ok-raise_by.ensures ∙ ap (floors_by c.args.items.now c.args.item.now) g.floors ∙ sym (floors_next c.args.items.now c.args.item.now);
   newest = c.in_ok-renew.ensures g.index g.newest;
-  index = c.in_ok-take.ensures c.args.items.now g.index;
+  index = c.in_ok-take.ensures g.index;
 }

@@ -6,9 +6,10 @@ use Rattle.audit_store.proofs.store.Store.next_push.Goals as goal
 
 pub returns-in-Some-clause-step : goal.returns-in-Some-clause-step
 returns-in-Some-clause-step c =
-    push_found c.push_for.result (state_of c.args.self.now) c.args.number c.in-Some.watch.now _ _ c.in-Some.ensures
-    (pushed-some (state_of c.args.self.now) c.args.number c.in-Some.watch.now (sym c.in-Some.ensures)) c.push_for.ensures.step
+    push_found c.push_for.result c.args.self.now.index (state_of c.args.self.now) c.args.number c.in-Some.watch.now _ _ (λ h. c.in-Some.ensures)
+    (λ h. pushed-some (state_of c.args.self.now h) c.args.number c.in-Some.watch.now (sym c.in-Some.ensures)) c.push_for.ensures.step
 
 pub returns-in-Some-clause-fault : goal.returns-in-Some-clause-fault
 returns-in-Some-clause-fault c =
-    fault_found c.push_for.result _ _ (pushed-some (state_of c.args.self.now) c.args.number c.in-Some.watch.now (sym c.in-Some.ensures)) c.push_for.ensures.fault
+    fault_found c.push_for.result c.args.self.now.index _ _
+    (λ h. pushed-some (state_of c.args.self.now h) c.args.number c.in-Some.watch.now (sym c.in-Some.ensures)) c.push_for.ensures.fault

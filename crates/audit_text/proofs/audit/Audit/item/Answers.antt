@@ -18,7 +18,7 @@ returns-in-Ok-clause-taken c =
 
 pub returns-in-Ok-clause-fault : goal.returns-in-Ok-clause-fault
 returns-in-Ok-clause-fault c =
-    if_err c.keep.result (λ f k before st. (out_of_memory f _ k.0, record { kept = k.1 ∙ c.follow.ensures.items ∙ st.kept; fault = k.2 })) c.keep.ensures.err
+    if_err c.keep.result (λ f k before st. (out_of_memory f _ k.0, record { kept = k.1 ∙ c.follow.ensures.items ∙ st.kept; fault = k.2; report = k.3 ∙ c.follow.ensures.report ∙ st.report })) c.keep.ensures.err
 
 pub returns-in-Err-clause-fault : goal.returns-in-Err-clause-fault
-returns-in-Err-clause-fault c = λ before st. (c.in-Err.ensures.fault before st, record { kept = c.follow.ensures.items ∙ st.kept; fault = refl })
+returns-in-Err-clause-fault c = λ before st. (c.in-Err.ensures.fault before st, record { kept = c.follow.ensures.items ∙ st.kept; fault = refl; report = c.follow.ensures.report ∙ st.report })
