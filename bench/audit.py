@@ -62,7 +62,7 @@ def audit(kind, transcript, lines):
         if not ended:
             time.sleep(0.01)
             if time.time() - begun > PATIENCE:
-                process.send_signal(signal.SIGKILL)
+                os.kill(process.pid, signal.SIGKILL)
     seconds, megabytes = used.ru_utime + used.ru_stime, used.ru_maxrss / 1024
     met = seconds <= SECONDS and megabytes <= MEGABYTES
     how = f"status {os.WEXITSTATUS(status)}" if os.WIFEXITED(status) else f"ended after {PATIENCE} s"
