@@ -40,6 +40,12 @@ comes_to '' 'replay --generate 01' 2 '' "$usage"
 comes_to '' 'replay --generate 20001' 2 '' "$usage"
 comes_to '' 'replay --generate 1 1' 2 '' "$usage"
 comes_to '' 'replay x' 2 '' "$usage"
+comes_to '' 'audit --explain' 0 'items 0\nunsent 0\nwatches 0\n' ''
+comes_to '' 'audit --explained' 2 '' "$usage"
+comes_to '' 'replay --explain' 2 '' "$usage"
+comes_to 'world 1 ~\n' 'audit' 1 '' 'line 1: BadLine 4\n'
+comes_to 'world 1 ~\n' 'audit --explain' 1 '' 'line 1: BadLine 4\nitem: world 1 ~\nrule: each line is the text of an item\nfound: word 4 is wrong, missing or too many\n'
+comes_to 'world 1 ~ ~\nticked 1\n' 'audit --explain' 9 '' 'line 2: Order 1\nitem: ticked 1\nrule: a proxy is started before its other items\nfound: proxy 1 wasn\047t started\n'
 comes_to '' "$(printf '\377')" 2 '' "$usage"
 for words in 'store' 'store 127.0.0.1' 'store 127.0.0.1:0' 'store 127.0.0.1:02379' 'store 127.0.0.1:2379 x'; do
     comes_to '' "$words" 2 '' "$usage"

@@ -11,5 +11,5 @@ mod stop;
 
 pub use audit_model::{AuditEnding, AuditFault, AuditRefusal, Summary};
 pub use laws::audits_are_exact;
-pub use source::audit_source;
+pub use source::{audit_kept, audit_source};
 pub use stop::AuditStop;

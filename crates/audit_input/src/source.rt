@@ -14,11 +14,23 @@ use std::alloc::Global;
 /// How many bytes are read at once.
 const ROOM: usize = 65536;
 
-/// Reads a piece, and takes it. An ending comes at the end of the input, or with a line that is refused.
+/// Appends a piece to what is kept. Where memory is wanting for it, nothing is kept any more.
+fn keep(text: &mut Option<Vec<u8>>, piece: &[u8]) {
+    let is_whole = match text {
+        Some(text) => text.extend_from_slice(piece).is_ok(),
+        None => true,
+    };
+    if !is_whole {
+        *text = None;
+    }
+}
+
+/// Reads a piece, keeps it, and takes it. An ending comes at the end of the input, or with a line that is refused.
 fn turn<S: Source>(
     reading: &mut Reading,
     room: &mut [u8],
     input: &mut S,
+    text: &mut Option<Vec<u8>>,
 ) -> Result<Option<AuditEnding>, AuditStop>
     requires room { 0 < length room.old }
     requires small { length room.old ≤ most_at_once }
@@ -35,11 +47,35 @@ fn turn<S: Source>(
     if count == 0 {
         return Ok(Some(reading.take_end()?));
     }
+    keep(text, &room[..count]);
     let ending = reading.feed(&room[..count])?;
     if is_open(&ending) {
         Ok(None)
     } else {
         Ok(Some(ending))
+    }
+}
+
+/// Audits the transcript that `input` gives, and appends what it reads to `text`, where there is one. It answers as `audit_source`.
+///
+/// Where memory is wanting for `text` alone, the audit goes on, and none is left.
+pub fn audit_kept<S: Source>(
+    alloc: Global,
+    input: &mut S,
+    text: &mut Option<Vec<u8>>,
+) -> Result<(AuditEnding, Summary), AuditStop>
+    ensures ended { IfOk result (λ told. Audits (S.left input.old) (S.left input.new) told.0 told.1) }
+    ensures complete { IsKeptTranscript (S.left input.old) → IfOk result (λ told. told.0 ≡ Open) }
+    ensures stopped { IfErr result (Stops (S.left input.old) (S.left input.new)) }
+    ensures cause { IfErr result (λ stop. stop ≡ AuditStop.ReadFault → Rose (S.faults input.old) (S.faults input.new)) }
+{
+    let mut room = Vec::from_elem(alloc, 0u8, ROOM)?;
+    let mut reading = Reading::new(alloc);
+    'turns: loop {
+        match turn(&mut reading, room.as_mut_slice(), input, text)? {
+            Some(ending) => return Ok((ending, reading.finish())),
+            None => {}
+        }
     }
 }
 
@@ -57,12 +93,5 @@ pub fn audit_source<S: Source>(
     ensures stopped { IfErr result (Stops (S.left input.old) (S.left input.new)) }
     ensures cause { IfErr result (λ stop. stop ≡ AuditStop.ReadFault → Rose (S.faults input.old) (S.faults input.new)) }
 {
-    let mut room = Vec::from_elem(alloc, 0u8, ROOM)?;
-    let mut reading = Reading::new(alloc);
-    'turns: loop {
-        match turn(&mut reading, room.as_mut_slice(), input)? {
-            Some(ending) => return Ok((ending, reading.finish())),
-            None => {}
-        }
-    }
+    audit_kept(alloc, input, &mut None)
 }

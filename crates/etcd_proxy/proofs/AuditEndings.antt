@@ -28,7 +28,7 @@ keeps_so left left' written written' counts r =
       true_so = audited_is_true (audited r.read).items k.meets;
     }
 
-some_status : (why : AuditRefusal) → refused_status why ≢ 0
+pub some_status : (why : AuditRefusal) → refused_status why ≢ 0
 some_status (refusal.BadLine place) e = omega (arith, e)
 some_status (refusal.Breaks f) e = omega (arith, e)
 

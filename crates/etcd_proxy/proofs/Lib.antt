@@ -4,3 +4,4 @@ pub mod Lines
 pub mod Started
 pub mod AuditEndings
 pub mod Stored
+pub mod Explanations

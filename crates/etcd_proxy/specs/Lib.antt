@@ -5,3 +5,4 @@ pub mod Store
 pub mod Texts
 pub mod Words
 pub mod Audit
+pub mod Explained

@@ -15,6 +15,7 @@ help_text =
     ++ codes "  replay             reads a script from the input and writes its transcript to the output\n"
     ++ codes "  --generate N       replays the script that is generated from N, 1 to 20000, and writes counts of its transcript\n"
     ++ codes "  audit              reads a transcript from the input, says whether it keeps the rules of one, and writes its counts\n"
+    ++ codes "  --explain          behind audit: explains the line that is refused\n"
     ++ codes "  store ADDRESS      serves a store of one member with nothing in it, at host:port; nothing is kept at its end\n"
     ++ codes "  grpc-proxy start   serves; with --help it shows its options\n"
     ++ codes "  --help             shows this\n"

@@ -6,7 +6,7 @@ use Rattle.std.specs.declared.alloc.Global.{Global}
 use Rattle.text_model.specs.Forms.{respelled}
 use Rattle.text_model.specs.Words.{is_within}
 use Rattle.etcd_proxy.specs.declared.words.Command.{Command}
-use Rattle.etcd_proxy.specs.declared.words.Command.TheVariants.{Replay, Generate, Audit, Help, Version}
+use Rattle.etcd_proxy.specs.declared.words.Command.TheVariants.{Replay, Generate, Audit, Explain, Help, Version}
 
 abbrev pub named : List ℕ → Option Command
 named name =
@@ -27,9 +27,14 @@ named_with name option value =
     then generates (respelled decimal (digits_value 10) (is_within 1 20000) value)
     else None
 
--- one word, which names the command, or a command with an option and its value
+-- `audit --explain`
+abbrev pub named_more : List ℕ → List ℕ → Option Command
+named_more name option = if bytes_eq name (codes "audit") && bytes_eq option (codes "--explain") then Some Explain else None
+
+-- one word, which names the command, or a command with an option, or with an option and its value
 abbrev pub command_of : List (String Global) → Option Command
 command_of (word ∷ []) = named (string_bytes word)
+command_of (name ∷ option ∷ []) = named_more (string_bytes name) (string_bytes option)
 command_of (name ∷ option ∷ value ∷ []) = named_with (string_bytes name) (string_bytes option) (string_bytes value)
 command_of _ = None
 

@@ -54,7 +54,7 @@ pub(crate) fn audit<S: Source, K: Sink, E: Sink>(
     }
 }
 
-fn no_memory<E: Sink>(errors: &mut E) -> u8
+pub(crate) fn no_memory<E: Sink>(errors: &mut E) -> u8
     ensures status { result ≡ 5 }
     ensures tells { Tells (E.written errors.old) (E.written errors.new) (E.faults errors.old) (E.faults errors.new) (codes "no memory\n") }
 {
@@ -62,7 +62,7 @@ fn no_memory<E: Sink>(errors: &mut E) -> u8
     5
 }
 
-fn refused_status(refusal: &AuditRefusal) -> u8
+pub(crate) fn refused_status(refusal: &AuditRefusal) -> u8
     ensures { result ≡ status_of_refused refusal.now }
 {
     match refusal {
@@ -71,14 +71,18 @@ fn refused_status(refusal: &AuditRefusal) -> u8
     }
 }
 
-fn refused_text(alloc: Global, number: u64, refusal: &AuditRefusal) -> Result<Vec<u8>, NoMemory>
+pub(crate) fn refused_text(
+    alloc: Global,
+    number: u64,
+    refusal: &AuditRefusal,
+) -> Result<Vec<u8>, NoMemory>
     ensures { IfOk result (λ text. text.items ≡ text_of_refused number refusal.now) }
 {
     let text = format!(in alloc; "line {number}: {refusal}\n")?;
     Ok(text.into_bytes())
 }
 
-fn summary_text(alloc: Global, counts: &Summary) -> Result<Vec<u8>, NoMemory>
+pub(crate) fn summary_text(alloc: Global, counts: &Summary) -> Result<Vec<u8>, NoMemory>
     ensures { IfOk result (λ text. text.items ≡ text_of_summary counts.now) }
 {
     let Summary {

@@ -6,12 +6,14 @@ ghost use Rattle.replay_generated.specs.declared.summary.Summary.{Summary as Cou
 ghost use Rattle.replay_input.specs.Reads.{ReadsInTurn};
 ghost use Rattle.audit_input.specs.Audits.{IsKeptTranscript};
 ghost use Rattle.etcd_proxy.specs.Audit.{AuditEnds};
+ghost use Rattle.etcd_proxy.specs.Explained.{AuditExplains};
 ghost use Rattle.etcd_proxy.specs.Generated.{Generates, IsSummaryOf, summary_text};
 ghost use Rattle.etcd_proxy.specs.Run.{Runs, Tells, Prints, IsWholeScript, status_of, text_of_status, refused_text};
 ghost use Rattle.etcd_proxy.specs.Texts.{usage_text, help_text, version_text};
 ghost use Rattle.etcd_proxy.specs.Words.{command_of};
 
 use crate::audited::audit;
+use crate::explained::explain;
 use crate::told::{USAGE, print, tell};
 use crate::words::{Command, NoWords, command_of};
 use etcd_types::NoMemory;
@@ -33,6 +35,7 @@ usage: etcd_proxy replay < SCRIPT
   replay             reads a script from the input and writes its transcript to the output
   --generate N       replays the script that is generated from N, 1 to 20000, and writes counts of its transcript
   audit              reads a transcript from the input, says whether it keeps the rules of one, and writes its counts
+  --explain          behind audit: explains the line that is refused
   store ADDRESS      serves a store of one member with nothing in it, at host:port; nothing is kept at its end
   grpc-proxy start   serves; with --help it shows its options
   --help             shows this
@@ -66,7 +69,7 @@ pub fn run_ending<S: Source, K: Sink, E: Sink>(
     ensures version { command_of words.now ≡ Some Command.Version
         → Prints (K.written output.old) (K.written output.new) (K.faults output.old) (K.faults output.new)
         (E.written errors.old) (E.written errors.new) (E.faults errors.old) (E.faults errors.new) version_text result }
-    ensures unread { command_of words.now ≢ Some Command.Replay → command_of words.now ≢ Some Command.Audit → input.new ≡ input.old }
+    ensures unread { command_of words.now ≢ Some Command.Replay → command_of words.now ≢ Some Command.Audit → command_of words.now ≢ Some Command.Explain → input.new ≡ input.old }
 
     // A script's transcript is written; each of its answers is the store's, so is each message of a stream, each watch has received a
     // front of the history's events, and each ok reply to a keepalive is the answer of one that was sent behind it.
@@ -87,8 +90,14 @@ pub fn run_ending<S: Source, K: Sink, E: Sink>(
         → AuditEnds (S.left input.old) (S.left input.new) (K.written output.old) (K.written output.new) (K.faults output.old) (K.faults output.new)
         (E.written errors.old) (E.written errors.new) (E.faults errors.old) (E.faults errors.new) result }
 
+    // With `--explain` it is the same, but that behind the fault of a refused line more is told of it.
+    ensures explains { command_of words.now ≡ Some Command.Explain
+        → AuditExplains (S.left input.old) (S.left input.new) (K.written output.old) (K.written output.new) (K.faults output.old) (K.faults output.new)
+        (E.written errors.old) (E.written errors.new) (E.faults errors.old) (E.faults errors.new) result }
+
     // The texts of items that keep the rules are never refused, within the limits.
     ensures audits_all { command_of words.now ≡ Some Command.Audit → IsKeptTranscript (S.left input.old) → (result ≢ 1) × (result ≢ 9) × (result ≢ 6) }
+    ensures explains_all { command_of words.now ≡ Some Command.Explain → IsKeptTranscript (S.left input.old) → (result ≢ 1) × (result ≢ 9) × (result ≢ 6) }
 
     // The counts of a generated script's transcript are written.
     ensures generates { (number : ℕ) → command_of words.now ≡ Some (Command.Generate number)
@@ -107,6 +116,7 @@ pub fn run_ending<S: Source, K: Sink, E: Sink>(
         Some(Command::Version) => print(output, errors, VERSION),
         Some(Command::Replay) => replay(alloc, input, output, errors),
         Some(Command::Audit) => audit(alloc, input, output, errors),
+        Some(Command::Explain) => explain(alloc, input, output, errors),
         Some(Command::Generate(number)) => generate(alloc, number, output, errors),
     }
 }

@@ -7,6 +7,7 @@ mod audited;
 mod busiest;
 mod door;
 mod ending;
+mod explained;
 mod newest;
 mod own;
 mod revoke;

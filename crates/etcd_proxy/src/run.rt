@@ -7,6 +7,7 @@ ghost use Rattle.shop_service.specs.Service.{seen as shop_seen};
 ghost use Rattle.replay_input.specs.Reads.{ReadsInTurn};
 ghost use Rattle.audit_input.specs.Audits.{IsKeptTranscript};
 ghost use Rattle.etcd_proxy.specs.Audit.{AuditEnds};
+ghost use Rattle.etcd_proxy.specs.Explained.{AuditExplains};
 ghost use Rattle.etcd_proxy.specs.Generated.{Generates};
 ghost use Rattle.etcd_proxy.specs.Run.{Runs, Tells, Prints, IsWholeScript};
 ghost use Rattle.etcd_proxy.specs.Start.{Starts, moment, options_of};
@@ -76,7 +77,7 @@ pub fn run<
     ensures version { command_of words.now ≡ Some Command.Version
         → Prints (K.written output.old) (K.written output.new) (K.faults output.old) (K.faults output.new)
         (E.written errors.old) (E.written errors.new) (E.faults errors.old) (E.faults errors.new) version_text result }
-    ensures unread { command_of words.now ≢ Some Command.Replay → command_of words.now ≢ Some Command.Audit → input.new ≡ input.old }
+    ensures unread { command_of words.now ≢ Some Command.Replay → command_of words.now ≢ Some Command.Audit → command_of words.now ≢ Some Command.Explain → input.new ≡ input.old }
 
     // A script's transcript is written; each of its answers is the store's, so is each message of a stream, each watch has received a
     // front of the history's events, and each ok reply to a keepalive is the answer of one that was sent behind it.
@@ -97,8 +98,14 @@ pub fn run<
         → AuditEnds (S.left input.old) (S.left input.new) (K.written output.old) (K.written output.new) (K.faults output.old) (K.faults output.new)
         (E.written errors.old) (E.written errors.new) (E.faults errors.old) (E.faults errors.new) result }
 
+    // With `--explain` it is the same, but that behind the fault of a refused line more is told of it.
+    ensures explains { command_of words.now ≡ Some Command.Explain
+        → AuditExplains (S.left input.old) (S.left input.new) (K.written output.old) (K.written output.new) (K.faults output.old) (K.faults output.new)
+        (E.written errors.old) (E.written errors.new) (E.faults errors.old) (E.faults errors.new) result }
+
     // The texts of items that keep the rules are never refused, within the limits.
     ensures audits_all { command_of words.now ≡ Some Command.Audit → IsKeptTranscript (S.left input.old) → (result ≢ 1) × (result ≢ 9) × (result ≢ 6) }
+    ensures explains_all { command_of words.now ≡ Some Command.Explain → IsKeptTranscript (S.left input.old) → (result ≢ 1) × (result ≢ 9) × (result ≢ 6) }
 
     // The counts of a generated script's transcript are written.
     ensures generates { (number : ℕ) → command_of words.now ≡ Some (Command.Generate number)

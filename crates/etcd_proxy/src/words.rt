@@ -1,7 +1,7 @@
 ghost use Rattle.std.specs.Prelude.{◌≡◌, IfSome, option_map};
 ghost use Rattle.etcd_proxy.specs.Start.{options_of};
 ghost use Rattle.etcd_proxy.specs.Store.{address_of};
-ghost use Rattle.etcd_proxy.specs.Words.{command_of, named, named_with, IsInRange};
+ghost use Rattle.etcd_proxy.specs.Words.{command_of, named, named_more, named_with, IsInRange};
 
 use start_words::is_address;
 use text_words::number_of;
@@ -17,6 +17,8 @@ pub(crate) enum Command {
     Generate(u64),
     /// A transcript is audited.
     Audit,
+    /// A transcript is audited, and a refused line is explained.
+    Explain,
     Help,
     Version,
 }
@@ -36,8 +38,20 @@ pub(crate) fn command_of(words: &[String]) -> Option<Command>
 {
     match words {
         [word] => named(word.as_str()),
+        [name, option] => named_more(name.as_str(), option.as_str()),
         [name, option, value] => named_with(name.as_str(), option.as_str(), value.as_str()),
         _ => None,
+    }
+}
+
+fn named_more(name: &str, option: &str) -> Option<Command>
+    ensures command { result ≡ named_more name.now option.now }
+    ensures range { IfSome result IsInRange }
+{
+    if name == "audit" && option == "--explain" {
+        Some(Command::Explain)
+    } else {
+        None
     }
 }
 

@@ -7,7 +7,7 @@ use Rattle.audit_input.specs.Audits.{most_at_once}
 use Rattle.audit_input.specs.Reading.{Turns}
 use Rattle.audit_input.proofs.Complete.{never_refused}
 use Rattle.audit_input.proofs.Turns.{nothing_done, at_start, nothing_taken, rose_since}
-use Rattle.audit_input.proofs.source.audit_source.Goals as goal
+use Rattle.audit_input.proofs.source.audit_kept.Goals as goal
 
 pub returns-in_err-room-clause-stopped : goal.returns-in_err-room-clause-stopped
 returns-in_err-room-clause-stopped g c =

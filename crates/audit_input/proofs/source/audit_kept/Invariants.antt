@@ -3,7 +3,7 @@ use Rattle.std.proofs.Common.{◌≤◌, ◌<◌, ◌+◌, ◌-◌, ℕ, List, l
 use Rattle.replay_model.specs.declared.limits.TheConstants.{MOST_BYTES}
 use Rattle.audit_input.specs.Audits.{most_at_once}
 use Rattle.audit_input.specs.Reading.{Has, taken_of}
-use Rattle.audit_input.proofs.source.audit_source.Given as goal
+use Rattle.audit_input.proofs.source.audit_kept.Given as goal
 
 abbrev pub invariant-turns : goal.invariant-turns
 invariant-turns g l = record {
