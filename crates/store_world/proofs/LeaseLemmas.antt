@@ -8,7 +8,7 @@ use Rattle.store_model.specs.Leases.{lease_number, with_lease, without_lease, gr
 use Rattle.store_model.specs.Transactions.{has_lease}
 use Rattle.store_world.specs.ProperLeases.{IsProper, AreProper}
 use Rattle.store_world.specs.Rising.{AreRising, place_in, put_in, taken_from, row_of}
-use Rattle.store_world.proofs.RisingLemmas.{rising_put, rising_taken, inserted, removed, found, misses, none_taken, none_found}
+use Rattle.store_world.proofs.RisingLemmas.{rising_put, rising_taken, inserted, removed, misses, none_taken, none_found}
 
 proper_either : (b : Bool) (xs ys : List Lease) → AreProper xs → AreProper ys → AreProper (cond b xs ys)
 proper_either true xs ys h k = h

@@ -1,6 +1,10 @@
-pub mod RisingLemmas
+pub mod AskLemmas
+pub mod ClimbLemmas
 pub mod LeaseLemmas
+pub mod LookedLemmas
 pub mod MemberLemmas
 pub mod PushLemmas
+pub mod RisingLemmas
 pub mod RunProofs
+pub mod SilentLemmas
 pub mod Stores

@@ -1,5 +1,5 @@
 -- Rows stay in the order of their numbers, and a search by halving finds the place of a number.
-use Rattle.std.proofs.Common.{◌≡◌, ℕ, zero, suc, ◌+◌, ◌≤◌, ◌<◌, ◌==◌, nat_lt, Bool, true, false, cond, List, [], ◌∷◌, ◌++◌, Option, None, Some, length, take, drop, get_or, map, refl, sym, ap, ◌∙◌, subst, arith, ltb-true, ltb-false, eqb-true, eq-eqb, ◌⊎◌, inl, inr}
+use Rattle.std.proofs.Common.{◌≡◌, ℕ, zero, suc, ◌≤◌, ◌<◌, ◌==◌, nat_lt, Bool, true, false, cond, List, [], ◌∷◌, ◌++◌, Option, None, Some, length, get_or, map, refl, sym, ap, ◌∙◌, subst, arith, ltb-true, ltb-false, eqb-true, eq-eqb, ◌⊎◌, inl, inr}
 use Rattle.std.specs.List.{insert, remove, slice_get}
 use Rattle.std.proofs.lemmas.Bool.Decides.{nat_tests}
 use Rattle.store_world.specs.Rising.{AreAbove, AreRising, place_in, put_in, taken_from, row_of}
@@ -9,7 +9,7 @@ use Rattle.store_world.specs.Rising.{AreAbove, AreRising, place_in, put_in, take
 pub other : (a b : ℕ) → nat_lt a b ≡ true → (a == b) ≡ false
 other a b e = grind (arith, nat_tests)
 
-past : (a b : ℕ) → b ≤ a → (a == b) ≡ false → b < a
+pub past : (a b : ℕ) → b ≤ a → (a == b) ≡ false → b < a
 past a b le e = grind (arith, nat_tests)
 
 pub differs : (a b : ℕ) → b < a → (a == b) ≡ false

@@ -4,3 +4,4 @@ pub mod Store
 pub mod Running
 pub mod Faults
 pub mod Pushes
+pub mod Looked

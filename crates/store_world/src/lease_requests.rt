@@ -78,7 +78,7 @@ impl Store {
         if !asked {
             return Ok(List::new(self.alloc));
         }
-        let records = self.index.attached(number)?;
+        let records = self.index.get().attached(number)?;
         Ok(keys_of(self.alloc, records.as_slice())?)
     }
 
@@ -89,7 +89,7 @@ impl Store {
         ensures ok { OnOk result ((h : History) → HoldsKept self.old.index h → Stands self.new (ended (state_of self.old h) number)) }
         ensures err { OnErr result (self.new ≡ self.old) }
     {
-        let records = self.index.attached(number)?;
+        let records = self.index.get().attached(number)?;
         let mut made = Changes::new(self.alloc);
         add_deletions(self.alloc, &mut made, records.as_slice())?;
         self.add_revision(made)?;

@@ -1,7 +1,8 @@
-ghost use Rattle.std.specs.Prelude.{◌≡◌, ◌≤◌, ◌<◌, true, [], length, nat_lt, remove, map, IfOk, IfSome, IfNone, OnOk, OnErr};
+ghost use Rattle.std.specs.Prelude.{◌≡◌, ◌≤◌, ◌<◌, ◌+◌, true, false, [], length, nat_lt, remove, map, IfOk, IfSome, IfNone, OnOk, OnErr};
 ghost use Rattle.std.specs.Option.{option_copied};
 ghost use Rattle.store_model.specs.Leases.{granted, least_free, with_lease, without_lease, lease_number};
 ghost use Rattle.store_model.specs.Transactions.{has_lease};
+ghost use Rattle.store_world.specs.ProperLeases.{Climb};
 ghost use Rattle.store_world.specs.Rising.{AreRising, place_in, row_of};
 
 use etcd_types::{List, NoMemory};
@@ -13,7 +14,7 @@ use store_model::Lease;
 pub(crate) const LONGEST_TTL_SECONDS: u64 = 9_000_000_000;
 
 /// The leases of a store, by rising numbers. Contracts see it as the list of leases. Their numbers
-/// are positive and rise, and no time to live is above the longest.
+/// are positive, each is above the one before it, and no time to live is above the longest.
 #[derive(Debug, Drop)]
 pub(crate) struct Leases {
     items: Vec<Lease>,
@@ -24,13 +25,13 @@ impl Model for Leases {
     ghost use Rattle.store_model.specs.declared.lease.Lease.{Lease};
     ghost use Rattle.store_model.specs.Leases.{lease_number};
     ghost use Rattle.store_world.specs.Rising.{AreRising};
-    ghost use Rattle.store_world.specs.ProperLeases.{AreProper};
+    ghost use Rattle.store_world.specs.ProperLeases.{AreProper, Climb};
 
     ghost Value = { List Lease };
 
     ghost view = { λ l. l.items.items };
 
-    ghost invariant = { λ l. AreProper l.items.items × AreRising lease_number l.items.items };
+    ghost invariant = { λ l. AreProper l.items.items × AreRising lease_number l.items.items × Climb 0 l.items.items };
 }
 
 impl Leases {
@@ -64,21 +65,16 @@ impl Leases {
     pub(crate) fn least_free(&self) -> u64
         ensures number { result ≡ least_free self.now }
         ensures positive { 0 < result }
+        ensures free { has_lease self.now result ≡ false }
     {
-        let mut number = 1;
-        for lease in &self.items {
-            if lease.number != number {
-                break;
-            }
-            number += 1;
-        }
-        number
+        first_gap(self.items.as_slice()) as u64 + 1
     }
 
     /// Puts the lease in its place.
     pub(crate) fn add(&mut self, lease: Lease) -> Result<(), NoMemory>
         requires short { lease.ttl ≤ 9_000_000_000 }
         requires positive { 0 < lease.number }
+        requires free { has_lease self.old lease.number ≡ false }
         ensures ok { OnOk result (self.new ≡ with_lease lease self.old) }
         ensures err { OnErr result (self.new ≡ self.old) }
     {
@@ -104,6 +100,25 @@ impl Leases {
         }
         Ok(numbers)
     }
+}
+
+/// Where the numbers from 1 on are no longer taken in a row.
+fn first_gap(leases: &[Lease]) -> usize
+    requires { Climb 0 leases.now }
+    ensures within { result ≤ length leases.now }
+    ensures number { result + 1 ≡ least_free leases.now }
+{
+    let mut low = 0;
+    let mut high = leases.len();
+    while low < high {
+        let middle = low + (high - low) / 2;
+        if leases[middle].number == middle as u64 + 1 {
+            low = middle + 1;
+        } else {
+            high = middle;
+        }
+    }
+    low
 }
 
 /// The place of a number among rising ones, behind all lower ones.

@@ -5,6 +5,7 @@
 //! a history of which its index holds what is kept: so for many, once it was compacted.
 #![tactic(auto)]
 
+mod followed;
 mod laws;
 mod lease_requests;
 mod leases;

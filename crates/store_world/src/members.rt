@@ -22,7 +22,7 @@ impl Store {
         }
         let place = (member - 1) as usize;
         let applied = members[place];
-        let newest = self.index.newest;
+        let newest = self.index.get().newest;
         if revision < applied || newest < revision {
             return Err(StoreFault::BadApply { applied, newest });
         }

@@ -61,10 +61,10 @@ impl Store {
         ensures step { IfOk result (λ answer. (h : History) → HoldsKept self.old.index h → Takes self.new answer (exec_compact (state_of self.old h) member revision)) }
         ensures err { OnErr result (self.new ≡ self.old) }
     {
-        if revision <= self.index.compacted {
+        if revision <= self.index.get().compacted {
             return Ok(Answer::Refused(refusals::compacted_revision(self.alloc)?));
         }
-        if self.index.newest < revision {
+        if self.index.get().newest < revision {
             return Ok(Answer::Refused(refusals::future_revision(self.alloc)?));
         }
         self.index.compact(revision);
@@ -99,7 +99,7 @@ impl Store {
         ensures { (h : History) → HoldsKept self.now.index h → Takes self.now result (done (state_of self.now h) member body) }
     {
         Answer::Done(Reply {
-            header: header(member, self.index.newest),
+            header: header(member, self.index.get().newest),
             body,
         })
     }
@@ -192,10 +192,11 @@ impl Store {
             (read_applied (state_of self.now h) member (applied_by (state_of self.now h) member) ask.now)) }
     {
         let applied = self.applied_by(member);
-        if applied < self.index.compacted {
+        let index = self.index.get();
+        if applied < index.compacted {
             return Ok(Answer::Refused(refusals::compacted_revision(self.alloc)?));
         }
-        match read(self.alloc, &self.index, &[], applied, ask)? {
+        match read(self.alloc, index, &[], applied, ask)? {
             Ok(body) => Ok(Answer::Done(Reply {
                 header: header(member, applied),
                 body,

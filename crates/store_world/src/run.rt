@@ -43,7 +43,7 @@ impl Store {
     ) -> Result<Result<Body, Refusal>, NoMemory>
         ensures { IfOk result (λ told. (h : History) → HoldsKept self.now.index h → Runs told made.new (run_txn (state_of self.now h) txn.now made.old)) }
     {
-        let succeeded = all_hold(&self.index, made.as_slice(), txn.compare.as_slice())?;
+        let succeeded = all_hold(self.index.get(), made.as_slice(), txn.compare.as_slice())?;
         let branch = if succeeded {
             &txn.success
         } else {
@@ -81,8 +81,9 @@ impl Store {
         ensures { IfOk result (λ told. (h : History) → HoldsKept self.now.index h → Runs told made.now (run_range (state_of self.now h) ask.now made.now)) }
     {
         let changes = made.as_slice();
-        let latest = latest(&self.index, changes);
-        let told = read(self.alloc, &self.index, changes, latest, ask)?;
+        let index = self.index.get();
+        let latest = latest(index, changes);
+        let told = read(self.alloc, index, changes, latest, ask)?;
         Ok(told)
     }
 
@@ -99,7 +100,7 @@ impl Store {
         if !ask.ignore_lease && !ask.prev_kv {
             return Ok(Ok(put_plainly(self.alloc, ask, made)?));
         }
-        let old = record_now(self.alloc, &self.index, made.as_slice(), &ask.key)?;
+        let old = record_now(self.alloc, self.index.get(), made.as_slice(), &ask.key)?;
         Ok(put_on(self.alloc, ask, made, old)?)
     }
 
@@ -110,7 +111,7 @@ impl Store {
     ) -> Result<Result<Body, Refusal>, NoMemory>
         ensures { IfOk result (λ told. (h : History) → HoldsKept self.now.index h → Runs told made.new (run_delete (state_of self.now h) ask.now made.old)) }
     {
-        let gone = self.index.records_with(&ask.range, made.as_slice())?;
+        let gone = self.index.get().records_with(&ask.range, made.as_slice())?;
         Ok(delete_all(self.alloc, ask, made, gone)?)
     }
 }

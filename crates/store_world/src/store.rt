@@ -10,18 +10,18 @@ ghost use Rattle.store_model.specs.Watches.{watch_of, opened, pushed, progressed
 ghost use Rattle.store_index.specs.Count.{count_kept};
 ghost use Rattle.store_world.specs.Pushes.{watched_range};
 
+use crate::followed::Followed;
 use crate::leases::Leases;
 use crate::table::Table;
 use etcd_types::{Answer, KeyRange, NoMemory, Request, WatchAsk, WatchItem};
 use std::alloc::Global;
-use store_index::Index;
 use store_model::{OpenWatch, StoreFault};
 
 /// A store of one cluster, with the revisions that its members have applied.
 #[derive(Debug, Drop)]
 pub struct Store {
     pub(crate) alloc: Global,
-    pub(crate) index: Index,
+    pub(crate) index: Followed,
     pub(crate) leases: Leases,
     pub(crate) applied: Table<u64>,
     pub(crate) watches: Table<OpenWatch>,
@@ -43,7 +43,7 @@ impl Store {
         }
         Ok(Store {
             alloc,
-            index: Index::new(alloc),
+            index: Followed::new(alloc),
             leases: Leases::new(alloc),
             applied,
             watches: Table::new(alloc),
@@ -54,7 +54,7 @@ impl Store {
     pub fn newest(&self) -> u64
         ensures { (s : State) → Stands self.now s → result ≡ newest s.history }
     {
-        self.index.newest
+        self.index.get().newest
     }
 
     /// The number of members, from 1. It takes no memory.
@@ -70,7 +70,7 @@ impl Store {
     pub fn kept(&self) -> u64
         ensures { (s : State) → Stands self.now s → result ≡ min (count_kept s.history s.compacted) 0xffff_ffff_ffff_ffff }
     {
-        self.index.kept()
+        self.index.get().kept()
     }
 
     /// Does the request at member 1. Its one refusal is want of memory, and the store is then as before.

@@ -6,14 +6,13 @@ ghost use Rattle.store_index.specs.Index.{HoldsKept};
 ghost use Rattle.store_model.specs.Watches.{watch_of, with_next, opened, pushed, push_to, progressed, progress_to, is_synced, watch_header, first_next};
 ghost use Rattle.store_world.specs.Store.{state_of, Stands, Opens};
 ghost use Rattle.store_world.specs.Faults.{Gives, IsFault};
-ghost use Rattle.store_world.specs.Pushes.{IsPush, IsPushOf, moved};
+ghost use Rattle.store_world.specs.Pushes.{IsPush, IsPushOf, TellsNothing, moved, watch_among};
 
 use crate::requests::header;
 use crate::store::Store;
 use crate::table::Table;
 use etcd_types::{Header, List, NoMemory, WatchAsk, WatchItem};
 use store_model::{OpenWatch, StoreFault};
-use store_reads::watch_events;
 
 /// A message of a watch, and the revision from which the watch goes on, where that changes.
 #[derive(Debug, Drop)]
@@ -29,6 +28,7 @@ impl Store {
     {
         let number = self.watches.as_slice().len() as u64 + 1;
         let ask = ask.copy(self.alloc)?;
+        self.index.follow(self.alloc, number, &ask)?;
         self.watches.push(OpenWatch {
             member,
             ask,
@@ -45,7 +45,21 @@ impl Store {
     {
         match self.next_push(number) {
             Ok(push) => Ok(self.go_on(number, push)),
+            Err(StoreFault::NothingToPush(watch)) => {
+                self.note_silent(number);
+                Err(StoreFault::NothingToPush(watch))
+            }
             Err(fault) => Err(fault),
+        }
+    }
+
+    /// Notes that there is nothing to tell a watch, so that the revisions up to the newest aren't looked through again.
+    fn note_silent(&mut self, number: u64)
+        requires { (h : History) → HoldsKept self.old.index h → TellsNothing (state_of self.old h) number }
+        ensures { self.new ≡ self.old }
+    {
+        if let Some(watch) = watch_among(&self.watches, number) {
+            self.index.note(number, &watch.ask, watch.next);
         }
     }
 
@@ -87,10 +101,7 @@ impl Store {
     pub(crate) fn watch(&self, number: u64) -> Option<&OpenWatch>
         ensures { option_copied result ≡ watch_of (state_of self.now []) number }
     {
-        if number == 0 {
-            return None;
-        }
-        self.watches.as_slice().get((number - 1) as usize)
+        watch_among(&self.watches, number)
     }
 
     fn push_for(&self, number: u64, watch: &OpenWatch) -> Result<Push, StoreFault>
@@ -100,22 +111,25 @@ impl Store {
         ensures fault { IfErr result (λ fault. (h : History) → HoldsKept self.now.index h → IsFault fault (push_to (state_of self.now h) number watch.now)) }
     {
         let header = self.watch_header(watch);
+        let index = self.index.get();
         if watch.next == 0 {
             return Ok(Push {
                 item: WatchItem::Created(header),
-                next: Some(first_next(self.index.newest, watch.ask.start)),
+                next: Some(first_next(index.newest, watch.ask.start)),
             });
         }
-        if watch.next < self.index.compacted {
+        if watch.next < index.compacted {
             return Ok(Push {
                 item: WatchItem::Canceled {
                     header,
-                    compact: self.index.compacted,
+                    compact: index.compacted,
                 },
                 next: None,
             });
         }
-        let batch = watch_events(self.alloc, &self.index, &watch.ask, watch.next)?;
+        let batch = self
+            .index
+            .events(self.alloc, number, &watch.ask, watch.next)?;
         if batch.events.as_slice().is_empty() {
             return Err(StoreFault::NothingToPush(number));
         }
@@ -138,8 +152,8 @@ impl Store {
             return Err(StoreFault::NotAsked(number));
         }
         let header = self.watch_header(watch);
-        let newest = self.index.newest;
-        if !self.is_synced(watch)? {
+        let newest = self.index.get().newest;
+        if !self.is_synced(number, watch)? {
             return Err(StoreFault::NotSynced {
                 next: watch.next,
                 newest,
@@ -155,20 +169,22 @@ impl Store {
     }
 
     /// Whether the watch was created and has nothing to push.
-    fn is_synced(&self, watch: &OpenWatch) -> Result<bool, NoMemory>
+    fn is_synced(&self, number: u64, watch: &OpenWatch) -> Result<bool, NoMemory>
         ensures { IfOk result (λ synced. (h : History) → HoldsKept self.now.index h → synced ≡ is_synced (state_of self.now h) watch.now) }
     {
-        if watch.next == 0 || watch.next < self.index.compacted {
+        if watch.next == 0 || watch.next < self.index.get().compacted {
             return Ok(false);
         }
-        let batch = watch_events(self.alloc, &self.index, &watch.ask, watch.next)?;
+        let batch = self
+            .index
+            .events(self.alloc, number, &watch.ask, watch.next)?;
         Ok(batch.events.as_slice().is_empty())
     }
 
     fn watch_header(&self, watch: &OpenWatch) -> Header
         ensures { (h : History) → HoldsKept self.now.index h → result ≡ watch_header (state_of self.now h) watch.now }
     {
-        header(watch.member, self.index.newest)
+        header(watch.member, self.index.get().newest)
     }
 
     /// Moves the watch on, and gives the message.
@@ -204,6 +220,16 @@ impl Table<OpenWatch> {
         let watch = &mut self.items[place];
         watch.next = next;
     }
+}
+
+/// The watch of this number among these, which are numbered from 1.
+fn watch_among(watches: &Table<OpenWatch>, number: u64) -> Option<&OpenWatch>
+    ensures { option_copied result ≡ watch_among watches.now number }
+{
+    if number == 0 {
+        return None;
+    }
+    watches.as_slice().get((number - 1) as usize)
 }
 
 /// The first revision of a watch: where it names none, the one behind the newest.

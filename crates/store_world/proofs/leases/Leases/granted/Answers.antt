@@ -1,5 +1,5 @@
 -- The time to live of the lease that was found, or 0.
-use Rattle.std.proofs.Common.{◌≡◌, List, sym, ◌∙◌, ap, arith, rules}
+use Rattle.std.proofs.Common.{List, sym, ◌∙◌, ap, arith}
 use Rattle.store_model.specs.declared.lease.Lease.{Lease}
 use Rattle.store_model.specs.Leases.{granted}
 use Rattle.store_world.proofs.LeaseLemmas.{granted_is, granted_none, granted_short}
