@@ -1,27 +1,28 @@
 -- The greatest revisions that proxies were given, item by item.
-use Rattle.std.proofs.Common.{◌≡◌, ℕ, ◌<◌, ◌≤◌, ◌+◌, Bool, true, false, cond, ◌==◌, ◌&&◌, ◌||◌, nat_le, max, List, [], ◌∷◌, ◌++◌, length, take, get_or, append-nil, append_assoc, Option, None, Some, refl, sym, ◌∙◌, ap, arith, Equal}
-use Rattle.std.specs.List.{list_all, list_any}
+use Rattle.std.proofs.Common.{◌≡◌, ℕ, ◌≤◌, Bool, true, false, cond, ◌==◌, ◌&&◌, nat_le, max, List, [], ◌∷◌, ◌++◌, append-nil, append_assoc, Option, None, Some, refl, sym, ◌∙◌, ap, arith, Equal}
+use Rattle.std.specs.List.{list_all}
+use Rattle.std.specs.Option.{option_map}
 use Rattle.std.specs.Cmp.{nat_cmp_total}
 use Rattle.std.specs.FinMap.Entries.{find-put}
 use Rattle.std.specs.Ordering.{nat_cmp, is_eq}
 use Rattle.std.proofs.lemmas.Bool.{eqb-true, le-leb, leb-false, leb-true, lt-leb}
 use Rattle.std.proofs.lemmas.Bool.Decides.{nat_tests}
-use Rattle.std.proofs.lemmas.List.{take_all, take_more}
-use Rattle.std.proofs.lemmas.List.Folds.{list_any-append}
 use Rattle.etcd_types.specs.declared.answer.Answer.{Answer}
 use Rattle.etcd_types.specs.declared.answer.Answer.TheVariants.{Done, Refused}
 use Rattle.etcd_types.specs.declared.watch.WatchItem.{WatchItem}
+use Rattle.etcd_types.specs.declared.watch.WatchItem.TheVariants.{Created, Events, Canceled}
 use Rattle.script_text.specs.declared.item.Item.{Item}
 use Rattle.script_text.specs.declared.item.Item.TheVariants as item
-use Rattle.world_model.specs.Lives.{begins, executed_to, is_call_of, is_stream_of, next_message, opened_it, sent_it}
+use Rattle.world_model.specs.Lives.{begins, executed_to, next_message, opened_it, sent_it}
 use Rattle.world_model.specs.Places.{kept_at, with_kept}
 use Rattle.world_model.specs.Reads.{answer_revisions, given, given_by, given_from, message_revisions}
 use Rattle.world_model.specs.Received.{or_zero}
 use Rattle.world_model.specs.State.{Numbered}
 use Rattle.first_places.specs.Places.{is_number}
 use Rattle.audit_model.specs.Calls.{sender_of}
-use Rattle.audit_lives.specs.Finds.{opener_in, sender_in}
-use Rattle.audit_clients.specs.Given.{Forgets, KeepsNewest, Raises, answer_revision, greatest, is_one, message_revision, newest_at}
+use Rattle.audit_model.specs.Streams.{opener_of}
+use Rattle.audit_lives.specs.Given.{message_revision, reply_revision}
+use Rattle.audit_clients.specs.Given.{Forgets, KeepsNewest, Raises, greatest, is_one, newest_at}
 
 -- ---- what is kept at a number
 
@@ -61,59 +62,6 @@ raised old new k revision x m e q = ap (λ (kept : Numbered ℕ). newest_at kept
     by true t = m ∙ ap (λ (n : ℕ). max (newest_at old n) revision) (eqb-true k q t)
     by false t = omega arith
 
-both : (a b : Bool) (x y z r : ℕ) → y ≡ max x (cond a r 0) → z ≡ max y (cond b r 0) → z ≡ max x (cond (a || b) r 0)
-both true true x y z r e f = omega (arith, e, f)
-both true false x y z r e f = omega (arith, e, f)
-both false true x y z r e f = omega (arith, e, f)
-both false false x y z r e f = omega (arith, e, f)
-
--- what one more item tells joins what those before it tell
-any_more : (test : Item → Bool) (items : List Item) (n : ℕ) (i : Item) → n < length items → i ≡ get_or items n i → list_any test (take (n + 1) items) ≡ list_any test (take n items) || test i
-any_more test items n i l is =
-    ap (list_any test) (take_more items n i l ∙ ap (λ (x : Item). take n items ++ x ∷ []) (sym is)) ∙ list_any-append test (take n items) (i ∷ []) ∙ ap (λ (b : Bool). list_any test (take n items) || b) (alone (test i))
-  where
-    alone : (b : Bool) → b || false ≡ b
-    alone true = refl
-    alone false = refl
-
-one_of : (a b : Bool) (q p : ℕ) → (q == p) ≡ a → a && b ≡ is_one (cond b (Some q) None) p
-one_of true true q p e = sym e
-one_of false true q p e = sym e
-one_of true false q p e = refl
-one_of false false q p e = refl
-
-sends : (p call : ℕ) (i : Item) → is_call_of p call i ≡ is_one (sender_in call i) p
-sends p call (item.Sent q number member ticket r) = one_of (q == p) (number == call) q p refl
-sends p call i = refl
-
-opens : (p stream : ℕ) (i : Item) → is_stream_of p stream i ≡ is_one (opener_in stream i) p
-opens p stream (item.Opened q number member r) = one_of (q == p) (number == stream) q p refl
-opens p stream i = refl
-
--- by one more item of those that send calls, or open streams
-
-pub sent_more : (old mid new : Numbered ℕ) (call revision : ℕ) (items : List Item) (n : ℕ) (i : Item) → n < length items → i ≡ get_or items n i
-    → Raises old mid (λ p. sent_it p call (take n items)) revision → Raises mid new (is_one (sender_in call i)) revision → Raises old new (λ p. sent_it p call (take (n + 1) items)) revision
-sent_more old mid new call revision items n i l is f g p =
-    both (sent_it p call (take n items)) (is_one (sender_in call i) p) (newest_at old p) (newest_at mid p) (newest_at new p) revision (f p) (g p)
-    ∙ ap (λ (b : Bool). max (newest_at old p) (cond b revision 0))
-    (sym (any_more (is_call_of p call) items n i l is ∙ ap (λ (b : Bool). sent_it p call (take n items) || b) (sends p call i)))
-
-pub opened_more : (old mid new : Numbered ℕ) (stream revision : ℕ) (items : List Item) (n : ℕ) (i : Item) → n < length items → i ≡ get_or items n i
-    → Raises old mid (λ p. opened_it p stream (take n items)) revision → Raises mid new (is_one (opener_in stream i)) revision → Raises old new (λ p. opened_it p stream (take (n + 1) items)) revision
-opened_more old mid new stream revision items n i l is f g p =
-    both (opened_it p stream (take n items)) (is_one (opener_in stream i) p) (newest_at old p) (newest_at mid p) (newest_at new p) revision (f p) (g p)
-    ∙ ap (λ (b : Bool). max (newest_at old p) (cond b revision 0))
-    (sym (any_more (is_stream_of p stream) items n i l is ∙ ap (λ (b : Bool). opened_it p stream (take n items) || b) (opens p stream i)))
-
-pub sent_all : (old new : Numbered ℕ) (call revision : ℕ) (items : List Item) (n : ℕ) → length items ≤ n → Raises old new (λ p. sent_it p call (take n items)) revision → Raises old new (λ p. sent_it p call items) revision
-sent_all old new call revision items n l f p =
-    f p ∙ ap (λ (xs : List Item). max (newest_at old p) (cond (sent_it p call xs) revision 0)) (take_all n items l)
-
-pub opened_all : (old new : Numbered ℕ) (stream revision : ℕ) (items : List Item) (n : ℕ) → length items ≤ n → Raises old new (λ p. opened_it p stream (take n items)) revision → Raises old new (λ p. opened_it p stream items) revision
-opened_all old new stream revision items n l f p =
-    f p ∙ ap (λ (xs : List Item). max (newest_at old p) (cond (opened_it p stream xs) revision 0)) (take_all n items l)
-
 -- ---- what the proxy was given behind one item more
 
 given_more : (p : ℕ) (before : List Item) (so_far : List ℕ) (xs : List Item) (i : Item)
@@ -152,22 +100,24 @@ gains false n r gs rs k e =
     let least : max n 0 ≡ n = omega arith in
     least ∙ k ∙ ap greatest (sym (append-nil gs))
 
-one_answer : (o : Option Answer) → greatest (answer_revisions o) ≡ answer_revision o
+one_answer : (o : Option Answer) → greatest (answer_revisions o) ≡ or_zero (option_map reply_revision o)
 one_answer None = refl
 one_answer (Some (Done reply)) = omega arith
 one_answer (Some (Refused why)) = refl
 
-one_message : (o : Option WatchItem) → greatest (message_revisions o) ≡ message_revision o
+one_message : (o : Option WatchItem) → greatest (message_revisions o) ≡ or_zero (option_map message_revision o)
 one_message None = refl
-one_message (Some i) = omega arith
+one_message (Some (Created h)) = omega arith
+one_message (Some (Events h events)) = omega arith
+one_message (Some (Canceled h compaction)) = omega arith
 
-pub answered : (old new : Numbered ℕ) (before : List Item) (i : Item) (call revision : ℕ) → i ≡ item.Answered call → revision ≡ answer_revision (executed_to call before)
+pub answered : (old new : Numbered ℕ) (before : List Item) (i : Item) (call revision : ℕ) → i ≡ item.Answered call → revision ≡ or_zero (option_map reply_revision (executed_to call before))
     → Raises old new (λ p. sent_it p call before) revision → KeepsNewest old before → KeepsNewest new (before ++ i ∷ [])
 answered old new before i call revision e told f k p =
     f p ∙ gains (sent_it p call before) (newest_at old p) revision (given p before) (answer_revisions (executed_to call before)) (k p) (one_answer (executed_to call before) ∙ sym told)
     ∙ ap greatest (sym (given_next p before (item.Answered call))) ∙ ap (λ (x : Item). greatest (given p (before ++ x ∷ []))) (sym e)
 
-pub delivered : (old new : Numbered ℕ) (before : List Item) (i : Item) (stream revision : ℕ) → i ≡ item.Delivered stream → revision ≡ message_revision (next_message stream before)
+pub delivered : (old new : Numbered ℕ) (before : List Item) (i : Item) (stream revision : ℕ) → i ≡ item.Delivered stream → revision ≡ or_zero (option_map message_revision (next_message stream before))
     → Raises old new (λ p. opened_it p stream before) revision → KeepsNewest old before → KeepsNewest new (before ++ i ∷ [])
 delivered old new before i stream revision e told f k p =
     f p ∙ gains (opened_it p stream before) (newest_at old p) revision (given p before) (message_revisions (next_message stream before)) (k p) (one_message (next_message stream before) ∙ sym told)
@@ -205,3 +155,8 @@ pub raised_single : (old new : Numbered ℕ) (call revision : ℕ) (items : List
     → o ≡ sender_of call items → Raises old new (is_one o) revision → Raises old new (λ p. sent_it p call items) revision
 raised_single old new call revision items o single e r p =
     r p ∙ ap (λ (b : Bool). max (newest_at old p) (cond b revision 0)) (ap (λ (x : Option ℕ). is_one x p) e ∙ sym (single call p ∙ one_number (sender_of call items) p))
+
+pub opened_single : (old new : Numbered ℕ) (stream revision : ℕ) (items : List Item) (o : Option ℕ) → ((k p : ℕ) → opened_it p k items ≡ is_number (opener_of k items) p)
+    → o ≡ opener_of stream items → Raises old new (is_one o) revision → Raises old new (λ p. opened_it p stream items) revision
+opened_single old new stream revision items o single e r p =
+    r p ∙ ap (λ (b : Bool). max (newest_at old p) (cond b revision 0)) (ap (λ (x : Option ℕ). is_one x p) e ∙ sym (single stream p ∙ one_number (opener_of stream items) p))

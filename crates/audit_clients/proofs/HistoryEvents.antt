@@ -17,7 +17,7 @@ use Rattle.audit_store.proofs.VisibleEvents.{all_visible}
 told_whole : (p : List ℕ) (ask : WatchAsk) (e : Event) → told_event 0 (with_prev p ask) e ≡ e
 told_whole p ask e = ap (λ (prev : Option Kv). record { change = e.change; prev = prev }) (all_visible (event_revision e) e.prev)
 
-all_told : (p : List ℕ) (ask : WatchAsk) (es : List Event) → map (told_event 0 (with_prev p ask)) es ≡ es
+pub all_told : (p : List ℕ) (ask : WatchAsk) (es : List Event) → map (told_event 0 (with_prev p ask)) es ≡ es
 all_told p ask [] = refl
 all_told p ask (e ∷ es) = λ i. told_whole p ask e i ∷ all_told p ask es i
 
@@ -25,11 +25,11 @@ change_so : (p : List ℕ) (ask : WatchAsk) (c : Change) → change_passes (with
 change_so p ask (change.Put kv) = refl
 change_so p ask (change.Delete key modified) = refl
 
-passing_so : (p : List ℕ) (ask : WatchAsk) (es : List Event) → filter (passes (with_prev p ask)) es ≡ filter (passes ask) es
+pub passing_so : (p : List ℕ) (ask : WatchAsk) (es : List Event) → filter (passes (with_prev p ask)) es ≡ filter (passes ask) es
 passing_so p ask [] = refl
 passing_so p ask (e ∷ es) = λ i. cond (change_so p ask e.change i) (e ∷ passing_so p ask es i) (passing_so p ask es i)
 
-swapped : {A : Type 0} (f g : A → Bool) (xs : List A) → filter f (filter g xs) ≡ filter g (filter f xs)
+pub swapped : {A : Type 0} (f g : A → Bool) (xs : List A) → filter f (filter g xs) ≡ filter g (filter f xs)
 swapped f g [] = refl
 swapped f g (x ∷ xs) = by (f x) (g x) refl refl (swapped f g xs)
   where
@@ -57,18 +57,6 @@ swapped f g (x ∷ xs) = by (f x) (g x) refl refl (swapped f g xs)
         ∙ rest
         ∙ sym (ap (λ (t : Bool). filter g (cond t (x ∷ filter f xs) (filter f xs))) e)
 
-from_begin : (range : KeyRange) (h : History) → events h range 0 ≡ events_after range [] h
+pub from_begin : (range : KeyRange) (h : History) → events h range 0 ≡ events_after range [] h
 from_begin range [] = refl
 from_begin range (cs ∷ h) = refl
-
-history_told : (h : History) (p : List ℕ) (ask : WatchAsk) (start : ℕ) → filter (is_from start) (watch_events h 0 (with_prev p ask) 0) ≡ history_events h p ask start
-history_told h p ask start =
-    let range = under p (watched_range ask.range) in
-    let all : List Event = events_after range [] h in
-    ap (filter (is_from start)) (ap (λ (es : List Event). map (told_event 0 (with_prev p ask)) (filter (passes (with_prev p ask)) es)) (from_begin range h) ∙ all_told p ask (filter (passes (with_prev p ask)) all) ∙ passing_so p ask all)
-    ∙ swapped (is_from start) (passes ask) all
-
-pub told_so : (h : History) (p : List ℕ) (ask : WatchAsk) (start : ℕ) (asked : WatchAsk) (batch found : List Event) → asked ≡ with_prev p ask
-    → batch ≡ watch_events h 0 asked 0 → found ≡ filter (is_from start) batch → found ≡ history_events h p ask start
-told_so h p ask start asked batch found a b f =
-    f ∙ ap (filter (is_from start)) (b ∙ ap (λ (w : WatchAsk). watch_events h 0 w 0) a) ∙ history_told h p ask start

@@ -2,6 +2,13 @@ pub mod Quiet
 pub mod Sent
 pub mod HistoryEvents
 pub mod Fronts
+pub mod Spots
+pub mod Kept
+pub mod StoreGrows
+pub mod Dues
+pub mod Comes
+pub mod Tracking
+pub mod Following
 pub mod Turns
 pub mod Greatest
-pub mod LeaseAnswers
+pub mod LeaseCalls

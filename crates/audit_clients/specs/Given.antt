@@ -1,9 +1,5 @@
 -- What is kept of what proxies and sessions were given, in place of the items that tell it, and where the items tell what is looked up.
 use Rattle.std.specs.Prelude.{◌≡◌, ℕ, Bool, false, ◌==◌, max, if◌then◌else◌, List, [], ◌∷◌, Option, None, Some}
-use Rattle.etcd_types.specs.declared.answer.Answer.{Answer}
-use Rattle.etcd_types.specs.declared.answer.Answer.TheVariants.{Done, Refused}
-use Rattle.etcd_types.specs.declared.watch.WatchItem.{WatchItem}
-use Rattle.core_model.specs.LeasingStream.{item_header}
 use Rattle.script_text.specs.declared.item.Item.{Item}
 use Rattle.world_model.specs.Places.{kept_at}
 use Rattle.world_model.specs.Reads.{given}
@@ -11,23 +7,14 @@ use Rattle.world_model.specs.Received.{or_zero}
 use Rattle.world_model.specs.State.{Numbered}
 use Rattle.audit_model.specs.Floors.{reported_floors}
 use Rattle.audit_lives.specs.Index.{TellsAll}
+use Rattle.audit_clients.specs.LeaseCalls.{KeepsLeases}
+use Rattle.audit_clients.specs.Takings.{Follows}
 use Rattle.audit_clients.specs.declared.given.Given.{Given}
 
 -- the greatest of these, or 0
 abbrev pub greatest : List ℕ → ℕ
 greatest [] = 0
 greatest (r ∷ rs) = max r (greatest rs)
-
--- the revision of an answer's header, or of a message's, or 0
-
-abbrev pub answer_revision : Option Answer → ℕ
-answer_revision None = 0
-answer_revision (Some (Done reply)) = reply.header.revision
-answer_revision (Some (Refused why)) = 0
-
-abbrev pub message_revision : Option WatchItem → ℕ
-message_revision None = 0
-message_revision (Some i) = (item_header i).revision
 
 -- what is kept for the proxy, or 0
 abbrev pub newest_at : Numbered ℕ → ℕ → ℕ
@@ -52,5 +39,7 @@ is_one (Some q) p = q == p
 
 pub record Gave (g : Given) (items : List Item) : Type 0 where
   pub floors : g.floors ≡ reported_floors items
+  pub leases : KeepsLeases g.leases items
   pub newest : KeepsNewest g.newest items
   pub index : TellsAll g.index items
+  pub takings : Follows g.takings items

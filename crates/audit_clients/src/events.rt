@@ -1,17 +1,21 @@
-ghost use Rattle.std.specs.Prelude.{◌≡◌, not, is_some, filter, IfOk};
-ghost use Rattle.audit_clients.specs.Stored.{changes_up_to, prev_is_gone, with_prev};
-ghost use Rattle.audit_model.specs.Takes.{has_all_up_to as has_all, is_front as is_prefix, tells_event as is_told_event, tells_front as is_told_front, tells_prev as is_told_prev};
-ghost use Rattle.store_model.specs.Events.{change_revision as revision_of_change, event_revision as revision_of, visible_prev as prev_visible};
+ghost use Rattle.std.specs.Prelude.{◌≡◌, ◌≤◌, not, is_some, filter, drop, IfOk};
+ghost use Rattle.audit_clients.specs.Stored.{prev_is_gone, with_prev};
+ghost use Rattle.audit_clients.specs.Spots.{are_behind, has_come};
+ghost use Rattle.audit_model.specs.Takes.{tells_event as is_told_event, tells_front as is_told_front, tells_prev as is_told_prev};
+ghost use Rattle.store_model.specs.Events.{change_revision as revision_of_change, event_revision as revision_of};
 ghost use Rattle.store_model.specs.State.{State};
 ghost use Rattle.audit_store.specs.Store.{Stands};
 ghost use Rattle.world_model.specs.Received.{history_events as events_for, is_from as is_from_start};
 
-use crate::keys::{same_changes, stored_change, stored_changes, stored_record, watched_range};
+use crate::keys::{stored_change, stored_record, watched_range};
 use audit_store::Store;
 use equal_values::{same_change, same_prev};
 use etcd_types::{Bytes, Change, Event, Kv, List, NoMemory, WatchAsk};
 use namespace_keys::range_under;
 use std::alloc::Global;
+
+/// The last number of 64 bits.
+const LAST_NUMBER: u64 = 0xffff_ffff_ffff_ffff;
 
 fn change_revision(change: &Change) -> u64
     ensures { result ≡ revision_of_change change.now }
@@ -52,6 +56,17 @@ fn events_from(alloc: Global, events: &[Event], start: u128) -> Result<List<Even
     Ok(from)
 }
 
+/// The revision, or the last number of 64 bits where it is above that.
+fn clipped(revision: u128) -> u64
+    ensures { result ≤ revision }
+{
+    if revision < u128::from(LAST_NUMBER) {
+        revision as u64
+    } else {
+        LAST_NUMBER
+    }
+}
+
 /// What the history has for the watch from its start, with the records before, compacted or not.
 pub(crate) fn history_events(
     alloc: Global,
@@ -63,7 +78,7 @@ pub(crate) fn history_events(
     ensures { IfOk result (λ events. (s : State) → Stands store.now s → events ≡ events_for s.history namespace.now ask.now start) }
 {
     let asked = asked_with_prev(alloc, namespace, ask)?;
-    let events = store.events(&asked, 0)?;
+    let events = store.events(&asked, clipped(start))?;
     Ok(events_from(alloc, events.as_slice(), start)?)
 }
 
@@ -155,55 +170,63 @@ fn tells_front(
     Ok(true)
 }
 
-/// Whether these are the first of the watch's events from its start.
-pub(crate) fn is_front(
+/// Whether these are the next of the watch's events, where it took so many of this revision, and all before.
+pub(crate) fn goes_on(
     alloc: Global,
     store: &Store,
     namespace: &Bytes,
     ask: &WatchAsk,
-    start: u128,
-    got: &[Event],
+    revision: u128,
+    count: u64,
+    new: &[Event],
 ) -> Result<bool, NoMemory>
-    ensures { IfOk result (λ so. (s : State) → Stands store.now s → so ≡ is_prefix s namespace.now ask.now start got.now) }
+    ensures { IfOk result (λ so. (s : State) → Stands store.now s → so ≡ is_told_front ask.now.prev_kv s.compacted namespace.now new.now (drop count (events_for s.history namespace.now ask.now revision))) }
 {
-    let due = history_events(alloc, store, namespace, ask, start)?;
+    let due = history_events(alloc, store, namespace, ask, revision)?;
     Ok(tells_front(
         alloc,
         ask.prev_kv,
         store.compacted(),
         namespace,
-        got,
-        due.as_slice(),
+        new,
+        behind(due.as_slice(), count),
     )?)
 }
 
-/// The changes of the events up to this revision.
-fn changes_up_to(alloc: Global, events: &[Event], revision: u64) -> Result<List<Change>, NoMemory>
-    ensures { IfOk result (λ changes. changes ≡ changes_up_to revision events.now) }
+/// The events behind so many, where there are as many.
+fn behind(events: &[Event], count: u64) -> &[Event]
+    ensures { result.now ≡ drop count events.now }
 {
-    let mut changes = List::new(alloc);
-    for event in events {
-        if event_revision(event) <= revision {
-            changes.push(event.change.copy(alloc)?)?;
-        }
+    if count < events.len() as u64 {
+        &events[count as usize..]
+    } else {
+        &[]
     }
-    Ok(changes)
 }
 
-/// Whether these are all of the watch's events from its start up to this revision.
-pub(crate) fn has_all_up_to(
+/// Whether these events, of which the revisions don't fall, all come later than this revision.
+fn come_later(events: &[Event], revision: u64) -> bool
+    ensures { result ≡ are_behind revision events.now }
+{
+    match events {
+        [] => true,
+        [first, ..] => revision < event_revision(first),
+    }
+}
+
+/// Whether no event up to this one is left to the watch, where it took so many of its last revision, and all before.
+pub(crate) fn has_come(
     alloc: Global,
     store: &Store,
     namespace: &Bytes,
     ask: &WatchAsk,
-    start: u128,
-    got: &[Event],
-    revision: u64,
+    revision: u128,
+    count: u64,
+    up_to: u64,
 ) -> Result<bool, NoMemory>
-    ensures { IfOk result (λ so. (s : State) → Stands store.now s → so ≡ has_all s namespace.now ask.now start got.now revision) }
+    ensures { IfOk result (λ so. (s : State) → Stands store.now s → so ≡ has_come (revision, count) up_to (drop count (events_for s.history namespace.now ask.now revision))) }
 {
-    let events = history_events(alloc, store, namespace, ask, start)?;
-    let due = changes_up_to(alloc, events.as_slice(), revision)?;
-    let told = stored_changes(alloc, namespace, got)?;
-    Ok(same_changes(told.as_slice(), due.as_slice()))
+    let due = history_events(alloc, store, namespace, ask, revision)?;
+    let is_later = come_later(behind(due.as_slice(), count), up_to);
+    Ok((count == 0 || revision <= u128::from(up_to)) && is_later)
 }

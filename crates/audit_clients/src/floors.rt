@@ -1,146 +1,140 @@
-ghost use Rattle.std.specs.Prelude.{◌≡◌, List as Values, IfOk, OnOk};
+ghost use Rattle.std.specs.Prelude.{◌≡◌, ◌++◌, ◌∷◌, [], List as Values, OnOk};
 ghost use Rattle.std.specs.Option.{option_copied};
 ghost use Rattle.audit_clients.specs.Given.{Gave};
-ghost use Rattle.audit_clients.specs.Sent.{of_lease, sent_at, sent_in};
-ghost use Rattle.audit_model.specs.Calls.{sent_as as first_sent};
-ghost use Rattle.audit_model.specs.Floors.{floors_by as raised_by, floors_of as raised_of, too_early as is_too_early, too_early_at as is_too_early_at, too_early_by as is_too_early_by};
+ghost use Rattle.audit_clients.specs.LeaseCalls.{KeepsLeases, Notes, call_of, floors_by_lease, lease_kind, lease_sent, request_of};
+ghost use Rattle.audit_lives.specs.Index.{TellsAll};
+ghost use Rattle.audit_model.specs.Floors.{floors_by as raised_by, too_early as is_too_early, too_early_at as is_too_early_at, too_early_by as is_too_early_by};
 ghost use Rattle.script_text.specs.declared.item.Item.{Item as Told};
 ghost use Rattle.script_text.specs.declared.item.Item.TheVariants as item;
 ghost use Rattle.world_model.specs.Lives.{clock_of as last_clock};
 
 use crate::given::Given;
-use audit_lives::clock_of;
+use audit_lives::Index;
 use audit_model::AuditFault;
-use etcd_types::{Answer, Body, NoMemory, Request};
+use etcd_types::{Answer, NoMemory, Request};
 use replay_parts::{Numbers, raise_floors};
 use script_text::Item;
-use std::alloc::Global;
 use world_model::{Floor, SentCall};
 
-/// A member's number is below this one.
-const LAST_MEMBER: u64 = 0xffff_ffff;
+/// What floors read of a call that asks for a session, or keeps one alive.
+#[derive(Clone, Copy, Debug)]
+pub(crate) struct LeaseCall {
+    /// The proxy that sent it.
+    pub(crate) proxy: u64,
+    /// The proxy's clock when it was sent, in milliseconds.
+    pub(crate) clock: u64,
+    /// Whether it asks for a lease.
+    pub(crate) grants: bool,
+}
 
-/// The call, where the item sends it, with the clock of its proxy.
-fn sent_in(
-    alloc: Global,
-    call: u64,
-    before: &[Item],
-    item: &Item,
-) -> Result<Option<SentCall>, NoMemory>
-    ensures { IfOk result (λ found. found ≡ sent_in call before.now item.now) }
+/// Of a call that is sent at this reading of its proxy's clock.
+fn lease_call(proxy: u64, clock: u64, request: &Request) -> Option<LeaseCall>
+    ensures { result ≡ lease_sent proxy clock (lease_kind request.now) }
 {
-    match item {
-        Item::Sent {
+    match request {
+        Request::Grant { .. } => Some(LeaseCall {
             proxy,
-            call: c,
-            member,
-            request,
-            ..
-        } => {
-            if *c == call {
-                Ok(Some(sent(alloc, *proxy, *member, clock_of(*proxy, before), request)?))
-            } else {
-                Ok(None)
-            }
-        }
-        _ => Ok(None),
+            clock,
+            grants: true,
+        }),
+        Request::KeepAlive { .. } => Some(LeaseCall {
+            proxy,
+            clock,
+            grants: false,
+        }),
+        _ => None,
     }
 }
 
-/// A call as floors read it: of its proxy, at this reading of its clock, in milliseconds.
-fn sent(
-    alloc: Global,
-    proxy: u64,
-    member: u64,
-    clock: u64,
-    request: &Request,
-) -> Result<SentCall, NoMemory>
-    ensures { IfOk result (λ call. call ≡ sent_at proxy member clock request.now) }
-{
-    if member >= LAST_MEMBER {
-        return Err(NoMemory);
-    }
-    Ok(SentCall {
-        proxy,
-        life: 0,
-        own: 0,
-        member: member as u32,
-        request: request.copy(alloc)?,
-        clock,
-        executed: None,
-        settled: false,
-    })
-}
-
-/// The call of this number, where it was sent.
-fn sent_as(alloc: Global, call: u64, items: &[Item]) -> Result<Option<SentCall>, NoMemory>
-    ensures { IfOk result (λ found. found ≡ first_sent call items.now) }
-{
-    for (place, item) in items.iter().enumerate() {
-        if let Some(found) = sent_in(alloc, call, &items[..place], item)? {
-            return Ok(Some(found));
-        }
-    }
-    Ok(None)
-}
-
-/// What an answer to the call makes of the floors, where it was sent.
-fn raise(
-    floors: &mut Numbers<Floor>,
-    call: &Option<SentCall>,
-    answer: &Answer,
+/// Keeps what is read of the call, where it is something.
+fn note(
+    leases: &mut Numbers<LeaseCall>,
+    call: u64,
+    lease: Option<LeaseCall>,
 ) -> Result<(), NoMemory>
-    ensures { OnOk result (floors.new ≡ raised_of call.now answer.now floors.old) }
+    ensures { OnOk result (Notes call lease leases.old leases.new) }
 {
-    match call {
-        Some(call) => Ok(raise_floors(floors, call, answer)?),
+    match lease {
+        Some(lease) => Ok(leases.put(call, lease)?),
         None => Ok(()),
     }
 }
 
-/// Whether an answer of this kind may raise a floor.
-fn is_of_lease(answer: &Answer) -> bool
-    ensures { result ≡ of_lease answer.now }
+/// With the next item, which may send a call.
+pub(crate) fn note_call(
+    leases: &mut Numbers<LeaseCall>,
+    index: &Index,
+    item: &Item,
+) -> Result<(), NoMemory>
+    ensures { OnOk result ((items : Values Told) → TellsAll index.now items → KeepsLeases leases.old items → KeepsLeases leases.new (items ++ item.now ∷ [])) }
 {
-    match answer {
-        Answer::Done(reply) => match &reply.body {
-            Body::Grant { .. } => true,
-            Body::KeepAlive { .. } => true,
-            _ => false,
+    match item {
+        Item::Sent {
+            proxy,
+            call,
+            request,
+            ..
+        } => match index.sender_of(*call) {
+            Some(_) => Ok(()),
+            None => {
+                let lease = lease_call(*proxy, index.clock_of(*proxy), request);
+                Ok(note(leases, *call, lease)?)
+            }
         },
-        Answer::Refused(_) => false,
+        _ => Ok(()),
     }
 }
 
-/// What an answer to the call makes of the floors. The call is looked for only where that is something.
-#[tactic(auto, using(crate::proofs::LeaseAnswers::unraised))]
-fn raise_for(
-    alloc: Global,
+/// A call of which floors read the same.
+fn call_of(lease: &LeaseCall) -> SentCall
+    ensures { result ≡ call_of lease.now }
+{
+    SentCall {
+        proxy: lease.proxy,
+        life: 0,
+        own: 0,
+        member: 0,
+        request: request_of(lease.grants),
+        clock: lease.clock,
+        executed: None,
+        settled: false,
+    }
+}
+
+fn request_of(grants: bool) -> Request
+    ensures { result ≡ request_of grants }
+{
+    if grants {
+        Request::Grant { ttl: 0, lease: 0 }
+    } else {
+        Request::KeepAlive { lease: 0 }
+    }
+}
+
+/// What an answer to the call makes of the floors, where they read something of it.
+fn raise(
     floors: &mut Numbers<Floor>,
-    call: u64,
-    before: &[Item],
+    call: Option<&LeaseCall>,
     answer: &Answer,
 ) -> Result<(), NoMemory>
-    ensures { OnOk result (floors.new ≡ raised_of (first_sent call before.now) answer.now floors.old) }
+    ensures { OnOk result (floors.new ≡ floors_by_lease (option_copied call.entry) answer.now floors.old) }
 {
-    if !is_of_lease(answer) {
-        return Ok(());
+    match call {
+        Some(call) => Ok(raise_floors(floors, &call_of(call), answer)?),
+        None => Ok(()),
     }
-    let call = sent_as(alloc, call, before)?;
-    Ok(raise(floors, &call, answer)?)
 }
 
 /// What the item makes of the floors, behind those before it.
 pub(crate) fn raise_by(
-    alloc: Global,
     floors: &mut Numbers<Floor>,
-    before: &[Item],
+    leases: &Numbers<LeaseCall>,
     item: &Item,
 ) -> Result<(), NoMemory>
-    ensures { OnOk result (floors.new ≡ raised_by before.now item.now floors.old) }
+    ensures { OnOk result ((before : Values Told) → KeepsLeases leases.now before → floors.new ≡ raised_by before item.now floors.old) }
 {
     match item {
-        Item::Executed { call, answer } => Ok(raise_for(alloc, floors, *call, before, answer)?),
+        Item::Executed { call, answer } => Ok(raise(floors, leases.find(*call), answer)?),
         _ => Ok(()),
     }
 }

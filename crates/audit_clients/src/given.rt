@@ -1,33 +1,40 @@
-ghost use Rattle.std.specs.Prelude.{◌≡◌, ◌++◌, ◌∷◌, ◌==◌, [], nat_le, List as Values, Some, OnOk};
+ghost use Rattle.std.specs.Prelude.{◌≡◌, ◌++◌, ◌∷◌, ◌==◌, [], nat_le, true, List as Values, IfOk, OnOk};
 ghost use Rattle.std.specs.List.{list_all};
-ghost use Rattle.std.specs.Option.{option_copied};
-ghost use Rattle.audit_clients.specs.Given.{Forgets, Gave, KeepsNewest, Raises, answer_revision as revision_of_answer, is_one, message_revision as revision_of_message, newest_at};
+ghost use Rattle.audit_clients.specs.Given.{Forgets, Gave, KeepsNewest, Raises, is_one, newest_at};
+ghost use Rattle.audit_clients.specs.Takings.{TicketOk};
 ghost use Rattle.audit_lives.specs.Index.{TellsAll};
+ghost use Rattle.audit_model.specs.Order.{in_order};
+ghost use Rattle.audit_model.specs.Takes.{takes_so};
 ghost use Rattle.audit_model.specs.Summaries.{summary as summary_of};
 ghost use Rattle.audit_model.specs.Unsent.{is_true_header as is_header_true};
 ghost use Rattle.audit_store.specs.Store.{Stands};
 ghost use Rattle.script_text.specs.declared.item.Item.{Item as Told};
 ghost use Rattle.world_model.specs.Answers.{seen};
-ghost use Rattle.world_model.specs.Lives.{opened_it, sent_it};
+ghost use Rattle.world_model.specs.Lives.{asked_as, life, namespace_of, opened_it, sent_it};
 ghost use Rattle.world_model.specs.Reads.{given as given_to};
+ghost use Rattle.world_model.specs.Received.{taken_for};
 
-use crate::floors::raise_by;
-use audit_lives::{Index, next_message, opener_in, sender_in};
+use crate::floors::{LeaseCall, note_call, raise_by};
+use crate::takings::{Taking, Takings};
+use audit_lives::Index;
 use audit_model::Summary;
 use audit_store::Store;
-use etcd_types::{Answer, Header, NoMemory, WatchItem};
+use etcd_types::{Bytes, Header, NoMemory};
 use replay_parts::Numbers;
 use script_text::Item;
 use std::alloc::Global;
 use world_model::Floor;
 
-/// What proxies and sessions were given by the items so far: the sessions' floors, and for each proxy the greatest header revision that
-/// it was given in its life. And where the items tell what is looked up for the next one.
+/// What proxies and sessions were given by the items so far: the sessions' floors, with the calls that may raise them, and for each proxy
+/// the greatest header revision that it was given in its life. And where the watches stand, and where the items tell what is looked up
+/// for the next one.
 #[derive(Drop)]
 pub struct Given {
     pub(crate) floors: Numbers<Floor>,
+    leases: Numbers<LeaseCall>,
     newest: Numbers<u64>,
     pub(crate) index: Index,
+    takings: Takings,
 }
 
 impl Given {
@@ -37,8 +44,10 @@ impl Given {
     {
         Given {
             floors: Numbers::new(alloc),
+            leases: Numbers::new(alloc),
             newest: Numbers::new(alloc),
             index: Index::new(alloc),
+            takings: Takings::new(alloc),
         }
     }
 
@@ -56,13 +65,31 @@ impl Given {
         self.index.summary()
     }
 
-    /// By the next item, too, behind these.
-    pub fn take(&mut self, alloc: Global, items: &[Item], item: &Item) -> Result<(), NoMemory>
-        ensures { OnOk result (Gave self.old items.now → Gave self.new (items.now ++ item.now ∷ [])) }
+    /// Where the watch of the ticket stands, in the life of its proxy.
+    pub(crate) fn taking(&self, proxy: u64, ticket: u64) -> Option<Taking>
+        ensures { (items : Values Told) → Gave self.now items
+            → TicketOk (seen items).store (namespace_of items) (asked_as proxy ticket (life proxy items)) (taken_for proxy ticket (life proxy items)) result }
     {
-        raise_by(alloc, &mut self.floors, items, item)?;
-        renew(&mut self.newest, &self.index, items, item)?;
-        self.index.take(items, item)?;
+        self.takings
+            .find(self.index.life_start(proxy), proxy, ticket)
+    }
+
+    /// The namespace of the world, or none where there is no world.
+    pub(crate) fn namespace(&self, alloc: Global) -> Result<Bytes, NoMemory>
+        ensures { IfOk result (λ namespace. (items : Values Told) → Gave self.now items → namespace ≡ namespace_of items) }
+    {
+        Ok(self.index.namespace(alloc)?)
+    }
+
+    /// By the next item, too, which keeps the rules.
+    pub fn take(&mut self, item: Item) -> Result<(), NoMemory>
+        ensures { OnOk result ((items : Values Told) → in_order items item ≡ true → takes_so items item ≡ true → Gave self.old items → Gave self.new (items ++ item ∷ [])) }
+    {
+        raise_by(&mut self.floors, &self.leases, &item)?;
+        note_call(&mut self.leases, &self.index, &item)?;
+        renew(&mut self.newest, &self.index, &item)?;
+        self.takings.follow(&self.index, &item)?;
+        self.index.take(item)?;
         Ok(())
     }
 }
@@ -96,51 +123,34 @@ fn raise_one(newest: &mut Numbers<u64>, proxy: Option<u64>, revision: u64) -> Re
     }
 }
 
-/// Those that sent the call were given this revision. All items are looked through only where a call's number was sent twice.
+/// The sender of the call was given this revision. Calls are numbered in order: one whose number was sent twice has no one sender.
 fn raise_sender(
     newest: &mut Numbers<u64>,
     index: &Index,
     call: u64,
     revision: u64,
-    items: &[Item],
 ) -> Result<(), NoMemory>
-    ensures { OnOk result (TellsAll index.now items.now → Raises newest.old newest.new (λ p. sent_it p call items.now) revision) }
+    ensures { OnOk result ((items : Values Told) → TellsAll index.now items → Raises newest.old newest.new (λ p. sent_it p call items) revision) }
 {
-    if index.has_single_senders() {
-        Ok(raise_one(newest, index.sender_of(call, items), revision)?)
-    } else {
-        Ok(raise_senders(newest, call, revision, items)?)
+    if !index.has_single_senders() {
+        return Err(NoMemory);
     }
+    Ok(raise_one(newest, index.sender_of(call), revision)?)
 }
 
-/// Each sender of the call was given this revision.
-fn raise_senders(
+/// The opener of the stream was given this revision. Streams are numbered in order, too.
+fn raise_opener(
     newest: &mut Numbers<u64>,
-    call: u64,
-    revision: u64,
-    items: &[Item],
-) -> Result<(), NoMemory>
-    ensures { OnOk result (Raises newest.old newest.new (λ p. sent_it p call items.now) revision) }
-{
-    for item in items {
-        raise_one(newest, sender_in(call, item), revision)?;
-    }
-    Ok(())
-}
-
-/// The opener of the stream was given this revision.
-fn raise_openers(
-    newest: &mut Numbers<u64>,
+    index: &Index,
     stream: u64,
     revision: u64,
-    items: &[Item],
 ) -> Result<(), NoMemory>
-    ensures { OnOk result (Raises newest.old newest.new (λ p. opened_it p stream items.now) revision) }
+    ensures { OnOk result ((items : Values Told) → TellsAll index.now items → Raises newest.old newest.new (λ p. opened_it p stream items) revision) }
 {
-    for item in items {
-        raise_one(newest, opener_in(stream, item), revision)?;
+    if !index.has_single_openers() {
+        return Err(NoMemory);
     }
-    Ok(())
+    Ok(raise_one(newest, index.opener_of(stream), revision)?)
 }
 
 /// The proxy begins a life.
@@ -151,62 +161,20 @@ fn forget(newest: &mut Numbers<u64>, proxy: u64) -> Result<(), NoMemory>
     Ok(())
 }
 
-fn reply_revision(answer: &Answer) -> u64
-    ensures { result ≡ revision_of_answer (Some answer.now) }
-{
-    match answer {
-        Answer::Done(reply) => reply.header.revision,
-        Answer::Refused(_) => 0,
-    }
-}
-
-fn answer_revision(answer: Option<&Answer>) -> u64
-    ensures { result ≡ revision_of_answer (option_copied answer.entry) }
-{
-    match answer {
-        Some(answer) => reply_revision(answer),
-        None => 0,
-    }
-}
-
-fn item_revision(message: &WatchItem) -> u64
-    ensures { result ≡ revision_of_message (Some message.now) }
-{
-    match message {
-        WatchItem::Created(header) => header.revision,
-        WatchItem::Events { header, .. } => header.revision,
-        WatchItem::Canceled { header, .. } => header.revision,
-    }
-}
-
-fn message_revision(message: Option<&WatchItem>) -> u64
-    ensures { result ≡ revision_of_message (option_copied message.entry) }
-{
-    match message {
-        Some(message) => item_revision(message),
-        None => 0,
-    }
-}
-
 /// The next item gives a header, or begins a life.
-fn renew(
-    newest: &mut Numbers<u64>,
-    index: &Index,
-    items: &[Item],
-    item: &Item,
-) -> Result<(), NoMemory>
-    ensures { OnOk result (TellsAll index.now items.now → KeepsNewest newest.old items.now → KeepsNewest newest.new (items.now ++ item.now ∷ [])) }
+fn renew(newest: &mut Numbers<u64>, index: &Index, item: &Item) -> Result<(), NoMemory>
+    ensures { OnOk result ((items : Values Told) → TellsAll index.now items → KeepsNewest newest.old items → KeepsNewest newest.new (items ++ item.now ∷ [])) }
 {
     match item {
         Item::Started { proxy } => Ok(forget(newest, *proxy)?),
         Item::Restarted { proxy } => Ok(forget(newest, *proxy)?),
         Item::Answered { call } => {
-            let revision = answer_revision(index.executed_to(*call, items));
-            Ok(raise_sender(newest, index, *call, revision, items)?)
+            let revision = index.answer_revision(*call);
+            Ok(raise_sender(newest, index, *call, revision)?)
         }
         Item::Delivered { stream } => {
-            let revision = message_revision(next_message(*stream, items));
-            Ok(raise_openers(newest, *stream, revision, items)?)
+            let revision = index.message_revision(*stream);
+            Ok(raise_opener(newest, index, *stream, revision)?)
         }
         _ => Ok(()),
     }

@@ -1,12 +1,8 @@
 ghost use Rattle.std.specs.Prelude.{◌≡◌, IfOk};
-ghost use Rattle.audit_clients.specs.Stored.{stored_changes};
-ghost use Rattle.equal_values.specs.Lists.{same_all};
-ghost use Rattle.equal_values.specs.Messages.{same_change as is_same_change};
 ghost use Rattle.watch_model.specs.Joining.{watched_range as range_watched};
 ghost use Rattle.world_model.specs.Received.{stored_change as change_stored, stored_record as record_stored};
 
-use equal_values::same_change;
-use etcd_types::{Bytes, Change, Event, KeyRange, Kv, List, NoMemory};
+use etcd_types::{Bytes, Change, KeyRange, Kv, NoMemory};
 use namespace_keys::key_under;
 use std::alloc::Global;
 
@@ -34,36 +30,6 @@ pub(crate) fn stored_change(
             modified: *modified,
         }),
     }
-}
-
-/// The changes of these events of clients' keys, as the history has them.
-pub(crate) fn stored_changes(
-    alloc: Global,
-    namespace: &Bytes,
-    events: &[Event],
-) -> Result<List<Change>, NoMemory>
-    ensures { IfOk result (λ changes. changes ≡ stored_changes namespace.now events.now) }
-{
-    let mut changes = List::new(alloc);
-    for event in events {
-        changes.push(stored_change(alloc, namespace, &event.change)?)?;
-    }
-    Ok(changes)
-}
-
-/// Whether these are the same changes in the same order.
-pub(crate) fn same_changes(told: &[Change], due: &[Change]) -> bool
-    ensures { result ≡ same_all is_same_change told.now due.now }
-{
-    if told.len() != due.len() {
-        return false;
-    }
-    for (place, one) in told.iter().enumerate() {
-        if !same_change(one, &due[place]) {
-            return false;
-        }
-    }
-    true
 }
 
 /// The range that a watch looks at: an empty key is read as one zero byte.

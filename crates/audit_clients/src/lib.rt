@@ -10,6 +10,7 @@ mod reads;
 mod snapshots;
 mod taken;
 mod takes;
+mod takings;
 mod unsent;
 
 pub use floors::too_early;

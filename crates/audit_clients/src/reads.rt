@@ -1,20 +1,18 @@
-ghost use Rattle.std.specs.Prelude.{◌≡◌, ◌++◌, IfOk};
+ghost use Rattle.std.specs.Prelude.{◌≡◌, ◌++◌, List as Values, IfOk};
 ghost use Rattle.audit_model.specs.Unsent.{is_true_read as is_read_true};
 ghost use Rattle.proxy_model.specs.Snapshot.{is_plain as is_plain_ask, is_unsorted as is_unsorted_ask};
 ghost use Rattle.store_model.specs.Records.{record_now as record_at};
 ghost use Rattle.audit_clients.specs.Given.{Gave};
 ghost use Rattle.audit_store.specs.Store.{Stands};
 ghost use Rattle.world_model.specs.Answers.{seen};
-ghost use Rattle.world_model.specs.Lives.{namespace_of as namespace};
+ghost use Rattle.script_text.specs.declared.item.Item.{Item as Told};
 ghost use Rattle.world_model.specs.Reads.{shown as shown_as, shown_now as shows_now};
 
 use crate::given::{Given, is_true_header};
-use audit_lives::namespace_of;
 use audit_store::Store;
 use equal_values::same_body;
 use etcd_types::{Body, Bytes, Kv, List, NoMemory, RangeAsk, Reply, Sort};
 use namespace_keys::key_under;
-use script_text::Item;
 use std::alloc::Global;
 
 fn is_unsorted(sort: Sort) -> bool
@@ -64,11 +62,11 @@ fn shown(alloc: Global, key: &Bytes, found: Option<Kv>) -> Result<Body, NoMemory
     }
 }
 
-/// What a read of the key shows behind these items.
-fn shown_now(alloc: Global, store: &Store, items: &[Item], key: &Bytes) -> Result<Body, NoMemory>
-    ensures { IfOk result (λ body. Stands store.now (seen items.now).store → body ≡ shows_now items.now key.now) }
+/// What a read of the key shows.
+fn shown_now(alloc: Global, store: &Store, given: &Given, key: &Bytes) -> Result<Body, NoMemory>
+    ensures { IfOk result (λ body. (items : Values Told) → Stands store.now (seen items).store → Gave given.now items → body ≡ shows_now items key.now) }
 {
-    let namespace = namespace_of(alloc, items)?;
+    let namespace = given.namespace(alloc)?;
     let stored = key_under(alloc, &namespace, key)?;
     let found = store.record(&stored)?;
     Ok(shown(alloc, key, found)?)
@@ -79,16 +77,15 @@ pub(crate) fn is_true_read(
     alloc: Global,
     store: &Store,
     given: &Given,
-    items: &[Item],
     proxy: u64,
     ask: &RangeAsk,
     reply: &Reply,
 ) -> Result<bool, NoMemory>
-    ensures { IfOk result (λ so. Stands store.now (seen items.now).store → Gave given.now items.now → so ≡ is_read_true items.now proxy ask.now reply.now) }
+    ensures { IfOk result (λ so. (items : Values Told) → Stands store.now (seen items).store → Gave given.now items → so ≡ is_read_true items proxy ask.now reply.now) }
 {
     if !is_plain(ask) {
         return Ok(false);
     }
-    let due = shown_now(alloc, store, items, &ask.range.key)?;
+    let due = shown_now(alloc, store, given, &ask.range.key)?;
     Ok(same_body(&reply.body, &due) && is_true_header(store, given, proxy, &reply.header))
 }

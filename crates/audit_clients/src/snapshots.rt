@@ -12,13 +12,11 @@ ghost use Rattle.world_model.specs.Answers.{seen};
 ghost use Rattle.world_model.specs.Lives.{namespace_of as namespace_told};
 
 use crate::given::{Given, is_true_header};
-use audit_lives::namespace_of;
 use audit_store::Store;
 use core_asks::writes_keys;
 use equal_values::same_body;
 use etcd_types::{Answer, Body, Header, NoMemory, Reply, Request, TxnAsk};
 use namespace_keys::{KeyFault, Namespace};
-use script_text::Item;
 use std::alloc::Global;
 
 /// The store does nothing at a revision from this one on.
@@ -99,15 +97,14 @@ fn is_true_snapshot(
     alloc: Global,
     store: &mut Store,
     given: &Given,
-    items: &[Item],
     proxy: u64,
     txn: &TxnAsk,
     reply: &Reply,
 ) -> Result<bool, NoMemory>
     requires { writes (request.Txn txn.now) ≡ false }
-    ensures { IfOk result (λ so. Stands store.old (seen items.now).store → Gave given.now items.now → Stands store.new (seen items.now).store × (so ≡ is_snapshot_true items.now proxy txn.now reply.now)) }
+    ensures { IfOk result (λ so. (items : Values Told) → Stands store.old (seen items).store → Gave given.now items → Stands store.new (seen items).store × (so ≡ is_snapshot_true items proxy txn.now reply.now)) }
 {
-    let namespace = Namespace::new(namespace_of(alloc, items)?);
+    let namespace = Namespace::new(given.namespace(alloc)?);
     Ok(is_true_under(alloc, store, given, &namespace, proxy, txn, reply)?)
 }
 
@@ -116,16 +113,15 @@ pub(crate) fn is_true_transaction(
     alloc: Global,
     store: &mut Store,
     given: &Given,
-    items: &[Item],
     proxy: u64,
     txn: &TxnAsk,
     reply: &Reply,
 ) -> Result<bool, NoMemory>
-    ensures { IfOk result (λ so. Stands store.old (seen items.now).store → Gave given.now items.now → Stands store.new (seen items.now).store × (so ≡ writes (request.Txn txn.now) || is_snapshot_true items.now proxy txn.now reply.now)) }
+    ensures { IfOk result (λ so. (items : Values Told) → Stands store.old (seen items).store → Gave given.now items → Stands store.new (seen items).store × (so ≡ writes (request.Txn txn.now) || is_snapshot_true items proxy txn.now reply.now)) }
 {
     let request = Request::Txn(txn.copy(alloc)?);
     if writes_keys(&request) {
         return Ok(true);
     }
-    Ok(is_true_snapshot(alloc, store, given, items, proxy, txn, reply)?)
+    Ok(is_true_snapshot(alloc, store, given, proxy, txn, reply)?)
 }

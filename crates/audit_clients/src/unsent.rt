@@ -13,7 +13,6 @@ use crate::reads::is_true_read;
 use crate::snapshots::is_true_transaction;
 use audit_store::Store;
 use etcd_types::{Answer, NoMemory, Reply, Request};
-use script_text::Item;
 use std::alloc::Global;
 
 /// Whether the reply to a request, with no call of its own so far, is what the store holds.
@@ -21,18 +20,15 @@ fn is_true_reply(
     alloc: Global,
     store: &mut Store,
     given: &Given,
-    items: &[Item],
     proxy: u64,
     request: &Request,
     reply: &Reply,
 ) -> Result<bool, NoMemory>
-    ensures { IfOk result (λ so. Stands store.old (seen items.now).store → Gave given.now items.now → Stands store.new (seen items.now).store × (so ≡ is_unsent_true items.now proxy (Some request.now) reply.now)) }
+    ensures { IfOk result (λ so. (items : Values Told) → Stands store.old (seen items).store → Gave given.now items → Stands store.new (seen items).store × (so ≡ is_unsent_true items proxy (Some request.now) reply.now)) }
 {
     match request {
-        Request::Range(ask) => Ok(is_true_read(alloc, store, given, items, proxy, ask, reply)?),
-        Request::Txn(txn) => Ok(is_true_transaction(
-            alloc, store, given, items, proxy, txn, reply,
-        )?),
+        Request::Range(ask) => Ok(is_true_read(alloc, store, given, proxy, ask, reply)?),
+        Request::Txn(txn) => Ok(is_true_transaction(alloc, store, given, proxy, txn, reply)?),
         _ => Ok(true),
     }
 }
@@ -42,15 +38,14 @@ fn is_true_unsent(
     alloc: Global,
     store: &mut Store,
     given: &Given,
-    items: &[Item],
     proxy: u64,
     request: Option<&Request>,
     reply: &Reply,
 ) -> Result<bool, NoMemory>
-    ensures { IfOk result (λ so. Stands store.old (seen items.now).store → Gave given.now items.now → Stands store.new (seen items.now).store × (so ≡ is_unsent_true items.now proxy (option_copied request.entry) reply.now)) }
+    ensures { IfOk result (λ so. (items : Values Told) → Stands store.old (seen items).store → Gave given.now items → Stands store.new (seen items).store × (so ≡ is_unsent_true items proxy (option_copied request.entry) reply.now)) }
 {
     match request {
-        Some(request) => Ok(is_true_reply(alloc, store, given, items, proxy, request, reply)?),
+        Some(request) => Ok(is_true_reply(alloc, store, given, proxy, request, reply)?),
         None => Ok(true),
     }
 }
@@ -63,10 +58,10 @@ fn is_named(given: &Given, proxy: u64, ticket: u64) -> bool
 }
 
 /// What was asked at the proxy under this ticket, in its life.
-fn asked_as<'a>(given: &Given, proxy: u64, ticket: u64, items: &'a [Item]) -> Option<&'a Request>
-    ensures { Gave given.now items.now → option_copied result ≡ first_asked proxy ticket (last_life proxy items.now) }
+fn asked_as(given: &Given, proxy: u64, ticket: u64) -> Option<&Request>
+    ensures { (items : Values Told) → Gave given.now items → option_copied result ≡ first_asked proxy ticket (last_life proxy items) }
 {
-    given.index().asked_as(proxy, ticket, items)
+    given.index().asked_as(proxy, ticket)
 }
 
 /// Whether a reply is true where no call of its proxy's life names its ticket so far: an ok reply to a read, or to a transaction that
@@ -75,12 +70,11 @@ pub fn replies_so(
     alloc: Global,
     store: &mut Store,
     given: &Given,
-    items: &[Item],
     proxy: u64,
     ticket: u64,
     answer: &Answer,
 ) -> Result<bool, NoMemory>
-    ensures { IfOk result (λ so. Stands store.old (seen items.now).store → Gave given.now items.now → Stands store.new (seen items.now).store × (so ≡ reply_is_so items.now (item.Reply proxy ticket answer.now))) }
+    ensures { IfOk result (λ so. (items : Values Told) → Stands store.old (seen items).store → Gave given.now items → Stands store.new (seen items).store × (so ≡ reply_is_so items (item.Reply proxy ticket answer.now))) }
 {
     let Answer::Done(reply) = answer else {
         return Ok(true);
@@ -92,9 +86,8 @@ pub fn replies_so(
         alloc,
         store,
         given,
-        items,
         proxy,
-        asked_as(given, proxy, ticket, items),
+        asked_as(given, proxy, ticket),
         reply,
     )?)
 }

@@ -1,9 +1,13 @@
 pub mod Walks
 pub mod Found
-pub mod LifeSteps
 pub mod GivenItems
+pub mod Gets
+pub mod Keeping
+pub mod Orders
 pub mod Growing
 pub mod Senders
+pub mod Openers
+pub mod Messages
 pub mod Telling
 pub mod LookUps
 pub mod Counting

@@ -6,16 +6,19 @@ use Rattle.std.proofs.lemmas.List.{length-append, length-take-le, take-append-dr
 use Rattle.first_places.specs.Firsts.{Firsts, first_place, tells}
 use Rattle.first_places.specs.Places.{from_start, is_pair, place_at, value_at}
 use Rattle.first_places.proofs.Growing.{any_has_place}
+use Rattle.etcd_types.specs.declared.watch.WatchItem.{WatchItem}
+use Rattle.etcd_types.specs.declared.watch.WatchItem.TheVariants.{Created, Events, Canceled}
 use Rattle.script_text.specs.declared.item.Item.{Item}
 use Rattle.script_text.specs.declared.item.Item.TheVariants as item
 use Rattle.audit_model.specs.Calls.{is_settled, sender_of, settles}
 use Rattle.audit_model.specs.Order.{gives_ticket, is_given_ticket, is_replied, replies_to}
 use Rattle.audit_model.specs.Streams.{cancels, ends, has_cancelled, has_ended, is_cancellation, opener_of}
+use Rattle.audit_model.specs.Takes.{pushes_cancellation}
 use Rattle.world_model.specs.Lives.{asked_as, executed_to, is_call_of, is_named, is_stream_of, life, names, next_message, opened_it, sent_it}
 use Rattle.audit_lives.specs.Finds.{asked_in, executes, found_or, opener_in, sender_in, told_by, told_of}
 use Rattle.audit_lives.specs.Given.{executed_in}
 use Rattle.audit_lives.specs.Index.{Starts, TellsCalls, TellsLives, TellsStreams}
-use Rattle.audit_lives.specs.Pairs.{asked, given, replied, named, sent_own, opened_own, sent, executed, settled, opened, ended, cancelled}
+use Rattle.audit_lives.specs.Pairs.{asked, given, replied, named, sent_own, opened_own, sent, executed, settled, opened, ended, cancelled, compacted, compaction_in}
 use Rattle.audit_lives.specs.declared.calls_told.CallsTold.{CallsTold}
 use Rattle.audit_lives.specs.declared.lives_told.LivesTold.{LivesTold}
 use Rattle.audit_lives.specs.declared.streams_told.StreamsTold.{StreamsTold}
@@ -223,5 +226,24 @@ cancels_at k i = refl
 pub has_cancel : (s : StreamsTold) (items : List Item) (k : ℕ) → TellsStreams s items → is_some (from_start (value_at s.none 0) (place_at s.cancelled 0 k)) ≡ has_cancelled k items
 has_cancel s items k t = in_all s.cancelled cancelled s.none items k (t.none 0) t.cancelled ∙ any_same (tells cancelled 0 k) (cancels k) (cancels_at k) items
 
+names_it : (k : ℕ) (stream : ℕ) (message : WatchItem) → is_pair (compaction_in message) 0 k ≡ pushes_cancellation k (item.Pushed stream message)
+names_it k stream (Created h) = refl
+names_it k stream (Events h events) = refl
+names_it k stream (Canceled h compaction) = refl
+
+compacts_at : (k : ℕ) (i : Item) → tells compacted 0 k i ≡ pushes_cancellation k i
+compacts_at k (item.Pushed stream message) = names_it k stream message
+compacts_at k i = refl
+
+pub has_compaction : (s : StreamsTold) (items : List Item) (k : ℕ) → TellsStreams s items → is_some (from_start (value_at s.none 0) (place_at s.compacted 0 k)) ≡ list_any (pushes_cancellation k) items
+has_compaction s items k t = in_all s.compacted compacted s.none items k (t.none 0) t.compacted ∙ any_same (tells compacted 0 k) (pushes_cancellation k) (compacts_at k) items
+
 pub has_message : (s : StreamsTold) (items : List Item) (k : ℕ) → TellsStreams s items → nat_lt (value_at s.delivered k) (value_at s.pushed k) ≡ is_some (next_message k items)
 has_message s items k t = (λ i. nat_lt (t.delivered k i) (t.pushed k i)) ∙ waiting k items
+
+pub has_opener : (s : StreamsTold) (items : List Item) (k : ℕ) → TellsStreams s items → is_some (from_start (value_at s.none 0) (place_at s.opened 0 k)) ≡ is_some (opener_of k items)
+has_opener s items k t =
+    in_all s.opened opened s.none items k (t.none 0) t.opened
+    ∙ any_same (tells opened 0 k) (λ i. is_some (opener_in k i)) (opens k) items
+    ∙ sym (found_any (opener_in k) items)
+    ∙ ap is_some (opener_found k items)

@@ -14,7 +14,7 @@ or_none : {A : Type 0} (o : Option A) → found_or o None ≡ o
 or_none None = refl
 or_none (Some x) = refl
 
-found_more : {A : Type 0} (f : Item → Option A) (items : List Item) (i : Item) → first_found f (items ++ i ∷ []) ≡ found_or (first_found f items) (f i)
+pub found_more : {A : Type 0} (f : Item → Option A) (items : List Item) (i : Item) → first_found f (items ++ i ∷ []) ≡ found_or (first_found f items) (f i)
 found_more f [] i = or_none (f i)
 found_more f (j ∷ items) i = ap (found_or (f j)) (found_more f items i) ∙ grouped (f j)
   where
@@ -26,11 +26,11 @@ sender_more : (k : ℕ) (items : List Item) (i : Item) → sender_of k (items ++
 sender_more k items i =
     sym (sender_found k (items ++ i ∷ [])) ∙ found_more (sender_in k) items i ∙ ap (λ (o : Option ℕ). found_or o (sender_in k i)) (sender_found k items)
 
-none_of : {A : Type 0} (o : Option A) → is_some o ≡ false → o ≡ None
+pub none_of : {A : Type 0} (o : Option A) → is_some o ≡ false → o ≡ None
 none_of None e = refl
 none_of (Some x) e = absurd cc
 
-joined : (s x b : Bool) (o : Option ℕ) (q p : ℕ) → s ≡ is_number o p → x ≡ (q == p) → (b ≡ true → o ≡ None) → s || (x && b) ≡ is_number (found_or o (cond b (Some q) None)) p
+pub joined : (s x b : Bool) (o : Option ℕ) (q p : ℕ) → s ≡ is_number o p → x ≡ (q == p) → (b ≡ true → o ≡ None) → s || (x && b) ≡ is_number (found_or o (cond b (Some q) None)) p
 joined s x true None q p e f n = (λ i. e i || (x && true)) ∙ alone x ∙ f
   where
     alone : (y : Bool) → false || (y && true) ≡ y
@@ -53,7 +53,7 @@ joined s x false (Some m) q p e f n = without s x ∙ e
     without false true = refl
     without false false = refl
 
-told_none : (s : Bool) (o : Option ℕ) (p : ℕ) → s ≡ is_number o p → s || false ≡ is_number (found_or o None) p
+pub told_none : (s : Bool) (o : Option ℕ) (p : ℕ) → s ≡ is_number o p → s || false ≡ is_number (found_or o None) p
 told_none s o p e = or_false s ∙ e ∙ ap (λ (x : Option ℕ). is_number x p) (sym (or_none o))
   where
     or_false : (b : Bool) → b || false ≡ b

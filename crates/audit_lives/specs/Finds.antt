@@ -4,6 +4,7 @@ use Rattle.etcd_types.specs.declared.request.Request.{Request}
 use Rattle.script_text.specs.declared.item.Item.{Item}
 use Rattle.script_text.specs.declared.item.Item.TheVariants as item
 use Rattle.audit_model.specs.Calls.{sender_of}
+use Rattle.audit_model.specs.Streams.{opener_of}
 
 abbrev pub members_in : Item → Option ℕ
 members_in (item.World members namespace leasing) = Some members
@@ -43,7 +44,17 @@ abbrev pub told_by : {A : Type 0} → (Item → Option A) → List Item → Opti
 told_by f items None = None
 told_by f items (Some place) = told_of f (slice_get items place)
 
+-- a stream that was opened before is opened again
+abbrev pub opened_again : List Item → Item → Bool
+opened_again items (item.Opened p stream member q) = is_some (opener_of stream items)
+opened_again items _ = false
+
 -- a call that was sent before is sent again
 abbrev pub sent_again : List Item → Item → Bool
 sent_again items (item.Sent p call member ticket q) = is_some (sender_of call items)
 sent_again items _ = false
+
+-- a call that is sent, with its member
+abbrev pub call_in : Item → Option (ℕ × Request)
+call_in (item.Sent p call member ticket q) = Some (member, q)
+call_in _ = None

@@ -5,11 +5,14 @@ use Rattle.first_places.specs.Places.{is_number, value_at}
 use Rattle.script_text.specs.declared.item.Item.{Item}
 use Rattle.audit_model.specs.Calls.{calls_sent, sender_of}
 use Rattle.audit_model.specs.Order.{has_started}
-use Rattle.audit_model.specs.Streams.{streams_opened}
-use Rattle.world_model.specs.Lives.{clock_of, delivers, life, sent_it}
+use Rattle.audit_model.specs.Streams.{opener_of, streams_opened}
+use Rattle.world_model.specs.Lives.{clock_of, delivers, life, opened_it, sent_it}
 use Rattle.audit_lives.specs.Finds.{pushes_into}
+use Rattle.audit_lives.specs.Keeps.{keeps}
+use Rattle.audit_lives.specs.Messages.{Messages}
+use Rattle.audit_lives.specs.Orders.{Order}
 use Rattle.audit_lives.specs.Sums.{TellsSums}
-use Rattle.audit_lives.specs.Pairs.{asked, given, replied, named, sent_own, opened_own, sent, executed, settled, opened, ended, cancelled}
+use Rattle.audit_lives.specs.Pairs.{asked, given, replied, named, sent_own, opened_own, sent, executed, settled, opened, ended, cancelled, compacted}
 use Rattle.audit_lives.specs.declared.calls_told.CallsTold.{CallsTold}
 use Rattle.audit_lives.specs.declared.index.Index.{Index}
 use Rattle.audit_lives.specs.declared.lives_told.LivesTold.{LivesTold}
@@ -42,6 +45,7 @@ pub record TellsCalls (c : CallsTold) (items : List Item) : Type 0 where
   pub executed : Firsts c.executed executed (value_at c.none) items
   pub settled : Firsts c.settled settled (value_at c.none) items
   pub count : c.count ≡ calls_sent items
+  pub order : Order c.order items
   -- where no number was sent twice, a call has the one sender
   pub single : c.doubled ≡ false → (k p : ℕ) → sent_it p k items ≡ is_number (sender_of k items) p
 
@@ -50,12 +54,17 @@ pub record TellsStreams (s : StreamsTold) (items : List Item) : Type 0 where
   pub opened : Firsts s.opened opened (value_at s.none) items
   pub ended : Firsts s.ended ended (value_at s.none) items
   pub cancelled : Firsts s.cancelled cancelled (value_at s.none) items
+  pub compacted : Firsts s.compacted compacted (value_at s.none) items
   pub count : s.count ≡ streams_opened items
   pub pushed : (stream : ℕ) → value_at s.pushed stream ≡ count_by (pushes_into stream) items
   pub delivered : (stream : ℕ) → value_at s.delivered stream ≡ count_by (delivers stream) items
+  -- where no number was opened twice, a stream has the one opener
+  pub single : s.doubled ≡ false → (k p : ℕ) → opened_it p k items ≡ is_number (opener_of k items) p
+  pub messages : Messages s.messages items
 
 pub record TellsAll (index : Index) (items : List Item) : Type 0 where
   pub count : index.count ≡ length items
+  pub kept : index.kept ≡ keeps items
   pub lives : TellsLives index.lives items
   pub calls : TellsCalls index.calls items
   pub streams : TellsStreams index.streams items

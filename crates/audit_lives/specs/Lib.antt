@@ -1,6 +1,9 @@
 pub mod Finds
 pub mod Given
+pub mod Keeps
+pub mod Orders
 pub mod Pairs
 pub mod Index
+pub mod Messages
 pub mod Sums
 pub mod SumSteps

@@ -1,6 +1,8 @@
 -- The numbers by which an item is looked up later: in the life of a proxy the proxy with a ticket, a call or a stream, and in all items
--- 0 with a call or a stream.
+-- 0 with a call, a stream or a compaction revision.
 use Rattle.std.specs.Prelude.{ℕ, Option, None, Some, if◌then◌else◌}
+use Rattle.etcd_types.specs.declared.watch.WatchItem.{WatchItem}
+use Rattle.etcd_types.specs.declared.watch.WatchItem.TheVariants.{Created, Events, Canceled}
 use Rattle.script_text.specs.declared.item.Item.{Item}
 use Rattle.script_text.specs.declared.item.Item.TheVariants as item
 use Rattle.audit_model.specs.Streams.{is_cancellation}
@@ -63,6 +65,16 @@ ended _ = None
 abbrev pub cancelled : Item → Option (ℕ × ℕ)
 cancelled (item.Pushed stream message) = if is_cancellation message then Some (0, stream) else None
 cancelled _ = None
+
+abbrev pub compaction_in : WatchItem → Option (ℕ × ℕ)
+compaction_in (Created h) = None
+compaction_in (Events h events) = None
+compaction_in (Canceled h compaction) = Some (0, compaction)
+
+-- a cancellation, by the compaction revision that it names
+abbrev pub compacted : Item → Option (ℕ × ℕ)
+compacted (item.Pushed stream message) = compaction_in message
+compacted _ = None
 
 -- ---- by one number
 

@@ -1,15 +1,21 @@
 ghost use Rattle.std.specs.Prelude.{◌≡◌, ◌<◌, ◌||◌, ◌^◌, ◌++◌, ◌∷◌, ◌+◌, [], List as Listed, length, is_some, min, if◌then◌else◌, OnOk};
-ghost use Rattle.std.specs.Option.{option_copied};
+ghost use Rattle.std.specs.Option.{option_copied, option_map};
 ghost use Rattle.audit_lives.specs.Finds.{sent_again};
+ghost use Rattle.audit_lives.specs.Given.{reply_revision};
 ghost use Rattle.audit_lives.specs.Index.{TellsCalls};
+ghost use Rattle.audit_lives.specs.Keeps.{keeps};
+ghost use Rattle.audit_lives.specs.Orders.{places_behind};
+ghost use Rattle.world_model.specs.Answers.{seen, sent_call};
+ghost use Rattle.world_model.specs.Places.{nth};
+ghost use Rattle.world_model.specs.Received.{or_zero};
 ghost use Rattle.script_text.specs.declared.item.Item.{Item as Told};
 ghost use Rattle.audit_model.specs.Calls.{is_settled as has_end, sender_of as first_sender};
 ghost use Rattle.world_model.specs.Lives.{executed_to as first_answer};
 
-use crate::calls::{is_sending, sender_by};
-use crate::given::executed_by;
+use crate::calls::is_sending;
+use crate::kept::{Kept, answer_by, call_by, sender_by};
 use crate::pairs::{executed, sent, settled};
-use etcd_types::{Answer, NoMemory};
+use etcd_types::{List, NoMemory, Request};
 use first_places::{Places, Values};
 use script_text::Item;
 use std::alloc::Global;
@@ -17,6 +23,7 @@ use std::alloc::Global;
 /// Where items tell what is looked up of calls.
 #[derive(Drop)]
 pub(crate) struct CallsTold {
+    alloc: Global,
     /// No start: all items are looked at.
     pub(crate) none: Values,
     pub(crate) sent: Places,
@@ -26,6 +33,8 @@ pub(crate) struct CallsTold {
     pub(crate) count: u64,
     /// Whether a call's number was sent twice.
     pub(crate) doubled: bool,
+    /// Where each call is told, in the order of their numbers, from 1.
+    pub(crate) order: List<u64>,
 }
 
 impl CallsTold {
@@ -34,20 +43,22 @@ impl CallsTold {
         ensures { TellsCalls result [] }
     {
         CallsTold {
+            alloc,
             none: Values::new(alloc),
             sent: Places::new(alloc),
             executed: Places::new(alloc),
             settled: Places::new(alloc),
             count: 0,
             doubled: false,
+            order: List::new(alloc),
         }
     }
 
     /// The proxy that sent the call.
-    pub(crate) fn sender_of(&self, call: u64, items: &[Item]) -> Option<u64>
-        ensures { TellsCalls self.now items.now → result ≡ first_sender call items.now }
+    pub(crate) fn sender_of(&self, call: u64, kept: &[Kept]) -> Option<u64>
+        ensures { (items : Listed Told) → kept.now ≡ keeps items → TellsCalls self.now items → result ≡ first_sender call items }
     {
-        sender_by(call, items, self.sent.first(&self.none, 0, call))
+        sender_by(call, kept, self.sent.first(&self.none, 0, call))
     }
 
     /// Whether the call was executed.
@@ -57,11 +68,28 @@ impl CallsTold {
         self.executed.is_told(&self.none, 0, call)
     }
 
-    /// What the store answered to the call.
-    pub(crate) fn executed_to<'a>(&self, call: u64, items: &'a [Item]) -> Option<&'a Answer>
-        ensures { TellsCalls self.now items.now → option_copied result ≡ first_answer call items.now }
+    /// The revision of the header of what the store answered to the call, or 0.
+    pub(crate) fn answer_revision(&self, call: u64, kept: &[Kept]) -> u64
+        ensures { (items : Listed Told) → kept.now ≡ keeps items → TellsCalls self.now items → result ≡ or_zero (option_map reply_revision (first_answer call items)) }
     {
-        executed_by(call, items, self.executed.first(&self.none, 0, call))
+        or_zero(answer_by(call, kept, self.executed.first(&self.none, 0, call)))
+    }
+
+    /// The member and the request of the call of this number.
+    pub(crate) fn sent_call<'a>(&self, call: u64, kept: &'a [Kept]) -> Option<&'a (u64, Request)>
+        ensures { (items : Listed Told) → kept.now ≡ keeps items → TellsCalls self.now items → option_copied result ≡ sent_call (seen items) call }
+    {
+        call_by(kept, self.place_of(call))
+    }
+
+    /// Where the call of this number is told.
+    fn place_of(&self, call: u64) -> Option<u64>
+        ensures { result ≡ nth self.now.order call }
+    {
+        if call == 0 {
+            return None;
+        }
+        self.order.as_slice().get((call - 1) as usize).copied()
     }
 
     /// Whether the call was answered or lost.
@@ -98,7 +126,32 @@ impl CallsTold {
         self.executed.tell(executed(item), &self.none, place)?;
         self.settled.tell(settled(item), &self.none, place)?;
         self.count = counted(self.count, is_sending(item));
+        put_call(self.alloc, &mut self.order, item, place)?;
         Ok(())
+    }
+}
+
+/// Keeps the place of a call that is sent. A world begins anew.
+fn put_call(alloc: Global, order: &mut List<u64>, item: &Item, place: u64) -> Result<(), NoMemory>
+    ensures { OnOk result (order.new ≡ places_behind order.old place item.now) }
+{
+    match item {
+        Item::World { .. } => {
+            *order = List::new(alloc);
+            Ok(())
+        }
+        Item::Sent { .. } => Ok(order.push(place)?),
+        _ => Ok(()),
+    }
+}
+
+/// The number, or 0 where there is none.
+pub(crate) fn or_zero(number: Option<u64>) -> u64
+    ensures { result ≡ or_zero number }
+{
+    match number {
+        Some(number) => number,
+        None => 0,
     }
 }
 

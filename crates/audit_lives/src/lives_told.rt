@@ -1,13 +1,14 @@
 ghost use Rattle.std.specs.Prelude.{◌≡◌, ◌<◌, ◌^◌, ◌+◌, ◌++◌, ◌∷◌, ℕ, [], List as Listed, length, is_some, if◌then◌else◌, OnOk};
 ghost use Rattle.audit_lives.specs.Index.{TellsLives};
+ghost use Rattle.audit_lives.specs.Keeps.{keeps};
 ghost use Rattle.first_places.specs.Places.{value_at};
 ghost use Rattle.script_text.specs.declared.item.Item.{Item as Told};
 ghost use Rattle.audit_model.specs.Order.{has_started as is_started, is_given_ticket as is_given, is_replied as has_reply};
 ghost use Rattle.std.specs.Option.{option_copied};
 ghost use Rattle.world_model.specs.Lives.{asked_as as first_asked, begins, clock_by, clock_of as last_clock, is_named as has_call, life as last_life, opened_it as has_opened, sent_it as has_sent};
 
+use crate::kept::{Kept, request_by};
 use crate::pairs::{asked, given, named, opened_own, replied, sent_own};
-use crate::tickets::asked_by;
 use etcd_types::{NoMemory, Request};
 use first_places::{Places, Values};
 use script_text::Item;
@@ -71,12 +72,12 @@ impl LivesTold {
         &self,
         proxy: u64,
         ticket: u64,
-        items: &'a [Item],
+        kept: &'a [Kept],
     ) -> Option<&'a Request>
-        ensures { TellsLives self.now items.now → option_copied result ≡ first_asked proxy ticket (last_life proxy items.now) }
+        ensures { (items : Listed Told) → kept.now ≡ keeps items → TellsLives self.now items → option_copied result ≡ first_asked proxy ticket (last_life proxy items) }
     {
         let place = self.asked.first(&self.starts, proxy, ticket);
-        asked_by(proxy, ticket, items, place)
+        request_by(proxy, ticket, kept, place)
     }
 
     /// Whether the ticket was asked or posted.

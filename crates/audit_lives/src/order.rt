@@ -1,10 +1,10 @@
-ghost use Rattle.std.specs.Prelude.{◌≡◌, ◌==◌, ◌+◌};
+ghost use Rattle.std.specs.Prelude.{◌≡◌, ◌==◌, ◌+◌, List as Values};
 ghost use Rattle.audit_lives.specs.Index.{TellsAll};
 ghost use Rattle.audit_model.specs.Order.{about as is_about, fits_behind as is_in_order};
+ghost use Rattle.script_text.specs.declared.item.Item.{Item as Told};
 
 use crate::calls::can_settle;
 use crate::index::Index;
-use crate::lives::is_member;
 use crate::streams::is_open_stream;
 use crate::tickets::{can_reply, is_watch, knows_ticket, knows_watch};
 use script_text::Item;
@@ -48,8 +48,8 @@ fn is_next(number: u64, count: u64) -> bool
 }
 
 /// Whether the item is in order behind these, of which one is the world's. What the store decides isn't looked at.
-pub fn fits_behind(index: &Index, items: &[Item], item: &Item) -> bool
-    ensures { TellsAll index.now items.now → result ≡ is_in_order items.now item.now }
+pub fn fits_behind(index: &Index, item: &Item) -> bool
+    ensures { (items : Values Told) → TellsAll index.now items → result ≡ is_in_order items item.now }
 {
     match item {
         Item::World { .. } => false,
@@ -73,7 +73,7 @@ pub fn fits_behind(index: &Index, items: &[Item], item: &Item) -> bool
         } => {
             index.lives.has_started(*proxy)
                 && is_next(*call, index.calls.count)
-                && is_member(items, *member)
+                && index.has_member(*member)
                 && !is_watch(request)
         }
         Item::Opened {
@@ -84,7 +84,7 @@ pub fn fits_behind(index: &Index, items: &[Item], item: &Item) -> bool
         } => {
             index.lives.has_started(*proxy)
                 && is_next(*stream, index.streams.count)
-                && is_member(items, *member)
+                && index.has_member(*member)
                 && is_watch(request)
         }
         Item::Closed { proxy, stream } => {
@@ -92,19 +92,18 @@ pub fn fits_behind(index: &Index, items: &[Item], item: &Item) -> bool
                 && index.lives.opened_it(*proxy, *stream)
                 && !index.streams.has_ended(*stream)
         }
-        Item::Executed { call, .. } => index.calls.sender_of(*call, items).is_some()
+        Item::Executed { call, .. } => index.sender_of(*call).is_some()
             && !index.calls.is_executed(*call),
-        Item::Answered { call } => can_settle(index, *call, items)
-            && index.calls.is_executed(*call),
-        Item::Lost { call } => can_settle(index, *call, items),
-        Item::Pushed { stream, .. } => is_open_stream(index, *stream, items)
+        Item::Answered { call } => can_settle(index, *call) && index.calls.is_executed(*call),
+        Item::Lost { call } => can_settle(index, *call),
+        Item::Pushed { stream, .. } => is_open_stream(index, *stream)
             && !index.streams.has_cancelled(*stream),
-        Item::Delivered { stream } => is_open_stream(index, *stream, items)
+        Item::Delivered { stream } => is_open_stream(index, *stream)
             && index.streams.has_next(*stream),
-        Item::Cut { stream } => is_open_stream(index, *stream, items)
+        Item::Cut { stream } => is_open_stream(index, *stream)
             && !index.streams.has_cancelled(*stream),
-        Item::Taken { proxy, ticket, .. } => knows_watch(index, *proxy, *ticket, items),
-        Item::Pending { proxy, ticket } => knows_watch(index, *proxy, *ticket, items),
+        Item::Taken { proxy, ticket, .. } => knows_watch(index, *proxy, *ticket),
+        Item::Pending { proxy, ticket } => knows_watch(index, *proxy, *ticket),
         Item::Left { proxy, ticket } => knows_ticket(index, *proxy, *ticket),
         Item::Expired { .. } => true,
         Item::Applied { .. } => true,

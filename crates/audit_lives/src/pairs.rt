@@ -1,9 +1,10 @@
 //! What an item is looked up by later.
 
 ghost use Rattle.std.specs.Prelude.{◌≡◌};
-ghost use Rattle.audit_lives.specs.Pairs.{asked as asks, cancelled as cancels, delivered as delivers, ended as ends, executed as executes, given as gives, named as names, opened as opens, opened_own as opens_own, pushed as pushes, replied as replies, sent as sends, sent_own as sends_own, settled as settles};
+ghost use Rattle.audit_lives.specs.Pairs.{asked as asks, cancelled as cancels, compacted as tells_compaction, compaction_in as names_compaction, delivered as delivers, ended as ends, executed as executes, given as gives, named as names, opened as opens, opened_own as opens_own, pushed as pushes, replied as replies, sent as sends, sent_own as sends_own, settled as settles};
 
 use crate::streams::is_cancellation;
+use etcd_types::WatchItem;
 use script_text::Item;
 
 pub(crate) fn asked(item: &Item) -> Option<(u64, u64)>
@@ -119,6 +120,24 @@ pub(crate) fn cancelled(item: &Item) -> Option<(u64, u64)>
                 None
             }
         }
+        _ => None,
+    }
+}
+
+fn compaction_in(message: &WatchItem) -> Option<(u64, u64)>
+    ensures { result ≡ names_compaction message.now }
+{
+    match message {
+        WatchItem::Canceled { compact, .. } => Some((0, *compact)),
+        _ => None,
+    }
+}
+
+pub(crate) fn compacted(item: &Item) -> Option<(u64, u64)>
+    ensures { result ≡ tells_compaction item.now }
+{
+    match item {
+        Item::Pushed { item, .. } => compaction_in(item),
         _ => None,
     }
 }

@@ -1,6 +1,7 @@
 ghost use Rattle.std.specs.Prelude.{◌≡◌, ◌<◌, ◌^◌, ◌-◌, ◌+◌, ◌++◌, ◌∷◌, ◌&&◌, ℕ, [], not, List as Listed, None, Some, length, if◌then◌else◌, IfOk, OnOk};
 ghost use Rattle.std.specs.Option.{option_copied};
 ghost use Rattle.audit_lives.specs.Index.{TellsLives};
+ghost use Rattle.audit_lives.specs.Keeps.{keeps};
 ghost use Rattle.audit_lives.specs.Sums.{TellsSums, unsent_now as is_unsent_now};
 ghost use Rattle.audit_lives.specs.SumSteps.{Closes, Opens};
 ghost use Rattle.audit_model.specs.Summaries.{asks_watch as is_asking, is_read_of as is_a_read};
@@ -8,6 +9,7 @@ ghost use Rattle.first_places.specs.Places.{value_at};
 ghost use Rattle.script_text.specs.declared.item.Item.{Item as Told};
 ghost use Rattle.world_model.specs.Lives.{asked_as as first_asked, begins, is_named as has_call, life as last_life};
 
+use crate::kept::Kept;
 use crate::lives_told::LivesTold;
 use crate::pairs::named;
 use crate::tickets::is_watch;
@@ -46,16 +48,16 @@ impl Sums {
     pub(crate) fn follow(
         &mut self,
         lives: &LivesTold,
-        items: &[Item],
+        kept: &[Kept],
         item: &Item,
         place: u64,
     ) -> Result<(), NoMemory>
-        ensures { OnOk result (place ≡ length items.now → TellsLives lives.now items.now → TellsSums self.old (value_at lives.now.starts) items.now
+        ensures { OnOk result ((items : Listed Told) → kept.now ≡ keeps items → place ≡ length items → TellsLives lives.now items → TellsSums self.old (value_at lives.now.starts) items
             → (next : ℕ → ℕ) → ((p : ℕ) → next p ≡ (if begins p item.now then place + 1 else value_at lives.now.starts p))
-            → TellsSums self.new next (items.now ++ item.now ∷ [])) }
+            → TellsSums self.new next (items ++ item.now ∷ [])) }
     {
         self.take_named(&lives.starts, named(item), place)?;
-        let unsent = unsent_now(lives, items, item);
+        let unsent = unsent_now(lives, kept, item);
         self.take_unsent(&lives.starts, unsent, place)?;
         self.watches = counted(self.watches, asks_watch(item))?;
         Ok(())
@@ -161,10 +163,11 @@ fn is_read_of(request: Option<&Request>) -> bool
 }
 
 /// Whether a read was asked under the ticket, and no call of its life names it so far.
-fn is_unsent(lives: &LivesTold, items: &[Item], proxy: u64, ticket: u64) -> bool
-    ensures { TellsLives lives.now items.now → result ≡ (is_a_read (first_asked proxy ticket (last_life proxy items.now)) && not (has_call proxy ticket (last_life proxy items.now))) }
+fn is_unsent(lives: &LivesTold, kept: &[Kept], proxy: u64, ticket: u64) -> bool
+    ensures { (items : Listed Told) → kept.now ≡ keeps items → TellsLives lives.now items
+        → result ≡ (is_a_read (first_asked proxy ticket (last_life proxy items)) && not (has_call proxy ticket (last_life proxy items))) }
 {
-    is_read_of(lives.asked_as(proxy, ticket, items)) && !lives.is_named(proxy, ticket)
+    is_read_of(lives.asked_as(proxy, ticket, kept)) && !lives.is_named(proxy, ticket)
 }
 
 fn ticket_if(is_one: bool, proxy: u64, ticket: u64) -> Option<(u64, u64)>
@@ -174,8 +177,8 @@ fn ticket_if(is_one: bool, proxy: u64, ticket: u64) -> Option<(u64, u64)>
 }
 
 /// The ticket of an ok reply to a read that no call of its life names so far.
-fn unsent_now(lives: &LivesTold, items: &[Item], item: &Item) -> Option<(u64, u64)>
-    ensures { TellsLives lives.now items.now → result ≡ is_unsent_now items.now item.now }
+fn unsent_now(lives: &LivesTold, kept: &[Kept], item: &Item) -> Option<(u64, u64)>
+    ensures { (items : Listed Told) → kept.now ≡ keeps items → TellsLives lives.now items → result ≡ is_unsent_now items item.now }
 {
     match item {
         Item::Reply {
@@ -183,7 +186,7 @@ fn unsent_now(lives: &LivesTold, items: &[Item], item: &Item) -> Option<(u64, u6
             ticket,
             answer,
         } => match answer {
-            Answer::Done(_) => ticket_if(is_unsent(lives, items, *proxy, *ticket), *proxy, *ticket),
+            Answer::Done(_) => ticket_if(is_unsent(lives, kept, *proxy, *ticket), *proxy, *ticket),
             Answer::Refused(_) => None,
         },
         _ => None,

@@ -8,7 +8,7 @@ use Rattle.etcd_types.proofs.Bools.{and_both}
 use Rattle.script_text.specs.declared.item.Item.{Item}
 use Rattle.script_text.specs.declared.item.Item.TheVariants as item
 use Rattle.watch_model.specs.Queues.{is_nil}
-use Rattle.world_model.specs.Answers.{Seen, seen, saw, saw_all}
+use Rattle.world_model.specs.Answers.{Seen, seen, saw}
 use Rattle.audit_model.specs.declared.fault.AuditFault.{AuditFault}
 use Rattle.audit_model.specs.declared.fault.AuditFault.TheVariants as fault
 use Rattle.audit_model.specs.Answers.{answers_so, pushes_so}
@@ -16,6 +16,7 @@ use Rattle.audit_model.specs.Broken.{breaks_clients, breaks_store, broken, first
 use Rattle.audit_model.specs.Order.{about, fits_behind, is_first, in_order, store_takes}
 use Rattle.audit_clients.specs.declared.given.Given.{Given}
 use Rattle.audit_clients.specs.Given.{Gave}
+use Rattle.audit_clients.proofs.StoreGrows.{seen_next}
 use Rattle.audit_text.specs.declared.made.Made.{Made}
 use Rattle.audit_text.specs.Standing.{IsFaultOf, MadeBy, Makes, MakesAll, Refuses}
 
@@ -68,13 +69,6 @@ refused_message before i f n fits t a r = named f (fault.Push (about i)) (pushes
 
 -- ---- one item more
 
-saw_more : (s : Seen) (before : List Item) (i : Item) → saw_all s (before ++ i ∷ []) ≡ saw (saw_all s before) i
-saw_more s [] i = refl
-saw_more s (j ∷ before) i = saw_more (saw s j) before i
-
-pub seen_next : (before : List Item) (i : Item) → seen (before ++ i ∷ []) ≡ saw (seen before) i
-seen_next before i = saw_more _ before i
-
 pub some_next : (before : List Item) (i : Item) → is_nil (before ++ i ∷ []) ≡ false
 some_next [] i = refl
 some_next (j ∷ before) i = refl
@@ -92,28 +86,23 @@ fault_as before i j f e fits h =
 pub makes_as : (made : Made) (s : Seen) (i j : Item) → i ≡ j → Makes made (saw s j) → Makes made (saw s i)
 makes_as made s i j e m = subst (λ (x : Item). Makes made (saw s x)) (sym e) m
 
-pub sent_makes : (made new : Made) (s : Seen) (p call member ticket : ℕ) (q : Request) → new ≡ record made { calls = made.calls ++ (member, q) ∷ [] } → Makes made s → Makes new (saw s (item.Sent p call member ticket q))
-sent_makes made new s p call member ticket q e m =
-    subst (λ (y : Made). Makes y (saw s (item.Sent p call member ticket q))) (sym e)
-    (record { store = m.store; calls = ap (λ (xs : List (ℕ × Request)). xs ++ (member, q) ∷ []) m.calls })
-
 -- of no other kind is anything looked at
 pub others : (before : List Item) (i : Item) (made : Made)
-    → ((p call member ticket : ℕ) (q : Request) → i ≡ item.Sent p call member ticket q → ⊥)
     → ((p stream member : ℕ) (q : Request) → i ≡ item.Opened p stream member q → ⊥)
     → ((call : ℕ) (answer : Answer) → i ≡ item.Executed call answer → ⊥)
     → ((stream : ℕ) (message : WatchItem) → i ≡ item.Pushed stream message → ⊥)
     → ((lease : ℕ) → i ≡ item.Expired lease → ⊥)
     → ((member revision : ℕ) → i ≡ item.Applied member revision → ⊥)
     → MakesAll made before → fits_behind before i ≡ true → (breaks_store before i ≡ None) × Makes made (saw (seen before) i)
-others before (item.Sent p call member ticket q) made s o x u e a m f = absurd (s p call member ticket q refl)
-others before (item.Opened p stream member q) made s o x u e a m f = absurd (o p stream member q refl)
-others before (item.Executed call answer) made s o x u e a m f = absurd (x call answer refl)
-others before (item.Pushed stream message) made s o x u e a m f = absurd (u stream message refl)
-others before (item.Expired lease) made s o x u e a m f = absurd (e lease refl)
-others before (item.Applied member revision) made s o x u e a m f = absurd (a member revision refl)
-others before (item.World members namespace leasing) made s o x u e a m f = absurd (cc)
-others before i made s o x u e a m f = (keeps_all before i m.some f refl refl refl, m.seen)
+others before (item.Sent p call member ticket q) made o x u e a m f =
+    (keeps_all before (item.Sent p call member ticket q) m.some f refl refl refl, record { store = m.seen.store })
+others before (item.Opened p stream member q) made o x u e a m f = absurd (o p stream member q refl)
+others before (item.Executed call answer) made o x u e a m f = absurd (x call answer refl)
+others before (item.Pushed stream message) made o x u e a m f = absurd (u stream message refl)
+others before (item.Expired lease) made o x u e a m f = absurd (e lease refl)
+others before (item.Applied member revision) made o x u e a m f = absurd (a member revision refl)
+others before (item.World members namespace leasing) made o x u e a m f = absurd (cc)
+others before i made o x u e a m f = (keeps_all before i m.some f refl refl refl, m.seen)
 
 -- ---- a first item
 
@@ -130,22 +119,16 @@ first_kept members namespace leasing some few =
 
 -- ---- the audit behind one item more
 
-pub followed : (items before : List Item) (i : Item) (old new : Made) (o : Option Made) → items ≡ before → o ≡ Some old → MadeBy o before
-    → (g : Given) → Gave g before → (MakesAll old items → Gave g items → (broken items i ≡ None) × Makes new (saw (seen items) i)) → (broken before i ≡ None) × MadeBy (Some new) (before ++ i ∷ [])
-followed items before i old new o same is made g gave t =
+pub followed : (before : List Item) (i : Item) (old new : Made) (o : Option Made) → o ≡ Some old → MadeBy o before → (g : Given) → Gave g before
+    → (MakesAll old before → Gave g before → (broken before i ≡ None) × Makes new (saw (seen before) i)) → (broken before i ≡ None) × MadeBy (Some new) (before ++ i ∷ [])
+followed before i old new o is made g gave step =
     let all : MakesAll old before = subst (λ (x : Option Made). MadeBy x before) is made in
-    let step : MakesAll old before → Gave g before → (broken before i ≡ None) × Makes new (saw (seen before) i) =
-    subst (λ (xs : List Item). MakesAll old xs → Gave g xs → (broken xs i ≡ None) × Makes new (saw (seen xs) i)) same t in
     let x = step all gave in
     (x.0, record { some = some_next before i; seen = subst (λ (s : Seen). Makes new s) (sym (seen_next before i)) x.1 })
 
-pub refused_so : (items before : List Item) (i : Item) (old : Made) (o : Option Made) (f : AuditFault) → items ≡ before → o ≡ Some old → MadeBy o before
-    → (g : Given) → Gave g before → (MakesAll old items → Gave g items → IsFaultOf f (broken items i)) → IsFaultOf f (broken before i)
-refused_so items before i old o f same is made g gave r =
-    let all : MakesAll old before = subst (λ (x : Option Made). MadeBy x before) is made in
-    let step : MakesAll old before → Gave g before → IsFaultOf f (broken before i) =
-    subst (λ (xs : List Item). MakesAll old xs → Gave g xs → IsFaultOf f (broken xs i)) same r in
-    step all gave
+pub refused_so : (before : List Item) (i : Item) (old : Made) (o : Option Made) (f : AuditFault) → o ≡ Some old → MadeBy o before → (g : Given) → Gave g before
+    → (MakesAll old before → Gave g before → IsFaultOf f (broken before i)) → IsFaultOf f (broken before i)
+refused_so before i old o f is made g gave r = r (subst (λ (x : Option Made). MadeBy x before) is made) gave
 
 -- behind none
 abbrev begins_with : Option Made → List Item → Item → Type 0

@@ -12,14 +12,12 @@ use Rattle.store_model.specs.State.{State}
 use Rattle.store_model.specs.Watches.{Pushed}
 use Rattle.store_model.specs.Step.{exec}
 use Rattle.world_model.specs.Answers.{Seen, after_call, answer_to, sent_call}
-use Rattle.world_model.specs.Places.{nth}
 use Rattle.audit_text.specs.Stored.{Answers, Comes, Steps}
 
--- the call of this number, from the list that is kept
-pub executed_as : (s : Seen) (number : ℕ) (new : Store) (due : Option Answer) (entry : Option (ℕ × Request)) (slice calls : List (ℕ × Request)) → entry ≡ nth slice number → slice ≡ calls → calls ≡ s.calls → Answers s.store entry new due
+-- the call of this number, as it was sent
+pub executed_as : (s : Seen) (number : ℕ) (new : Store) (due : Option Answer) (entry : Option (ℕ × Request)) → entry ≡ sent_call s number → Answers s.store entry new due
     → (due ≡ answer_to s number) × Stands new (after_call s.store (sent_call s number))
-executed_as s number new due entry slice calls found same kept a =
-    let call : entry ≡ sent_call s number = found ∙ ap (λ (xs : List (ℕ × Request)). nth xs number) (same ∙ kept) in
+executed_as s number new due entry call a =
     (a.answered ∙ ap (λ (o : Option (ℕ × Request)). option_map (λ k. (exec s.store k.0 k.1).1) o) call, subst (λ (o : Option (ℕ × Request)). Stands new (after_call s.store o)) call a.state)
 
 -- a step that is taken, and a message that comes

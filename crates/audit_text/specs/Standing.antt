@@ -11,10 +11,9 @@ use Rattle.audit_model.specs.declared.fault.AuditFault.TheVariants as fault
 use Rattle.audit_text.specs.declared.audit.Audit.{Audit}
 use Rattle.audit_text.specs.declared.made.Made.{Made}
 
--- the store, and the calls that were sent, are those that the items tell
+-- the store is the one that the items make
 pub record Makes (made : Made) (s : Seen) : Type 0 where
   pub store : StoreStands made.store s.store
-  pub calls : made.calls ≡ s.calls
 
 pub record MakesAll (made : Made) (items : List Item) : Type 0 where
   pub some : is_nil items ≡ false
@@ -27,7 +26,6 @@ MadeBy (Some made) items = MakesAll made items
 
 -- the audit has taken these items, and none of them broke a rule
 pub record Stands (audit : Audit) (items : List Item) : Type 0 where
-  pub kept : audit.items ≡ items
   pub made : MadeBy audit.made items
   pub gave : Gave audit.given items
   pub whole : audit.fault ≡ None
@@ -35,7 +33,6 @@ pub record Stands (audit : Audit) (items : List Item) : Type 0 where
 
 -- it has taken these, and the item behind them had this fault
 pub record Fails (audit : Audit) (items : List Item) (f : AuditFault) : Type 0 where
-  pub kept : audit.items ≡ items
   pub fault : audit.fault ≡ Some f
   pub report : audit.report ≡ summary items
 

@@ -1,6 +1,8 @@
-ghost use Rattle.std.specs.Prelude.{◌≡◌, ◌++◌, ◌∷◌, [], List as Values, length, None, Some, Err, OnOk, OnErr, IfOk, IfErr};
+ghost use Rattle.std.specs.Prelude.{◌≡◌, ◌++◌, ◌∷◌, [], List as Values, length, true, None, Some, Err, OnOk, IfOk, IfErr};
 ghost use Rattle.audit_clients.specs.Given.{Gave};
 ghost use Rattle.audit_model.specs.Broken.{broken};
+ghost use Rattle.audit_model.specs.Order.{in_order};
+ghost use Rattle.audit_model.specs.Takes.{takes_so};
 ghost use Rattle.audit_model.specs.Summaries.{summary as summary_of};
 ghost use Rattle.audit_model.specs.declared.fault.AuditFault.{AuditFault as Fault};
 ghost use Rattle.audit_model.specs.declared.fault.AuditFault.TheVariants.{NoMemory as no_memory};
@@ -11,7 +13,6 @@ use crate::made::Made;
 use audit_clients::Given;
 use audit_lives::about;
 use audit_model::{AuditFault, Summary};
-use etcd_types::{List, NoMemory};
 use script_text::Item;
 use std::alloc::Global;
 
@@ -19,7 +20,6 @@ use std::alloc::Global;
 #[derive(Drop)]
 pub struct Audit {
     alloc: Global,
-    items: List<Item>,
     made: Option<Made>,
     given: Given,
     /// The fault that ended it.
@@ -35,7 +35,6 @@ impl Audit {
     {
         Audit {
             alloc,
-            items: List::new(alloc),
             made: None,
             given: Given::new(alloc),
             fault: None,
@@ -52,7 +51,7 @@ impl Audit {
         ensures stands { (before : Values Told) → Stands self.now before → result ≡ length before }
         ensures fails { (before : Values Told) (f : Fault) → Fails self.now before f → result ≡ length before }
     {
-        self.items.len() as u64
+        self.report.items
     }
 
     /// Takes the next item, or says which rule it breaks: it isn't in order; its answer or its message isn't the store's; it is a reply
@@ -85,7 +84,6 @@ impl Audit {
 
     /// Looks at the next item, which isn't kept yet.
     fn follow(&mut self, item: &Item) -> Result<(), AuditFault>
-        ensures items { self.new.items ≡ self.old.items }
         ensures given { self.new.given ≡ self.old.given }
         ensures whole { self.new.fault ≡ self.old.fault }
         ensures report { self.new.report ≡ self.old.report }
@@ -93,14 +91,13 @@ impl Audit {
         ensures fault { IfErr result (λ f. (before : Values Told) → Stands self.old before → IsFaultOf f (broken before item.now)) }
     {
         match &mut self.made {
-            Some(made) => made.follow(self.items.as_slice(), item, &self.given),
+            Some(made) => made.follow(item, &self.given),
             None => self.begin(item),
         }
     }
 
     /// Looks at the first item.
     fn begin(&mut self, item: &Item) -> Result<(), AuditFault>
-        ensures items { self.new.items ≡ self.old.items }
         ensures given { self.new.given ≡ self.old.given }
         ensures whole { self.new.fault ≡ self.old.fault }
         ensures report { self.new.report ≡ self.old.report }
@@ -116,31 +113,21 @@ impl Audit {
         }
     }
 
-    /// Keeps the item that it has looked at. Where memory was wanting that ends it.
+    /// Keeps what the item gives, which it has looked at. Where memory was wanting that ends it.
     fn keep(&mut self, item: Item) -> Result<(), AuditFault>
-        ensures ok { OnOk result ((self.new.items ≡ self.old.items ++ item ∷ []) × (self.new.made ≡ self.old.made) × (self.new.fault ≡ self.old.fault) × (Gave self.old.given self.old.items → Gave self.new.given (self.old.items ++ item ∷ []) × (self.new.report ≡ summary_of (self.old.items ++ item ∷ [])))) }
-        ensures err { IfErr result (λ f. (f ≡ no_memory) × (self.new.items ≡ self.old.items) × (self.new.fault ≡ Some f) × (self.new.report ≡ self.old.report)) }
+        ensures ok { OnOk result ((self.new.made ≡ self.old.made) × (self.new.fault ≡ self.old.fault) × ((items : Values Told) → in_order items item ≡ true → takes_so items item ≡ true → Gave self.old.given items → Gave self.new.given (items ++ item ∷ []) × (self.new.report ≡ summary_of (items ++ item ∷ [])))) }
+        ensures err { IfErr result (λ f. (f ≡ no_memory) × (self.new.fault ≡ Some f) × (self.new.report ≡ self.old.report)) }
     {
-        match self.hold(item) {
-            Ok(()) => Ok(()),
+        match self.given.take(item) {
+            Ok(()) => {
+                self.report = self.given.summary();
+                Ok(())
+            }
             Err(_) => {
                 self.fault = Some(AuditFault::NoMemory);
                 Err(AuditFault::NoMemory)
             }
         }
-    }
-
-    /// What the item gives is kept, and the item.
-    fn hold(&mut self, item: Item) -> Result<(), NoMemory>
-        ensures made { self.new.made ≡ self.old.made }
-        ensures fault { self.new.fault ≡ self.old.fault }
-        ensures ok { OnOk result ((self.new.items ≡ self.old.items ++ item ∷ []) × (Gave self.old.given self.old.items → Gave self.new.given (self.old.items ++ item ∷ []) × (self.new.report ≡ summary_of (self.old.items ++ item ∷ [])))) }
-        ensures err { OnErr result ((self.new.items ≡ self.old.items) × (self.new.report ≡ self.old.report)) }
-    {
-        self.given.take(self.alloc, self.items.as_slice(), &item)?;
-        self.items.push(item)?;
-        self.report = self.given.summary();
-        Ok(())
     }
 }
 

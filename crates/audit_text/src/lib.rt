@@ -1,5 +1,5 @@
-//! The audit of a transcript, item by item: whether each keeps the rules behind those before it. It keeps the items, with an
-//! index of them, and looks them through for what watches take and streams deliver.
+//! The audit of a transcript, item by item: whether each keeps the rules behind those before it. It keeps an index of them, and of
+//! the items themselves no more than is looked up later.
 #![tactic(auto)]
 
 mod audit;

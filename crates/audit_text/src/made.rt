@@ -20,17 +20,15 @@ use audit_clients::{Given, replies_so, takes_so, too_early};
 use audit_lives::{about, fits_behind};
 use audit_model::AuditFault;
 use audit_store::Store;
-use etcd_types::{Answer, List, NoMemory, Request, WatchItem};
-use replay_parts::nth;
+use etcd_types::{Answer, NoMemory, Request, WatchItem};
 use script_text::Item;
 use std::alloc::Global;
 
-/// What the items of a transcript make: the store, and the calls that were sent, each with its member.
+/// What the items of a transcript make: the store.
 #[derive(Drop)]
 pub(crate) struct Made {
     pub alloc: Global,
     pub store: Store,
-    pub calls: List<(u64, Request)>,
 }
 
 impl Made {
@@ -42,41 +40,35 @@ impl Made {
         Ok(Made {
             alloc,
             store: Store::new(alloc, members as u32)?,
-            calls: List::new(alloc),
         })
     }
 
     /// Takes the next item, or says which rule it breaks.
-    pub fn follow(&mut self, items: &[Item], item: &Item, given: &Given) -> Result<(), AuditFault>
-        ensures taken { OnOk result (MakesAll self.old items.now → Gave given.now items.now → (broken items.now item.now ≡ None) × Makes self.new (saw (seen items.now) item.now)) }
-        ensures fault { IfErr result (λ f. MakesAll self.old items.now → Gave given.now items.now → IsFaultOf f (broken items.now item.now)) }
+    pub fn follow(&mut self, item: &Item, given: &Given) -> Result<(), AuditFault>
+        ensures taken { OnOk result ((items : Values Told) → MakesAll self.old items → Gave given.now items → (broken items item.now ≡ None) × Makes self.new (saw (seen items) item.now)) }
+        ensures fault { IfErr result (λ f. (items : Values Told) → MakesAll self.old items → Gave given.now items → IsFaultOf f (broken items item.now)) }
     {
-        match self.step(items, item, given) {
-            Ok(()) => self.give(items, item, given),
+        match self.step(item, given) {
+            Ok(()) => self.give(item, given),
             Err(fault) => Err(fault),
         }
     }
 
     /// The item is in order, and its answer or its message is the store's.
-    fn step(&mut self, items: &[Item], item: &Item, given: &Given) -> Result<(), AuditFault>
-        ensures taken { OnOk result (MakesAll self.old items.now → Gave given.now items.now → (breaks_store items.now item.now ≡ None) × Makes self.new (saw (seen items.now) item.now)) }
-        ensures fault { IfErr result (λ f. MakesAll self.old items.now → Gave given.now items.now → IsFaultOf f (breaks_store items.now item.now)) }
+    fn step(&mut self, item: &Item, given: &Given) -> Result<(), AuditFault>
+        ensures taken { OnOk result ((items : Values Told) → MakesAll self.old items → Gave given.now items → (breaks_store items item.now ≡ None) × Makes self.new (saw (seen items) item.now)) }
+        ensures fault { IfErr result (λ f. (items : Values Told) → MakesAll self.old items → Gave given.now items → IsFaultOf f (breaks_store items item.now)) }
     {
-        if !is_in_order(given, items, item) {
+        if !is_in_order(given, item) {
             return Err(AuditFault::Order(about(item)));
         }
         match item {
-            Item::Sent {
-                member,
-                request,
-                ..
-            } => Ok(self.send(*member, request)?),
             Item::Opened {
                 member,
                 request,
                 ..
             } => Ok(self.open(*member, request)?),
-            Item::Executed { call, answer } => self.execute(*call, answer),
+            Item::Executed { call, answer } => self.execute(given, *call, answer),
             Item::Pushed { stream, item } => self.push(*stream, item),
             Item::Expired { lease } => self.expire(*lease),
             Item::Applied { member, revision } => self.apply(*member, *revision),
@@ -85,21 +77,21 @@ impl Made {
     }
 
     /// What the item gives to a client is true, and no session expires too early by it.
-    fn give(&mut self, items: &[Item], item: &Item, given: &Given) -> Result<(), AuditFault>
-        ensures taken { OnOk result (Makes self.old (saw (seen items.now) item.now) → Gave given.now items.now → (breaks_clients items.now item.now ≡ None) × Makes self.new (saw (seen items.now) item.now)) }
-        ensures fault { IfErr result (λ f. Makes self.old (saw (seen items.now) item.now) → Gave given.now items.now → IsFaultOf f (breaks_clients items.now item.now)) }
+    fn give(&mut self, item: &Item, given: &Given) -> Result<(), AuditFault>
+        ensures taken { OnOk result ((items : Values Told) → Makes self.old (saw (seen items) item.now) → Gave given.now items → (breaks_clients items item.now ≡ None) × Makes self.new (saw (seen items) item.now)) }
+        ensures fault { IfErr result (λ f. (items : Values Told) → Makes self.old (saw (seen items) item.now) → Gave given.now items → IsFaultOf f (breaks_clients items item.now)) }
     {
         match item {
             Item::Reply {
                 proxy,
                 ticket,
                 answer,
-            } => self.reply(items, given, *proxy, *ticket, answer),
+            } => self.reply(given, *proxy, *ticket, answer),
             Item::Taken {
                 proxy,
                 ticket,
                 item,
-            } => self.take(items, *proxy, *ticket, item),
+            } => self.take(given, *proxy, *ticket, item),
             Item::Expired { lease } => end(given, *lease),
             _ => Ok(()),
         }
@@ -108,24 +100,15 @@ impl Made {
     /// A ticket is replied.
     fn reply(
         &mut self,
-        items: &[Item],
         given: &Given,
         proxy: u64,
         ticket: u64,
         answer: &Answer,
     ) -> Result<(), AuditFault>
-        ensures taken { OnOk result (Makes self.old (seen items.now) → Gave given.now items.now → (reply_is_so items.now (item.Reply proxy ticket answer.now) ≡ true) × Makes self.new (seen items.now)) }
-        ensures fault { IfErr result (λ f. Makes self.old (seen items.now) → Gave given.now items.now → Refuses f (fault.Unsent ticket) (reply_is_so items.now (item.Reply proxy ticket answer.now))) }
+        ensures taken { OnOk result ((items : Values Told) → Makes self.old (seen items) → Gave given.now items → (reply_is_so items (item.Reply proxy ticket answer.now) ≡ true) × Makes self.new (seen items)) }
+        ensures fault { IfErr result (λ f. (items : Values Told) → Makes self.old (seen items) → Gave given.now items → Refuses f (fault.Unsent ticket) (reply_is_so items (item.Reply proxy ticket answer.now))) }
     {
-        if replies_so(
-            self.alloc,
-            &mut self.store,
-            given,
-            items,
-            proxy,
-            ticket,
-            answer,
-        )? {
+        if replies_so(self.alloc, &mut self.store, given, proxy, ticket, answer)? {
             Ok(())
         } else {
             Err(AuditFault::Unsent(ticket))
@@ -135,39 +118,27 @@ impl Made {
     /// A watch takes a message.
     fn take(
         &mut self,
-        items: &[Item],
+        given: &Given,
         proxy: u64,
         ticket: u64,
         message: &WatchItem,
     ) -> Result<(), AuditFault>
-        ensures taken { OnOk result (Makes self.old (seen items.now) → (take_is_so items.now (item.Taken proxy ticket message.now) ≡ true) × Makes self.new (seen items.now)) }
-        ensures fault { IfErr result (λ f. Makes self.old (seen items.now) → Refuses f (fault.Watch ticket) (take_is_so items.now (item.Taken proxy ticket message.now))) }
+        ensures taken { OnOk result ((items : Values Told) → Makes self.old (seen items) → Gave given.now items → (take_is_so items (item.Taken proxy ticket message.now) ≡ true) × Makes self.new (seen items)) }
+        ensures fault { IfErr result (λ f. (items : Values Told) → Makes self.old (seen items) → Gave given.now items → Refuses f (fault.Watch ticket) (take_is_so items (item.Taken proxy ticket message.now))) }
     {
-        if takes_so(self.alloc, &self.store, items, proxy, ticket, message)? {
+        if takes_so(self.alloc, &self.store, given, proxy, ticket, message)? {
             Ok(())
         } else {
             Err(AuditFault::Watch(ticket))
         }
     }
 
-    fn send(&mut self, member: u64, request: &Request) -> Result<(), NoMemory>
-        ensures { OnOk result (self.new ≡ record self.old { calls = self.old.calls ++ (member, request.now) ∷ [] }) }
-    {
-        let request = request.copy(self.alloc)?;
-        self.calls.push((member, request))?;
-        Ok(())
-    }
-
     /// The call is executed, and its answer is this one.
-    fn execute(&mut self, call: u64, told: &Answer) -> Result<(), AuditFault>
-        ensures taken { OnOk result ((s : Seen) → Makes self.old s → (is_answer_due told.now (answer_to s call) ≡ true) × Makes self.new (saw s (item.Executed call told.now))) }
-        ensures fault { IfErr result (λ f. (s : Seen) → Makes self.old s → Refuses f (fault.Answer call) (is_answer_due told.now (answer_to s call))) }
+    fn execute(&mut self, given: &Given, call: u64, told: &Answer) -> Result<(), AuditFault>
+        ensures taken { OnOk result ((items : Values Told) → Makes self.old (seen items) → Gave given.now items → (is_answer_due told.now (answer_to (seen items) call) ≡ true) × Makes self.new (saw (seen items) (item.Executed call told.now))) }
+        ensures fault { IfErr result (λ f. (items : Values Told) → Makes self.old (seen items) → Gave given.now items → Refuses f (fault.Answer call) (is_answer_due told.now (answer_to (seen items) call))) }
     {
-        let due = answer_of(
-            self.alloc,
-            &mut self.store,
-            nth(self.calls.as_slice(), call),
-        )?;
+        let due = answer_of(self.alloc, &mut self.store, given.index().sent_call(call))?;
         if is_due_answer(told, &due) {
             Ok(())
         } else {
@@ -222,10 +193,10 @@ impl Made {
 }
 
 /// Whether the item is in order behind these.
-fn is_in_order(given: &Given, items: &[Item], item: &Item) -> bool
-    ensures { Gave given.now items.now → result ≡ fits_so items.now item.now }
+fn is_in_order(given: &Given, item: &Item) -> bool
+    ensures { (items : Values Told) → Gave given.now items → result ≡ fits_so items item.now }
 {
-    fits_behind(given.index(), items, item)
+    fits_behind(given.index(), item)
 }
 
 /// A lease ends that expired.

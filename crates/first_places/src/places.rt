@@ -33,7 +33,7 @@ impl Places {
     }
 
     /// The place that is kept for the pair.
-    fn of(&self, whose: u64, number: u64) -> Option<u64>
+    pub fn of(&self, whose: u64, number: u64) -> Option<u64>
         ensures { result ≡ place_at self.now whose number }
     {
         match self.map.get(&(whose, number)) {
@@ -60,7 +60,8 @@ impl Places {
         self.first(starts, whose, number).is_some()
     }
 
-    fn put(&mut self, whose: u64, number: u64, place: u64) -> Result<(), NoMemory>
+    /// Keeps the place for the pair.
+    pub fn put(&mut self, whose: u64, number: u64, place: u64) -> Result<(), NoMemory>
         ensures { OnOk result ((a b : ℕ) → place_at self.new a b ≡ (if is_pair (Some (whose, number)) a b then Some place else place_at self.old a b)) }
     {
         self.map.insert((whose, number), place)?;

@@ -1,9 +1,8 @@
 -- What is left tells the same number.
 use Rattle.std.proofs.Common.{◌≡◌, drop}
-use Rattle.audit_model.specs.Order.{members_of}
-use Rattle.audit_lives.specs.Finds.{members_in}
-use Rattle.audit_lives.proofs.Found.{count_or, first_found}
+use Rattle.std.specs.Option.{unwrap_or}
+use Rattle.audit_lives.specs.Keeps.{first_kept, members_in}
 use Rattle.audit_lives.proofs.lives.members_of.Given as goal
 
-abbrev pub invariant-loop-item : goal.invariant-loop-item
-invariant-loop-item l = count_or (first_found members_in (drop l.item-index l.items)) 0 ≡ members_of l.items
+abbrev pub invariant-loop-one : goal.invariant-loop-one
+invariant-loop-one l = unwrap_or (first_kept members_in (drop l.one-index l.kept)) 0 ≡ unwrap_or (first_kept members_in l.kept) 0

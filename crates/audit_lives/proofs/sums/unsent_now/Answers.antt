@@ -6,7 +6,7 @@ use Rattle.audit_lives.specs.Sums.{unsent_now}
 use Rattle.audit_lives.proofs.sums.unsent_now.Goals as goal
 
 pub returns-in-Done : goal.returns-in-Done
-returns-in-Done c = λ t.
+returns-in-Done c = λ items k t.
     c.ticket_if.ensures
-    ∙ ap (λ (b : Bool). cond b (Some (c.in-Reply.proxy, c.in-Reply.ticket)) None) (c.is_unsent.ensures t)
-    ∙ sym (ap (unsent_now c.args.items.now) (c.in-Reply.is ∙ ap (λ (a : Answer). item.Reply c.in-Reply.proxy c.in-Reply.ticket a) c.in-Done.is))
+    ∙ ap (λ (b : Bool). cond b (Some (c.in-Reply.proxy, c.in-Reply.ticket)) None) (c.is_unsent.ensures items k t)
+    ∙ sym (ap (unsent_now items) (c.in-Reply.is ∙ ap (λ (a : Answer). item.Reply c.in-Reply.proxy c.in-Reply.ticket a) c.in-Done.is))

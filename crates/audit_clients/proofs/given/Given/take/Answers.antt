@@ -5,8 +5,10 @@ use Rattle.audit_clients.proofs.Sent.{floors_next}
 use Rattle.audit_clients.proofs.given.Given.take.Goals as goal
 
 pub returns : goal.returns
-returns c = λ g. record {
-  floors = c.in_ok-raise_by.ensures ∙ ap (floors_by c.args.items.now c.args.item.now) g.floors ∙ sym (floors_next c.args.items.now c.args.item.now);
-  newest = c.in_ok-renew.ensures g.index g.newest;
-  index = c.in_ok-take.ensures g.index;
+returns c = λ items ordered takes g. record {
+  floors = c.in_ok-raise_by.ensures items g.leases ∙ ap (floors_by items c.args.item) g.floors ∙ sym (floors_next items c.args.item);
+  leases = c.in_ok-note_call.ensures items g.index g.leases;
+  newest = c.in_ok-renew.ensures items g.index g.newest;
+  index = c.in_ok-take.ensures items g.index;
+  takings = c.in_ok-follow.ensures items g.index ordered takes g.takings;
 }

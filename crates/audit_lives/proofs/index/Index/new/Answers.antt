@@ -6,8 +6,9 @@ use Rattle.audit_lives.proofs.index.Index.new.Goals as goal
 pub returns : goal.returns
 returns c = record {
   count = refl;
-  lives = c.new.ensures;
-  calls = c.new-2.ensures;
-  streams = c.new-3.ensures;
-  sums = c.new-4.ensures (value_at c.new.result.starts);
+  kept = c.new.ensures;
+  lives = c.new-2.ensures;
+  calls = c.new-3.ensures;
+  streams = c.new-4.ensures;
+  sums = c.new-5.ensures (value_at c.new-2.result.starts);
 }

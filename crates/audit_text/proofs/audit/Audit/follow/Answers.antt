@@ -1,17 +1,16 @@
 -- What was made goes on by one item, or begins with it.
-use Rattle.std.proofs.Common.{◌∙◌}
 use Rattle.audit_text.proofs.Rules.{begun, followed, if_err, on_ok, refused_first, refused_so}
 use Rattle.audit_text.proofs.audit.Audit.follow.Goals as goal
 
 pub returns-in-Some-clause-taken : goal.returns-in-Some-clause-taken
 returns-in-Some-clause-taken c =
     on_ok c.follow.result (λ t before st.
-    followed c.as_slice.result.now before c.args.item.now c.in-Some.made c.follow.new.self c.args.self.now.made (c.as_slice.ensures ∙ st.kept) c.in-Some.is st.made c.args.self.now.given st.gave t) c.follow.ensures.taken
+    followed before c.args.item.now c.in-Some.made c.follow.new.self c.args.self.now.made c.in-Some.is st.made c.args.self.now.given st.gave (t before)) c.follow.ensures.taken
 
 pub returns-in-Some-clause-fault : goal.returns-in-Some-clause-fault
 returns-in-Some-clause-fault c =
     if_err c.follow.result (λ f r before st.
-    refused_so c.as_slice.result.now before c.args.item.now c.in-Some.made c.args.self.now.made f (c.as_slice.ensures ∙ st.kept) c.in-Some.is st.made c.args.self.now.given st.gave r) c.follow.ensures.fault
+    refused_so before c.args.item.now c.in-Some.made c.args.self.now.made f c.in-Some.is st.made c.args.self.now.given st.gave (r before)) c.follow.ensures.fault
 
 pub returns-in-None-clause-taken : goal.returns-in-None-clause-taken
 returns-in-None-clause-taken c =

@@ -5,16 +5,16 @@ use Rattle.audit_text.proofs.made.Made.follow.Goals as goal
 
 pub returns-in-Ok-clause-taken : goal.returns-in-Ok-clause-taken
 returns-in-Ok-clause-taken c =
-    on_ok c.give.result (λ t m g.
-    let x = c.in-Ok.ensures.taken m g in
-    let y = t x.1 g in
-    (keeps_each c.args.items.now c.args.item.now x.0 y.0, y.1)) c.give.ensures.taken
+    on_ok c.give.result (λ t items m g.
+    let x = c.in-Ok.ensures.taken items m g in
+    let y = t items x.1 g in
+    (keeps_each items c.args.item.now x.0 y.0, y.1)) c.give.ensures.taken
 
 pub returns-in-Ok-clause-fault : goal.returns-in-Ok-clause-fault
 returns-in-Ok-clause-fault c =
-    if_err c.give.result (λ f r m g.
-    let x = c.in-Ok.ensures.taken m g in
-    fault_of_clients c.args.items.now c.args.item.now f x.0 (r x.1 g)) c.give.ensures.fault
+    if_err c.give.result (λ f r items m g.
+    let x = c.in-Ok.ensures.taken items m g in
+    fault_of_clients items c.args.item.now f x.0 (r items x.1 g)) c.give.ensures.fault
 
 pub returns-in-Err-clause-fault : goal.returns-in-Err-clause-fault
-returns-in-Err-clause-fault c = λ m g. fault_of_store c.args.items.now c.args.item.now c.in-Err.fault (c.in-Err.ensures.fault m g)
+returns-in-Err-clause-fault c = λ items m g. fault_of_store items c.args.item.now c.in-Err.fault (c.in-Err.ensures.fault items m g)

@@ -9,57 +9,52 @@ use Rattle.audit_text.proofs.made.Made.give.Goals as goal
 pub returns-in-Reply-clause-taken : goal.returns-in-Reply-clause-taken
 returns-in-Reply-clause-taken c =
     let w = c.in-Reply in
-    let items = c.args.items.now in
     let i = c.args.item.now in
     let j = item.Reply w.proxy w.ticket w.answer in
-    on_ok c.reply.result (λ t m g.
-    let x = t (makes_as c.args.self.now (seen items) j i (sym w.is) m) g in
+    on_ok c.reply.result (λ t items m g.
+    let x = t items (makes_as c.args.self.now (seen items) j i (sym w.is) m) g in
     (replied items i w.proxy w.ticket w.answer w.is x.0, makes_as c.reply.new.self (seen items) i j w.is x.1)) c.reply.ensures.taken
 
 pub returns-in-Reply-clause-fault : goal.returns-in-Reply-clause-fault
 returns-in-Reply-clause-fault c =
     let w = c.in-Reply in
-    let items = c.args.items.now in
     let i = c.args.item.now in
     let j = item.Reply w.proxy w.ticket w.answer in
-    if_err c.reply.result (λ f r m g.
-    not_replied items i w.proxy w.ticket w.answer f w.is (r (makes_as c.args.self.now (seen items) j i (sym w.is) m) g)) c.reply.ensures.fault
+    if_err c.reply.result (λ f r items m g.
+    not_replied items i w.proxy w.ticket w.answer f w.is (r items (makes_as c.args.self.now (seen items) j i (sym w.is) m) g)) c.reply.ensures.fault
 
 pub returns-in-Taken-clause-taken : goal.returns-in-Taken-clause-taken
 returns-in-Taken-clause-taken c =
     let w = c.in-Taken in
-    let items = c.args.items.now in
     let i = c.args.item.now in
     let j = item.Taken w.proxy w.ticket w.item in
-    on_ok c.take.result (λ t m g.
-    let x = t (makes_as c.args.self.now (seen items) j i (sym w.is) m) in
+    on_ok c.take.result (λ t items m g.
+    let x = t items (makes_as c.args.self.now (seen items) j i (sym w.is) m) g in
     (taken items i w.proxy w.ticket w.item w.is x.0, makes_as c.take.new.self (seen items) i j w.is x.1)) c.take.ensures.taken
 
 pub returns-in-Taken-clause-fault : goal.returns-in-Taken-clause-fault
 returns-in-Taken-clause-fault c =
     let w = c.in-Taken in
-    let items = c.args.items.now in
     let i = c.args.item.now in
     let j = item.Taken w.proxy w.ticket w.item in
-    if_err c.take.result (λ f r m g.
-    not_taken items i w.proxy w.ticket w.item f w.is (r (makes_as c.args.self.now (seen items) j i (sym w.is) m))) c.take.ensures.fault
+    if_err c.take.result (λ f r items m g.
+    not_taken items i w.proxy w.ticket w.item f w.is (r items (makes_as c.args.self.now (seen items) j i (sym w.is) m) g)) c.take.ensures.fault
 
 pub returns-in-Expired-clause-taken : goal.returns-in-Expired-clause-taken
 returns-in-Expired-clause-taken c =
     let w = c.in-Expired in
-    let items = c.args.items.now in
     let i = c.args.item.now in
-    on_ok c.end.result (λ t m g. (expires items i w.lease w.is ∙ t items g, m)) c.end.ensures.taken
+    on_ok c.end.result (λ t items m g. (expires items i w.lease w.is ∙ t items g, m)) c.end.ensures.taken
 
 pub returns-in-Expired-clause-fault : goal.returns-in-Expired-clause-fault
 returns-in-Expired-clause-fault c =
     let w = c.in-Expired in
-    if_err c.end.result (λ f r m g. early c.args.items.now c.args.item.now w.lease f w.is (r c.args.items.now g)) c.end.ensures.fault
+    if_err c.end.result (λ f r items m g. early items c.args.item.now w.lease f w.is (r items g)) c.end.ensures.fault
 
 pub returns-in_default : goal.returns-in_default
 returns-in_default c =
     let o = c.in_default in
     record {
-      taken = λ m g. (others c.args.items.now c.args.item.now o.not-Reply o.not-Taken o.not-Expired, m);
+      taken = λ items m g. (others items c.args.item.now o.not-Reply o.not-Taken o.not-Expired, m);
       fault = tt;
     }

@@ -1,0 +1,6 @@
+-- What is kept tells it.
+use Rattle.std.proofs.Common.{◌∙◌}
+use Rattle.audit_lives.proofs.index.Index.opener_of.Goals as goal
+
+pub returns : goal.returns
+returns c = λ items t. c.opener_of.ensures items (c.as_slice.ensures ∙ t.kept) t.streams
