@@ -1,7 +1,7 @@
 // Answers and messages that aren't the store's.
 
-use crate::said::{Said, filled, tell, tell_due};
-use audit_past::{Past, Trace, last, no_watch};
+use crate::said::{Said, filled, tell, tell_found};
+use audit_past::{Past, Trace, last};
 use equal_values::same_header;
 use etcd_types::{Answer, NoMemory, Reply, WatchItem};
 use script_text::Item;
@@ -91,64 +91,65 @@ fn other_answer(
     places: &[Option<usize>],
     call: u64,
     told: &Answer,
-    answer: Answer,
+    due: &Answer,
 ) -> Result<Said, NoMemory> {
-    let found = difference(alloc, call, told, &answer)?;
-    tell_due(alloc, found, places, &Item::Executed { call, answer })
+    let found = difference(alloc, call, told, due)?;
+    let mut all = tell_found(alloc, found, places)?;
+    all.expect_answer(alloc, "executed", &[call], due)?;
+    Ok(all)
 }
 
 /// An answer to a call that isn't the store's.
 pub(crate) fn answer_said(
     alloc: Global,
     items: &[Item],
+    past: &mut Past,
     call: u64,
     told: &Answer,
 ) -> Result<Said, NoMemory> {
-    let mut past = Past::of(alloc, items, &no_watch(alloc))?;
+    past.read(items)?;
     let sent = last(Trace::Sends(call), items);
     match past.answer_to(items, call)? {
         None => tell(alloc, "call # wasn't sent", &[call], &[]),
-        Some(answer) => other_answer(alloc, &[sent, past.last_made()], call, told, answer),
+        Some(due) => other_answer(alloc, &[sent, past.last_made()], call, told, &due),
     }
 }
 
 /// A message of the stream where this one is due.
-fn due_message_said(
+fn other_message(
     alloc: Global,
-    items: &[Item],
+    places: &[Option<usize>],
     stream: u64,
-    made: Option<usize>,
-    due: Option<WatchItem>,
+    due: &WatchItem,
 ) -> Result<Said, NoMemory> {
-    let opened = last(Trace::Opens(stream), items);
-    let latest = last(Trace::Pushes(stream), items);
-    let places = [opened, latest, made];
-    match due {
-        None => tell(
-            alloc,
-            "the store has no such message for stream #",
-            &[stream],
-            &places,
-        ),
-        Some(item) => {
-            let found = filled(
-                alloc,
-                "the store has another message for stream #",
-                &[stream],
-            )?;
-            tell_due(alloc, found, &places, &Item::Pushed { stream, item })
-        }
-    }
+    let mut all = tell(
+        alloc,
+        "the store has another message for stream #",
+        &[stream],
+        places,
+    )?;
+    all.expect_message(alloc, "pushed", &[stream], due)?;
+    Ok(all)
 }
 
 /// A pushed message that isn't the store's.
 pub(crate) fn push_said(
     alloc: Global,
     items: &[Item],
+    past: &mut Past,
     stream: u64,
     told: &WatchItem,
 ) -> Result<Said, NoMemory> {
-    let mut past = Past::of(alloc, items, &no_watch(alloc))?;
-    let due = past.message_to(stream, told)?;
-    due_message_said(alloc, items, stream, past.last_made(), due)
+    past.read(items)?;
+    let opened = last(Trace::Opens(stream), items);
+    let latest = last(Trace::Pushes(stream), items);
+    match past.message_to(stream, told)? {
+        None => tell(
+            alloc,
+            "the store has no such message for stream #",
+            &[stream],
+            &[opened, latest, past.last_made()],
+        ),
+        Some(due) => other_message(alloc, &[opened, latest, past.last_made()], stream, &due),
+    }
 }

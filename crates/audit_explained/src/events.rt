@@ -1,10 +1,8 @@
 // Events that aren't next for the watch that takes them.
 
 use crate::reads::namespace_of;
-use crate::said::{Said, filled, tell, tell_due};
-use audit_past::{
-    Past, Watch, count_taken, event_behind, event_revision, prefix_of, start_of, stored_watch,
-};
+use crate::said::{Said, filled, tell, tell_found};
+use audit_past::{Past, Watch, count_taken, event_behind, event_revision, start_of};
 use equal_values::{same_change, same_event};
 use etcd_types::{Event, Header, List, NoMemory, WatchAsk, WatchItem};
 use namespace_keys::{KeyFault, Namespace};
@@ -87,7 +85,7 @@ fn first_event(message: &WatchItem) -> Option<&Event> {
     }
 }
 
-/// What is said of an event in the place of this one.
+/// What is said of an event in the place of this one, the first of the message.
 fn other_event(
     alloc: Global,
     past: &Past,
@@ -95,52 +93,32 @@ fn other_event(
     ask: &WatchAsk,
     told: &Event,
     due: &Event,
-    item: &Item,
+    message: &WatchItem,
 ) -> Result<Said, NoMemory> {
     let made = past.made_at(event_revision(due));
     let found = event_difference(alloc, ask, told, due)?;
-    tell_due(
-        alloc,
-        found,
-        &[watch.asked, watch.first, watch.latest, made],
-        item,
-    )
+    let places = [watch.asked, watch.first, watch.latest, made];
+    let mut all = tell_found(alloc, found, &places)?;
+    all.expect_message(alloc, "taken", &[watch.proxy, watch.ticket], message)?;
+    Ok(all)
 }
 
-/// The message as the watch takes it.
-fn taken_item(watch: Watch, item: WatchItem) -> Item {
-    let Watch { proxy, ticket, .. } = watch;
-    Item::Taken {
-        proxy,
-        ticket,
-        item,
-    }
-}
-
-/// The event of the message that is taken.
-fn taken_event(item: &Item) -> Option<&Event> {
-    match item {
-        Item::Taken { item, .. } => first_event(item),
-        _ => None,
-    }
-}
-
-/// What is said of an event where this item is due, if it isn't the same.
+/// What is said of an event where this message is due, if it isn't the same.
 fn event_said(
     alloc: Global,
     past: &Past,
     watch: Watch,
     ask: &WatchAsk,
     told: &Event,
-    item: &Item,
+    message: &WatchItem,
 ) -> Result<Option<Said>, NoMemory> {
-    match taken_event(item) {
+    match first_event(message) {
         None => Ok(None),
         Some(due) => {
             if is_same(told, due, past.compacted()) {
                 Ok(None)
             } else {
-                Ok(Some(other_event(alloc, past, watch, ask, told, due, item)?))
+                Ok(Some(other_event(alloc, past, watch, ask, told, due, message)?))
             }
         }
     }
@@ -171,28 +149,28 @@ fn next_said(
     match due {
         None => Ok(Some(surplus_said(alloc, watch, told)?)),
         Some(due) => match told_event(alloc, namespace, ask, header, due)? {
-            Some(message) => event_said(alloc, past, watch, ask, told, &taken_item(watch, message)),
+            Some(message) => event_said(alloc, past, watch, ask, told, &message),
             None => Ok(None),
         },
     }
 }
 
-/// Events that aren't the watch's next ones.
-pub(crate) fn events_said(
+/// Events that aren't the next ones of the watch, whose events the past holds.
+fn other_events(
     alloc: Global,
     items: &[Item],
+    past: &Past,
+    namespace: &Namespace,
     watch: Watch,
     ask: &WatchAsk,
     header: Header,
     events: &[Event],
 ) -> Result<Said, NoMemory> {
-    let past = watched_past(alloc, items, ask)?;
-    let namespace = namespace_of(alloc, items)?;
     let start = start_of(items, watch, ask);
     let taken = count_taken(items, watch);
     for (number, told) in events.iter().enumerate() {
         let due = event_behind(past.events(), start, taken.saturating_add(number));
-        if let Some(all) = next_said(alloc, &past, &namespace, watch, ask, header, told, due)? {
+        if let Some(all) = next_said(alloc, past, namespace, watch, ask, header, told, due)? {
             return Ok(all);
         }
     }
@@ -205,18 +183,17 @@ pub(crate) fn events_said(
     )
 }
 
-/// The watch as the store is asked for it.
-fn watch_asked(alloc: Global, items: &[Item], ask: &WatchAsk) -> Result<WatchAsk, NoMemory> {
-    let prefix = prefix_of(alloc, items)?;
-    stored_watch(alloc, &prefix, ask)
-}
-
-/// What the items made, with the events for the watch.
-pub(crate) fn watched_past(
+/// Events that aren't the watch's next ones.
+pub(crate) fn events_said(
     alloc: Global,
     items: &[Item],
+    past: &mut Past,
+    watch: Watch,
     ask: &WatchAsk,
-) -> Result<Past, NoMemory> {
-    let stored = watch_asked(alloc, items, ask)?;
-    Past::of(alloc, items, &stored)
+    header: Header,
+    events: &[Event],
+) -> Result<Said, NoMemory> {
+    past.read_for(items, ask)?;
+    let namespace = namespace_of(alloc, items)?;
+    other_events(alloc, items, past, &namespace, watch, ask, header, events)
 }

@@ -1,16 +1,16 @@
 // Sessions that expire too early.
 
 use crate::said::{Said, tell};
-use audit_past::{Trace, item_at, last, proxy_at};
+use audit_past::{Trace, last, mark_at, proxy_at};
 use etcd_types::NoMemory;
 use script_text::Item;
 use std::alloc::Global;
 
 /// Where the call was sent that is executed at the place.
 fn sent_for(items: &[Item], executed: Option<usize>) -> Option<usize> {
-    match item_at(items, executed) {
-        Some(Item::Executed { call, .. }) => last(Trace::Sends(*call), items),
-        _ => None,
+    match mark_at(items, executed) {
+        Some(mark) => last(Trace::Sends(mark.number), items),
+        None => None,
     }
 }
 

@@ -5,49 +5,29 @@ use crate::streams::{
     closed_said, delivered_said, executed_said, member_said, opened_said, pushed_said, sent_said,
     settled_said,
 };
-use audit_past::{Past, Trace, item_at, last, last_in_life, no_watch};
+use audit_past::{Kind, Mark, Past, Trace, last, last_in_life, mark_at};
 use etcd_types::NoMemory;
 use script_text::Item;
 use std::alloc::Global;
 
-/// The proxy that the item names as its own.
-fn proxy_of(item: &Item) -> Option<u64> {
-    match item {
-        Item::Restarted { proxy } => Some(*proxy),
-        Item::Clock { proxy, .. } => Some(*proxy),
-        Item::Asked { proxy, .. } => Some(*proxy),
-        Item::Posted { proxy, .. } => Some(*proxy),
-        Item::Ticked { proxy } => Some(*proxy),
-        Item::Sent { proxy, .. } => Some(*proxy),
-        Item::Opened { proxy, .. } => Some(*proxy),
-        Item::Closed { proxy, .. } => Some(*proxy),
-        Item::Taken { proxy, .. } => Some(*proxy),
-        Item::Pending { proxy, .. } => Some(*proxy),
-        Item::Left { proxy, .. } => Some(*proxy),
-        Item::Reply { proxy, .. } => Some(*proxy),
-        Item::Body { proxy, .. } => Some(*proxy),
-        _ => None,
+/// Whether an item of this kind is told of a proxy that was started before.
+fn is_of_proxy(kind: Kind) -> bool {
+    match kind {
+        Kind::World | Kind::Started | Kind::Executed | Kind::Answered | Kind::Lost => false,
+        Kind::Pushed | Kind::Delivered | Kind::Cut | Kind::Expired | Kind::Applied => false,
+        _ => true,
     }
 }
 
-/// The proxy that the item names, where it wasn't started.
-fn unstarted(items: &[Item], item: &Item) -> Option<u64> {
-    let proxy = proxy_of(item)?;
-    match last(Trace::Begins(proxy), items) {
-        Some(_) => None,
-        None => Some(proxy),
-    }
+/// Whether the item names a proxy that wasn't started.
+fn is_unstarted(items: &[Item], mark: Mark) -> bool {
+    is_of_proxy(mark.kind) && last(Trace::Begins(mark.proxy), items).is_none()
 }
 
 /// A first item that makes no world.
-fn first_said(alloc: Global, item: &Item) -> Result<Said, NoMemory> {
-    match item {
-        Item::World { members, .. } => tell(
-            alloc,
-            "the world would have # members",
-            &[*members],
-            &[],
-        ),
+fn first_said(alloc: Global, mark: Mark) -> Result<Said, NoMemory> {
+    match mark.kind {
+        Kind::World => tell(alloc, "the world would have # members", &[mark.value], &[]),
         _ => tell(alloc, "no world stands before the item", &[], &[]),
     }
 }
@@ -63,14 +43,14 @@ fn started_said(alloc: Global, items: &[Item], proxy: u64) -> Result<Said, NoMem
 
 fn clock_said(alloc: Global, items: &[Item], proxy: u64, millis: u64) -> Result<Said, NoMemory> {
     let latest = last(Trace::Clock(proxy), items);
-    match item_at(items, latest) {
-        Some(Item::Clock { millis: now, .. }) => tell(
+    match mark_at(items, latest) {
+        Some(mark) => tell(
             alloc,
             "the clock of proxy # read # ms, and now # ms",
-            &[proxy, *now, millis],
+            &[proxy, mark.value, millis],
             &[latest],
         ),
-        _ => tell(alloc, "the clock reads # ms", &[millis], &[]),
+        None => tell(alloc, "the clock reads # ms", &[millis], &[]),
     }
 }
 
@@ -141,10 +121,11 @@ fn expired_said(alloc: Global, items: &[Item], lease: u64) -> Result<Said, NoMem
 fn revision_said(
     alloc: Global,
     items: &[Item],
+    past: &mut Past,
     member: u64,
     revision: u64,
 ) -> Result<Said, NoMemory> {
-    let past = Past::of(alloc, items, &no_watch(alloc))?;
+    past.read(items)?;
     let newest = past.newest();
     if newest < revision {
         let places = [past.last_made()];
@@ -168,68 +149,72 @@ fn revision_said(
 fn applied_said(
     alloc: Global,
     items: &[Item],
+    past: &mut Past,
     member: u64,
     revision: u64,
 ) -> Result<Said, NoMemory> {
     match member_said(alloc, items, member)? {
         Some(unknown) => Ok(unknown),
-        None => revision_said(alloc, items, member, revision),
+        None => revision_said(alloc, items, past, member, revision),
     }
 }
 
 /// Calls and streams.
-fn use_said(alloc: Global, items: &[Item], item: &Item) -> Result<Said, NoMemory> {
-    match item {
-        Item::Sent { call, member, .. } => sent_said(alloc, items, *call, *member),
-        Item::Opened { stream, member, .. } => opened_said(alloc, items, *stream, *member),
-        Item::Closed { proxy, stream } => closed_said(alloc, items, *proxy, *stream),
-        Item::Executed { call, .. } => executed_said(alloc, items, *call),
-        Item::Answered { call } => settled_said(alloc, items, *call),
-        Item::Lost { call } => settled_said(alloc, items, *call),
-        Item::Pushed { stream, .. } => pushed_said(alloc, items, *stream),
-        Item::Cut { stream } => pushed_said(alloc, items, *stream),
-        Item::Delivered { stream } => delivered_said(alloc, items, *stream),
-        Item::Expired { lease } => expired_said(alloc, items, *lease),
-        Item::Applied { member, revision } => applied_said(alloc, items, *member, *revision),
+fn use_said(alloc: Global, items: &[Item], past: &mut Past, mark: Mark) -> Result<Said, NoMemory> {
+    let Mark {
+        proxy,
+        number,
+        value,
+        ..
+    } = mark;
+    match mark.kind {
+        Kind::Sent => sent_said(alloc, items, number, value),
+        Kind::Opened => opened_said(alloc, items, number, value),
+        Kind::Closed => closed_said(alloc, items, proxy, number),
+        Kind::Executed => executed_said(alloc, items, number),
+        Kind::Answered | Kind::Lost => settled_said(alloc, items, number),
+        Kind::Pushed | Kind::Cut => pushed_said(alloc, items, number),
+        Kind::Delivered => delivered_said(alloc, items, number),
+        Kind::Expired => expired_said(alloc, items, number),
+        Kind::Applied => applied_said(alloc, items, past, number, value),
         _ => tell(alloc, "the item isn't in order", &[], &[]),
     }
 }
 
 /// Why the item isn't in order.
-pub(crate) fn order_said(alloc: Global, items: &[Item], item: &Item) -> Result<Said, NoMemory> {
+pub(crate) fn order_said(
+    alloc: Global,
+    items: &[Item],
+    past: &mut Past,
+    mark: Mark,
+) -> Result<Said, NoMemory> {
     if items.is_empty() {
-        return first_said(alloc, item);
+        return first_said(alloc, mark);
     }
-    match unstarted(items, item) {
-        Some(proxy) => tell(alloc, "proxy # wasn't started", &[proxy], &[]),
-        None => item_said(alloc, items, item),
+    if is_unstarted(items, mark) {
+        return tell(alloc, "proxy # wasn't started", &[mark.proxy], &[]);
     }
+    item_said(alloc, items, past, mark)
 }
 
 /// Why the item isn't in order, where it isn't the first one and its proxy was started.
-fn item_said(alloc: Global, items: &[Item], item: &Item) -> Result<Said, NoMemory> {
-    match item {
-        Item::World { .. } => tell(alloc, "the world is made already", &[], &[Some(0)]),
-        Item::Started { proxy } => started_said(alloc, items, *proxy),
-        Item::Clock { proxy, millis } => clock_said(alloc, items, *proxy, *millis),
-        Item::Asked { proxy, ticket, .. } => {
-            asked_said(alloc, items, Trace::Asks(*proxy, *ticket), *proxy, *ticket)
+fn item_said(alloc: Global, items: &[Item], past: &mut Past, mark: Mark) -> Result<Said, NoMemory> {
+    let Mark {
+        proxy,
+        number,
+        value,
+        ..
+    } = mark;
+    match mark.kind {
+        Kind::World => tell(alloc, "the world is made already", &[], &[Some(0)]),
+        Kind::Started => started_said(alloc, items, proxy),
+        Kind::Clock => clock_said(alloc, items, proxy, value),
+        Kind::Asked => asked_said(alloc, items, Trace::Asks(proxy, number), proxy, number),
+        Kind::Posted => asked_said(alloc, items, Trace::Gives(proxy, number), proxy, number),
+        Kind::Taken | Kind::Pending | Kind::Left | Kind::Body => {
+            ticket_said(alloc, items, proxy, number)
         }
-        Item::Posted { proxy, ticket, .. } => {
-            asked_said(alloc, items, Trace::Gives(*proxy, *ticket), *proxy, *ticket)
-        }
-        _ => told_said(alloc, items, item),
-    }
-}
-
-/// Items of a ticket that was given before.
-fn told_said(alloc: Global, items: &[Item], item: &Item) -> Result<Said, NoMemory> {
-    match item {
-        Item::Taken { proxy, ticket, .. } => ticket_said(alloc, items, *proxy, *ticket),
-        Item::Pending { proxy, ticket } => ticket_said(alloc, items, *proxy, *ticket),
-        Item::Left { proxy, ticket } => ticket_said(alloc, items, *proxy, *ticket),
-        Item::Body { proxy, ticket, .. } => ticket_said(alloc, items, *proxy, *ticket),
-        Item::Reply { proxy, ticket, .. } => reply_said(alloc, items, *proxy, *ticket),
-        _ => use_said(alloc, items, item),
+        Kind::Reply => reply_said(alloc, items, proxy, number),
+        _ => use_said(alloc, items, past, mark),
     }
 }

@@ -1,7 +1,7 @@
 // Replies to reads that no call named, and that aren't what the store holds.
 
 use crate::said::{Said, filled, spelled, tell, tell_found};
-use audit_past::{Newest, Past, Trace, asked_at, last_in_life, newest_given, no_watch};
+use audit_past::{Newest, Past, Trace, asked_at, last_in_life, newest_given};
 use equal_values::same_body;
 use etcd_types::{Answer, Body, Bytes, Header, NoMemory, Reply, Request};
 use namespace_keys::{KeyFault, Namespace};
@@ -63,6 +63,17 @@ fn due_reply(
         Answer::Done(stored) => bare_reply(alloc, namespace, stored),
         Answer::Refused(_) => Ok(None),
     }
+}
+
+/// What the world's store answers to the request of a client, told by the client's keys. Nothing where it refuses it.
+fn held_reply(
+    alloc: Global,
+    items: &[Item],
+    past: &mut Past,
+    request: &Request,
+) -> Result<Option<Reply>, NoMemory> {
+    let namespace = namespace_of(alloc, items)?;
+    due_reply(alloc, &namespace, past, request)
 }
 
 /// The revision of the first record that is shown.
@@ -264,19 +275,13 @@ fn difference_said(
     old_header_said(alloc, items, asked, proxy, request, shown)
 }
 
-/// The reply that would be true: what the store holds, at its newest revision.
-fn expected_reply(read: Read, told: &Header, due: Reply) -> Item {
-    let Reply { header, body } = due;
-    let header = Header {
+/// The header of the reply that would be true: told as it was, at the store's newest revision.
+fn expected_header(told: &Header, due: &Header) -> Header {
+    Header {
         cluster: told.cluster,
         member: told.member,
-        revision: header.revision,
+        revision: due.revision,
         term: told.term,
-    };
-    Item::Reply {
-        proxy: read.proxy,
-        ticket: read.ticket,
-        answer: Answer::Done(Reply { header, body }),
     }
 }
 
@@ -296,10 +301,17 @@ fn due_said(
     read: Read,
     request: &Request,
     told: &Reply,
-    due: Reply,
+    due: &Reply,
 ) -> Result<Said, NoMemory> {
-    let mut all = difference_said(alloc, items, past, read, request, told, &due)?;
-    all.expect(alloc, &expected_reply(read, &told.header, due))?;
+    let header = expected_header(&told.header, &due.header);
+    let mut all = difference_said(alloc, items, past, read, request, told, due)?;
+    all.expect_reply(
+        alloc,
+        "reply",
+        &[read.proxy, read.ticket],
+        &header,
+        &due.body,
+    )?;
     Ok(all)
 }
 
@@ -313,15 +325,15 @@ fn undue_said(alloc: Global, asked: Option<usize>, request: &Request) -> Result<
 fn plain_said(
     alloc: Global,
     items: &[Item],
+    past: &mut Past,
     read: Read,
     request: &Request,
     told: &Reply,
 ) -> Result<Said, NoMemory> {
-    let mut past = Past::of(alloc, items, &no_watch(alloc))?;
-    let namespace = namespace_of(alloc, items)?;
-    match due_reply(alloc, &namespace, &mut past, request)? {
+    past.read(items)?;
+    match held_reply(alloc, items, past, request)? {
         None => undue_said(alloc, read.asked, request),
-        Some(due) => due_said(alloc, items, &past, read, request, told, due),
+        Some(due) => due_said(alloc, items, past, read, request, told, &due),
     }
 }
 
@@ -329,6 +341,7 @@ fn plain_said(
 fn reply_said(
     alloc: Global,
     items: &[Item],
+    past: &mut Past,
     read: Read,
     request: &Request,
     told: &Reply,
@@ -336,7 +349,7 @@ fn reply_said(
     if is_other_range(request) {
         tell(alloc, NOT_PLAIN, &[], &[read.asked])
     } else {
-        plain_said(alloc, items, read, request, told)
+        plain_said(alloc, items, past, read, request, told)
     }
 }
 
@@ -344,6 +357,7 @@ fn reply_said(
 pub(crate) fn unsent_said(
     alloc: Global,
     items: &[Item],
+    past: &mut Past,
     proxy: u64,
     ticket: u64,
     told: &Reply,
@@ -357,7 +371,7 @@ pub(crate) fn unsent_said(
                 ticket,
                 asked,
             };
-            reply_said(alloc, items, read, request, told)
+            reply_said(alloc, items, past, read, request, told)
         }
     }
 }

@@ -1,13 +1,13 @@
-use etcd_types::{Bytes, NoMemory};
-use script_text::{Item, write_item};
+use etcd_types::{Answer, Body, Bytes, Header, NoMemory, WatchItem};
+use message_text::Text;
 use std::alloc::Global;
-use text_words::push_bytes;
+use text_words::{push_bytes, push_digits, push_number, push_word};
 
 /// What is said of an item that breaks a rule.
 #[derive(Drop)]
 pub(crate) struct Said {
     /// The item that would keep the rule, where there is one.
-    pub(crate) expected: Option<Bytes>,
+    pub(crate) expected: Option<String>,
     /// What stands there, and against what.
     pub(crate) found: Vec<u8>,
     /// The places, from 0, of the items that this rests on.
@@ -23,11 +23,101 @@ impl Said {
         Ok(())
     }
 
-    /// With the item that would keep the rule.
-    pub(crate) fn expect(&mut self, alloc: Global, item: &Item) -> Result<(), NoMemory> {
-        self.expected = Some(write_item(alloc, item)?);
+    /// With the item of this name, with these numbers and this answer, as the one that would keep the rule.
+    pub(crate) fn expect_answer(
+        &mut self,
+        alloc: Global,
+        name: &str,
+        numbers: &[u64],
+        answer: &Answer,
+    ) -> Result<(), NoMemory> {
+        let mut text = String::new(alloc);
+        push_answer(&mut text, name, numbers, answer)?;
+        self.expected = Some(text);
         Ok(())
     }
+
+    /// The same of a message.
+    pub(crate) fn expect_message(
+        &mut self,
+        alloc: Global,
+        name: &str,
+        numbers: &[u64],
+        message: &WatchItem,
+    ) -> Result<(), NoMemory> {
+        let mut text = String::new(alloc);
+        push_message(&mut text, name, numbers, message)?;
+        self.expected = Some(text);
+        Ok(())
+    }
+
+    /// The same of an answer that the store did what was asked.
+    pub(crate) fn expect_reply(
+        &mut self,
+        alloc: Global,
+        name: &str,
+        numbers: &[u64],
+        header: &Header,
+        body: &Body,
+    ) -> Result<(), NoMemory> {
+        let mut text = String::new(alloc);
+        push_reply(&mut text, name, numbers, header, body)?;
+        self.expected = Some(text);
+        Ok(())
+    }
+}
+
+/// Appends the words with which an item begins.
+fn push_front(text: &mut String, name: &str, numbers: &[u64]) -> Result<(), NoMemory> {
+    push_word(text, name)?;
+    for number in numbers {
+        push_number(text, *number)?;
+    }
+    Ok(())
+}
+
+/// Takes off the space behind the last word.
+fn pop_space(text: &mut String) {
+    let _space = text.pop();
+}
+
+fn push_answer(
+    text: &mut String,
+    name: &str,
+    numbers: &[u64],
+    answer: &Answer,
+) -> Result<(), NoMemory> {
+    push_front(text, name, numbers)?;
+    answer.push(text)?;
+    pop_space(text);
+    Ok(())
+}
+
+fn push_message(
+    text: &mut String,
+    name: &str,
+    numbers: &[u64],
+    message: &WatchItem,
+) -> Result<(), NoMemory> {
+    push_front(text, name, numbers)?;
+    message.push(text)?;
+    pop_space(text);
+    Ok(())
+}
+
+fn push_reply(
+    text: &mut String,
+    name: &str,
+    numbers: &[u64],
+    header: &Header,
+    body: &Body,
+) -> Result<(), NoMemory> {
+    push_front(text, name, numbers)?;
+    push_word(text, "ok")?;
+    header.push(text)?;
+    body.push(text)?;
+    pop_space(text);
+    Ok(())
 }
 
 /// These words were found, and the items that this rests on, as far as there are such.
@@ -57,24 +147,10 @@ pub(crate) fn tell(
     tell_found(alloc, filled(alloc, text, numbers)?, places)
 }
 
-/// The same, with the item that would keep the rule.
-pub(crate) fn tell_due(
-    alloc: Global,
-    found: Vec<u8>,
-    places: &[Option<usize>],
-    due: &Item,
-) -> Result<Said, NoMemory> {
-    let mut all = tell_found(alloc, found, places)?;
-    all.expect(alloc, due)?;
-    Ok(all)
-}
-
-fn digits(alloc: Global, number: u64) -> Result<String, NoMemory> {
-    Ok(format!(in alloc; "{number}")?)
-}
-
-fn push_number(text: &mut Vec<u8>, alloc: Global, number: u64) -> Result<(), NoMemory> {
-    let digits = digits(alloc, number)?;
+/// Appends the digits of the number.
+fn push_decimal(text: &mut Vec<u8>, alloc: Global, number: u64) -> Result<(), NoMemory> {
+    let mut digits = String::new(alloc);
+    push_digits(&mut digits, number)?;
     text.extend_from_slice(digits.as_bytes())?;
     Ok(())
 }
@@ -85,7 +161,7 @@ pub(crate) fn filled(alloc: Global, text: &str, numbers: &[u64]) -> Result<Vec<u
     let mut next = 0usize;
     for byte in text.as_bytes() {
         if *byte == b'#' {
-            push_number(&mut words, alloc, numbers.get(next).copied().unwrap_or(0))?;
+            push_decimal(&mut words, alloc, numbers.get(next).copied().unwrap_or(0))?;
             next = next.saturating_add(1);
         } else {
             words.push(*byte)?;
@@ -98,7 +174,6 @@ pub(crate) fn filled(alloc: Global, text: &str, numbers: &[u64]) -> Result<Vec<u
 pub(crate) fn spelled(alloc: Global, bytes: &Bytes) -> Result<String, NoMemory> {
     let mut text = String::new(alloc);
     push_bytes(&mut text, bytes)?;
-    // the space behind the word goes
-    let _space = text.pop();
+    pop_space(&mut text);
     Ok(text)
 }

@@ -1,7 +1,7 @@
 // Calls and streams that can't be used so.
 
 use crate::said::{Said, tell};
-use audit_past::{Trace, item_at, last, opened_stream, proxy_at, sent_call};
+use audit_past::{Kind, Trace, last, mark_at, proxy_at};
 use etcd_types::NoMemory;
 use script_text::Item;
 use std::alloc::Global;
@@ -150,17 +150,20 @@ pub(crate) fn closed_said(
 }
 
 /// The number behind that of the last call or stream.
-fn next_number(last: Option<u64>) -> u64 {
-    match last {
-        Some(number) => number.saturating_add(1),
+fn next_number(items: &[Item], latest: Option<usize>) -> u64 {
+    match mark_at(items, latest) {
+        Some(mark) => mark.number.saturating_add(1),
         None => 1,
     }
 }
 
 fn members_of(items: &[Item]) -> u64 {
-    match items.first() {
-        Some(Item::World { members, .. }) => *members,
-        _ => 0,
+    match mark_at(items, Some(0)) {
+        Some(mark) => match mark.kind {
+            Kind::World => mark.value,
+            _ => 0,
+        },
+        None => 0,
     }
 }
 
@@ -190,11 +193,7 @@ pub(crate) fn sent_said(
     member: u64,
 ) -> Result<Said, NoMemory> {
     let latest = last(Trace::Calls, items);
-    let number = match item_at(items, latest) {
-        Some(item) => sent_call(item),
-        None => None,
-    };
-    let next = next_number(number);
+    let next = next_number(items, latest);
     if call != next {
         return tell(
             alloc,
@@ -217,11 +216,7 @@ pub(crate) fn opened_said(
     member: u64,
 ) -> Result<Said, NoMemory> {
     let latest = last(Trace::Streams, items);
-    let number = match item_at(items, latest) {
-        Some(item) => opened_stream(item),
-        None => None,
-    };
-    let next = next_number(number);
+    let next = next_number(items, latest);
     if stream != next {
         return tell(
             alloc,

@@ -1,10 +1,10 @@
 // What a watch takes that isn't next for it.
 
-use crate::events::{events_said, watched_past};
+use crate::events::events_said;
 use crate::said::{Said, tell};
 use audit_past::{
-    Past, Trace, Watch, asked_at, count_taken, event_behind, event_revision, first_in_life,
-    is_cancellation, is_created, last_in_life, message_at, next_of, start_of,
+    Past, Trace, Watch, asked_at, cancelled_at, count_taken, event_behind, event_revision,
+    first_in_life, is_cancellation, is_created, last_in_life, message_at, next_of, start_of,
 };
 use etcd_types::{NoMemory, Request, WatchAsk, WatchItem};
 use script_text::Item;
@@ -138,6 +138,7 @@ fn early_said(
 fn progress_said(
     alloc: Global,
     items: &[Item],
+    past: &mut Past,
     watch: Watch,
     ask: &WatchAsk,
     revision: u64,
@@ -151,18 +152,8 @@ fn progress_said(
             &places,
         );
     }
-    let past = watched_past(alloc, items, ask)?;
-    early_said(alloc, items, &past, watch, ask, revision)
-}
-
-fn cancels_at(compaction: u64, item: &Item) -> bool {
-    match item {
-        Item::Pushed { item, .. } => match item {
-            WatchItem::Canceled { compact, .. } => *compact == compaction,
-            _ => false,
-        },
-        _ => false,
-    }
+    past.read_for(items, ask)?;
+    early_said(alloc, items, past, watch, ask, revision)
 }
 
 /// A cancellation that can't be taken.
@@ -173,7 +164,7 @@ fn cancel_said(
     ask: &WatchAsk,
     compaction: u64,
 ) -> Result<Said, NoMemory> {
-    let pushed = items.iter().position(|item| cancels_at(compaction, item));
+    let pushed = cancelled_at(items, compaction);
     if pushed.is_none() {
         return tell(
             alloc,
@@ -194,6 +185,7 @@ fn cancel_said(
 fn message_said(
     alloc: Global,
     items: &[Item],
+    past: &mut Past,
     watch: Watch,
     ask: &WatchAsk,
     message: &WatchItem,
@@ -202,9 +194,9 @@ fn message_said(
         WatchItem::Created(_) => tell(alloc, "the watch has begun", &[], &[watch.first]),
         WatchItem::Events { header, events } => {
             if events.len() == 0 {
-                progress_said(alloc, items, watch, ask, header.revision)
+                progress_said(alloc, items, past, watch, ask, header.revision)
             } else {
-                events_said(alloc, items, watch, ask, *header, events.as_slice())
+                events_said(alloc, items, past, watch, ask, *header, events.as_slice())
             }
         }
         WatchItem::Canceled { compact, .. } => cancel_said(alloc, items, watch, ask, *compact),
@@ -215,6 +207,7 @@ fn message_said(
 pub(crate) fn watch_said(
     alloc: Global,
     items: &[Item],
+    past: &mut Past,
     proxy: u64,
     ticket: u64,
     message: &WatchItem,
@@ -236,6 +229,6 @@ pub(crate) fn watch_said(
     };
     match turn_said(alloc, items, watch, message)? {
         Some(all) => Ok(all),
-        None => message_said(alloc, items, watch, ask, message),
+        None => message_said(alloc, items, past, watch, ask, message),
     }
 }

@@ -1,7 +1,8 @@
 // The newest header that a proxy was given.
 
+use crate::marks::{Kind, Mark, mark_of};
 use crate::traces::{Trace, last};
-use etcd_types::{Answer, NoMemory, WatchItem};
+use etcd_types::NoMemory;
 use replay_parts::Numbers;
 use script_text::Item;
 use std::alloc::Global;
@@ -25,67 +26,6 @@ fn newer(newest: Option<Newest>, place: usize, revision: u64) -> Option<Newest> 
     }
 }
 
-fn answer_revision(answer: &Answer) -> u64 {
-    match answer {
-        Answer::Done(reply) => reply.header.revision,
-        Answer::Refused(_) => 0,
-    }
-}
-
-fn message_revision(message: &WatchItem) -> u64 {
-    match message {
-        WatchItem::Created(header) => header.revision,
-        WatchItem::Events { header, .. } => header.revision,
-        WatchItem::Canceled { header, .. } => header.revision,
-    }
-}
-
-/// Keeps the revisions of answers to the proxy's calls, by the calls' numbers.
-fn follow_call(revisions: &mut Numbers<u64>, proxy: u64, item: &Item) -> Result<(), NoMemory> {
-    match item {
-        Item::Sent { proxy: p, call, .. } => {
-            if *p == proxy {
-                revisions.put(*call, 0)?;
-            }
-        }
-        Item::Executed { call, answer } => {
-            if revisions.find(*call).is_some() {
-                revisions.put(*call, answer_revision(answer))?;
-            }
-        }
-        _ => {}
-    }
-    Ok(())
-}
-
-/// The revision of the answer with which the item settles a call.
-fn settled_revision(revisions: &Numbers<u64>, item: &Item) -> Option<u64> {
-    match item {
-        Item::Answered { call } => revisions.find(*call).copied(),
-        _ => None,
-    }
-}
-
-/// Of the answers that the proxy was given from this place on.
-fn newest_answer(
-    alloc: Global,
-    items: &[Item],
-    start: usize,
-    proxy: u64,
-) -> Result<Option<Newest>, NoMemory> {
-    let mut revisions = Numbers::<u64>::new(alloc);
-    let mut newest = None;
-    for (place, item) in items.iter().enumerate() {
-        if start <= place {
-            follow_call(&mut revisions, proxy, item)?;
-        }
-        if let Some(revision) = settled_revision(&revisions, item) {
-            newest = newer(newest, place, revision);
-        }
-    }
-    Ok(newest)
-}
-
 /// Counts a message of a stream more.
 fn count_more(counts: &mut Numbers<u64>, stream: u64) -> Result<u64, NoMemory> {
     let count = counts.find(stream).copied().unwrap_or(0).saturating_add(1);
@@ -93,89 +33,125 @@ fn count_more(counts: &mut Numbers<u64>, stream: u64) -> Result<u64, NoMemory> {
     Ok(count)
 }
 
-/// Counts the messages that were delivered of the proxy's streams.
-fn follow_stream(counts: &mut Numbers<u64>, proxy: u64, item: &Item) -> Result<(), NoMemory> {
-    match item {
-        Item::Opened {
-            proxy: p,
-            stream,
-            ..
-        } => {
-            if *p == proxy {
-                counts.put(*stream, 0)?;
-            }
-        }
-        Item::Delivered { stream } => {
-            if counts.find(*stream).is_some() {
-                let _count = count_more(counts, *stream)?;
-            }
-        }
-        _ => {}
-    }
-    Ok(())
-}
-
-/// How many messages of each stream of the proxy were delivered, of those that were opened from this place on.
-fn delivered_counts(
-    alloc: Global,
-    items: &[Item],
-    start: usize,
+/// What a proxy was given.
+#[derive(Drop)]
+struct Given {
     proxy: u64,
-) -> Result<Numbers<u64>, NoMemory> {
-    let mut counts = Numbers::<u64>::new(alloc);
-    for (place, item) in items.iter().enumerate() {
-        if start <= place {
-            follow_stream(&mut counts, proxy, item)?;
-        }
-    }
-    Ok(counts)
+    /// The revisions of the answers to its calls, by the calls' numbers.
+    revisions: Numbers<u64>,
+    /// How many messages of each of its streams were delivered.
+    delivered: Numbers<u64>,
+    /// How many messages were pushed into each stream.
+    pushed: Numbers<u64>,
+    newest: Option<Newest>,
 }
 
-/// The revision of the message that the item pushes, where it is its stream's last one that was delivered.
-fn last_delivered(
-    counts: &Numbers<u64>,
-    pushed: &mut Numbers<u64>,
-    item: &Item,
-) -> Result<Option<u64>, NoMemory> {
-    match item {
-        Item::Pushed { stream, item } => {
-            let number = count_more(pushed, *stream)?;
-            if counts.find(*stream).copied() == Some(number) {
-                Ok(Some(message_revision(item)))
-            } else {
-                Ok(None)
+impl Given {
+    fn new(alloc: Global, proxy: u64) -> Given {
+        Given {
+            proxy,
+            revisions: Numbers::<u64>::new(alloc),
+            delivered: Numbers::<u64>::new(alloc),
+            pushed: Numbers::<u64>::new(alloc),
+            newest: None,
+        }
+    }
+
+    fn keep(&mut self, place: usize, revision: u64) {
+        self.newest = newer(self.newest, place, revision);
+    }
+
+    /// The proxy sends a call or opens a stream.
+    fn begin(&mut self, mark: Mark) -> Result<(), NoMemory> {
+        if mark.proxy != self.proxy {
+            return Ok(());
+        }
+        match mark.kind {
+            Kind::Sent => self.revisions.put(mark.number, 0),
+            _ => self.delivered.put(mark.number, 0),
+        }
+    }
+
+    /// A call is executed.
+    fn execute(&mut self, mark: Mark) -> Result<(), NoMemory> {
+        if self.revisions.find(mark.number).is_some() {
+            self.revisions.put(mark.number, mark.revision)?;
+        }
+        Ok(())
+    }
+
+    /// A message of a stream is delivered.
+    fn deliver(&mut self, stream: u64) -> Result<(), NoMemory> {
+        if self.delivered.find(stream).is_some() {
+            let _count = count_more(&mut self.delivered, stream)?;
+        }
+        Ok(())
+    }
+
+    /// A call is answered.
+    fn answer(&mut self, place: usize, call: u64) {
+        if let Some(revision) = self.revisions.find(call).copied() {
+            self.keep(place, revision);
+        }
+    }
+
+    /// Goes on through the proxy's calls and streams.
+    fn follow(&mut self, place: usize, mark: Mark) -> Result<(), NoMemory> {
+        match mark.kind {
+            Kind::Sent => self.begin(mark),
+            Kind::Opened => self.begin(mark),
+            Kind::Executed => self.execute(mark),
+            Kind::Delivered => self.deliver(mark.number),
+            Kind::Answered => {
+                self.answer(place, mark.number);
+                Ok(())
+            }
+            _ => Ok(()),
+        }
+    }
+
+    /// Takes the answers that the proxy was given from this place on, and counts the messages.
+    fn follow_all(&mut self, items: &[Item], start: usize) -> Result<(), NoMemory> {
+        for (place, item) in items.iter().enumerate() {
+            if start <= place {
+                self.follow(place, mark_of(item))?;
             }
         }
-        _ => Ok(None),
+        Ok(())
     }
-}
 
-/// Of the messages that the proxy was given from this place on: each stream's last one has its newest header.
-fn newest_message(
-    alloc: Global,
-    items: &[Item],
-    start: usize,
-    proxy: u64,
-) -> Result<Option<Newest>, NoMemory> {
-    let counts = delivered_counts(alloc, items, start, proxy)?;
-    let mut pushed = Numbers::<u64>::new(alloc);
-    let mut newest = None;
-    for (place, item) in items.iter().enumerate() {
-        if let Some(revision) = last_delivered(&counts, &mut pushed, item)? {
-            newest = newer(newest, place, revision);
+    /// A message is pushed: where it is its stream's last one that was delivered, it has the newest header of that.
+    fn push(&mut self, place: usize, mark: Mark) -> Result<(), NoMemory> {
+        let number = count_more(&mut self.pushed, mark.number)?;
+        if self.delivered.find(mark.number).copied() == Some(number) {
+            self.keep(place, mark.revision);
         }
+        Ok(())
     }
-    Ok(newest)
+
+    /// Takes the messages that were delivered.
+    fn push_all(&mut self, items: &[Item]) -> Result<(), NoMemory> {
+        for (place, item) in items.iter().enumerate() {
+            let mark = mark_of(item);
+            if mark.kind == Kind::Pushed {
+                self.push(place, mark)?;
+            }
+        }
+        Ok(())
+    }
+
+    /// The newest header of all.
+    fn newest_of(&mut self, items: &[Item], start: usize) -> Result<Option<Newest>, NoMemory> {
+        self.follow_all(items, start)?;
+        self.push_all(items)?;
+        Ok(self.newest)
+    }
 }
 
 /// The newest header that the proxy was given in the life that it has now.
 pub fn newest_given(alloc: Global, items: &[Item], proxy: u64) -> Result<Option<Newest>, NoMemory> {
-    let Some(start) = last(Trace::Begins(proxy), items) else {
-        return Ok(None);
-    };
-    let answer = newest_answer(alloc, items, start, proxy)?;
-    match newest_message(alloc, items, start, proxy)? {
-        Some(message) => Ok(newer(answer, message.place, message.revision)),
-        None => Ok(answer),
+    match last(Trace::Begins(proxy), items) {
+        Some(start) => Given::new(alloc, proxy).newest_of(items, start),
+        None => Ok(None),
     }
 }

@@ -3,17 +3,17 @@
 #![tactic(auto)]
 
 mod given;
+mod marks;
 mod past;
 mod traces;
 mod watches;
 
 pub use given::{Newest, newest_given};
-pub use past::{Past, no_watch};
+pub use marks::{Kind, Mark, is_cancellation, mark_of};
+pub use past::Past;
 pub use traces::{
-    Trace, asked_at, first_in_life, is_cancellation, item_at, last, last_in_life, opened_stream,
-    proxy_at, sent_call,
+    Trace, asked_at, cancelled_at, first_in_life, last, last_in_life, mark_at, proxy_at,
 };
 pub use watches::{
-    Watch, count_taken, event_behind, event_revision, is_created, message_at, next_of, prefix_of,
-    start_of, stored_watch,
+    Watch, count_taken, event_behind, event_revision, is_created, message_at, next_of, start_of,
 };

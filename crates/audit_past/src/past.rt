@@ -1,4 +1,7 @@
+ghost use Rattle.std.specs.Prelude.{◌≤◌};
+
 use crate::traces::item_at;
+use crate::watches::{prefix_of, stored_watch};
 use etcd_types::{Answer, Bytes, Event, KeyRange, List, NoMemory, Request, WatchAsk, WatchItem};
 use replay_parts::{execute_at, expire, nth, open_watch};
 use script_text::Item;
@@ -27,7 +30,7 @@ pub struct Past {
 }
 
 /// A watch of no key.
-pub fn no_watch(alloc: Global) -> WatchAsk {
+fn no_watch(alloc: Global) -> WatchAsk {
     WatchAsk {
         range: KeyRange {
             key: Bytes::new(alloc),
@@ -50,17 +53,28 @@ fn member_of(member: u64) -> u32 {
     }
 }
 
-/// The store of the world that the first item makes.
-fn first_store(alloc: Global, items: &[Item]) -> Result<Store, NoMemory> {
-    let members = match items.first() {
+/// How many members the world has, which the first item makes.
+fn members_of(items: &[Item]) -> u64 {
+    match items.first() {
         Some(Item::World { members, .. }) => *members,
         _ => 1,
-    };
-    if 1 <= members && members <= 9 {
-        Ok(Store::new(alloc, members as u32)?)
-    } else {
-        Ok(Store::new(alloc, 1)?)
     }
+}
+
+/// So many members, where a store has as many.
+fn store_members(members: u64) -> u32
+    ensures { (1 ≤ result) × (result ≤ 9) }
+{
+    if 1 <= members && members <= 9 {
+        members as u32
+    } else {
+        1
+    }
+}
+
+/// The store of the world that the first item makes.
+fn first_store(alloc: Global, items: &[Item]) -> Result<Store, NoMemory> {
+    Store::new(alloc, store_members(members_of(items)))
 }
 
 /// The message, where the store has one.
@@ -117,22 +131,38 @@ fn sent_request(item: Option<&Item>) -> Option<(u64, &Request)> {
 }
 
 impl Past {
-    /// What these items made, with the events for a watch from revision 1 on, which asks for progress.
-    pub fn of(alloc: Global, items: &[Item], watch: &WatchAsk) -> Result<Past, NoMemory> {
-        let mut past = Past {
+    /// The store of the world that the first of these items makes, before it does anything.
+    pub fn new(alloc: Global, items: &[Item]) -> Result<Past, NoMemory> {
+        Ok(Past {
             alloc,
             store: first_store(alloc, items)?,
             compacted: 0,
             calls: Vec::new(alloc),
             made: Vec::new(alloc),
             events: List::new(alloc),
-        };
-        open_watch(&mut past.store, 1, watch)?;
-        past.gather()?;
+        })
+    }
+
+    /// Goes through these items, from the first one on, with the events for no watch.
+    pub fn read(&mut self, items: &[Item]) -> Result<(), NoMemory> {
+        let watch = no_watch(self.alloc);
+        self.read_with(items, &watch)
+    }
+
+    /// The same, with the events for this watch from revision 1 on.
+    pub fn read_for(&mut self, items: &[Item], ask: &WatchAsk) -> Result<(), NoMemory> {
+        let prefix = prefix_of(self.alloc, items)?;
+        let watch = stored_watch(self.alloc, &prefix, ask)?;
+        self.read_with(items, &watch)
+    }
+
+    fn read_with(&mut self, items: &[Item], watch: &WatchAsk) -> Result<(), NoMemory> {
+        open_watch(&mut self.store, 1, watch)?;
+        self.gather()?;
         for (place, item) in items.iter().enumerate() {
-            past.follow(items, place, item)?;
+            self.follow(items, place, item)?;
         }
-        Ok(past)
+        Ok(())
     }
 
     /// Goes on by an item, which may have made a revision.

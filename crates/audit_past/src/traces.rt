@@ -1,6 +1,7 @@
 // Where the items before a refused one tell something of it.
 
-use etcd_types::{Answer, Body, Request, WatchItem};
+use crate::marks::{Kind, Mark, mark_of};
+use etcd_types::Request;
 use script_text::Item;
 
 /// What an item is looked for by. Of two numbers the first is the proxy's, and the second a ticket's.
@@ -35,194 +36,104 @@ pub enum Trace {
     Applies(u64),
 }
 
-fn begins(proxy: u64, item: &Item) -> bool {
-    match item {
-        Item::Started { proxy: p } => *p == proxy,
-        Item::Restarted { proxy: p } => *p == proxy,
-        _ => false,
+/// An item of this kind or role, and of these numbers where they are said.
+#[derive(Clone, Copy)]
+struct Sought {
+    kind: Kind,
+    proxy: Option<u64>,
+    number: Option<u64>,
+    lease: Option<u64>,
+}
+
+fn any(kind: Kind) -> Sought {
+    Sought {
+        kind,
+        proxy: None,
+        number: None,
+        lease: None,
     }
 }
 
-fn sets_clock(proxy: u64, item: &Item) -> bool {
-    match item {
-        Item::Clock { proxy: p, .. } => *p == proxy,
-        _ => false,
+fn of_proxy(kind: Kind, proxy: u64) -> Sought {
+    Sought {
+        kind,
+        proxy: Some(proxy),
+        number: None,
+        lease: None,
     }
 }
 
-fn asks(proxy: u64, ticket: u64, item: &Item) -> bool {
-    match item {
-        Item::Asked {
-            proxy: p,
-            ticket: t,
-            ..
-        } => *p == proxy && *t == ticket,
-        _ => false,
+fn of_ticket(kind: Kind, proxy: u64, ticket: u64) -> Sought {
+    Sought {
+        kind,
+        proxy: Some(proxy),
+        number: Some(ticket),
+        lease: None,
     }
 }
 
-fn gives(proxy: u64, ticket: u64, item: &Item) -> bool {
-    match item {
-        Item::Posted {
-            proxy: p,
-            ticket: t,
-            ..
-        } => *p == proxy && *t == ticket,
-        _ => asks(proxy, ticket, item),
+fn of_number(kind: Kind, number: u64) -> Sought {
+    Sought {
+        kind,
+        proxy: None,
+        number: Some(number),
+        lease: None,
     }
 }
 
-fn replies(proxy: u64, ticket: u64, item: &Item) -> bool {
-    match item {
-        Item::Reply {
-            proxy: p,
-            ticket: t,
-            ..
-        } => *p == proxy && *t == ticket,
-        _ => false,
+fn of_lease(kind: Kind, lease: u64) -> Sought {
+    Sought {
+        kind,
+        proxy: None,
+        number: None,
+        lease: Some(lease),
     }
 }
 
-fn takes(proxy: u64, ticket: u64, item: &Item) -> bool {
-    match item {
-        Item::Taken {
-            proxy: p,
-            ticket: t,
-            ..
-        } => *p == proxy && *t == ticket,
-        _ => false,
-    }
-}
-
-/// The number of the call that the item sends.
-pub fn sent_call(item: &Item) -> Option<u64> {
-    match item {
-        Item::Sent { call, .. } => Some(*call),
-        _ => None,
-    }
-}
-
-/// The number of the stream that the item opens.
-pub fn opened_stream(item: &Item) -> Option<u64> {
-    match item {
-        Item::Opened { stream, .. } => Some(*stream),
-        _ => None,
-    }
-}
-
-fn executes(call: u64, item: &Item) -> bool {
-    match item {
-        Item::Executed { call: c, .. } => *c == call,
-        _ => false,
-    }
-}
-
-fn settles(call: u64, item: &Item) -> bool {
-    match item {
-        Item::Answered { call: c } => *c == call,
-        Item::Lost { call: c } => *c == call,
-        _ => false,
-    }
-}
-
-fn pushes(stream: u64, item: &Item) -> bool {
-    match item {
-        Item::Pushed { stream: s, .. } => *s == stream,
-        _ => false,
-    }
-}
-
-/// Whether the message ends its watch.
-pub fn is_cancellation(message: &WatchItem) -> bool {
-    match message {
-        WatchItem::Canceled { .. } => true,
-        _ => false,
-    }
-}
-
-fn cancels(stream: u64, item: &Item) -> bool {
-    match item {
-        Item::Pushed { stream: s, item } => *s == stream && is_cancellation(item),
-        _ => false,
-    }
-}
-
-fn ends(stream: u64, item: &Item) -> bool {
-    match item {
-        Item::Cut { stream: s } => *s == stream,
-        Item::Closed { stream: s, .. } => *s == stream,
-        _ => false,
-    }
-}
-
-/// What the item answers to a call, where it was done.
-fn answered_body(item: &Item) -> Option<&Body> {
-    match item {
-        Item::Executed { answer, .. } => match answer {
-            Answer::Done(reply) => Some(&reply.body),
-            Answer::Refused(_) => None,
-        },
-        _ => None,
-    }
-}
-
-fn grants(lease: u64, item: &Item) -> bool {
-    match answered_body(item) {
-        Some(Body::Grant { lease: l, .. }) => *l == lease,
-        _ => false,
-    }
-}
-
-fn keeps(lease: u64, item: &Item) -> bool {
-    match answered_body(item) {
-        Some(Body::KeepAlive { lease: l, ttl }) => *l == lease && *ttl != 0,
-        _ => false,
-    }
-}
-
-fn expires(lease: u64, item: &Item) -> bool {
-    match item {
-        Item::Expired { lease: l } => *l == lease,
-        _ => false,
-    }
-}
-
-fn applies(member: u64, item: &Item) -> bool {
-    match item {
-        Item::Applied { member: m, .. } => *m == member,
-        _ => false,
-    }
-}
-
-fn is_told(trace: Trace, item: &Item) -> bool {
+fn sought_by(trace: Trace) -> Sought {
     match trace {
-        Trace::Begins(proxy) => begins(proxy, item),
-        Trace::Clock(proxy) => sets_clock(proxy, item),
-        Trace::Gives(proxy, ticket) => gives(proxy, ticket, item),
-        Trace::Asks(proxy, ticket) => asks(proxy, ticket, item),
-        Trace::Replies(proxy, ticket) => replies(proxy, ticket, item),
-        Trace::Takes(proxy, ticket) => takes(proxy, ticket, item),
-        Trace::Sends(call) => sent_call(item) == Some(call),
-        Trace::Calls => sent_call(item).is_some(),
-        Trace::Executes(call) => executes(call, item),
-        Trace::Settles(call) => settles(call, item),
-        Trace::Opens(stream) => opened_stream(item) == Some(stream),
-        Trace::Streams => opened_stream(item).is_some(),
-        Trace::Pushes(stream) => pushes(stream, item),
-        Trace::Cancels(stream) => cancels(stream, item),
-        Trace::Ends(stream) => ends(stream, item),
-        Trace::Grants(lease) => grants(lease, item),
-        Trace::Keeps(lease) => keeps(lease, item),
-        Trace::Expires(lease) => expires(lease, item),
-        Trace::Applies(member) => applies(member, item),
+        Trace::Begins(proxy) => of_proxy(Kind::Begins, proxy),
+        Trace::Clock(proxy) => of_proxy(Kind::Clock, proxy),
+        Trace::Gives(proxy, ticket) => of_ticket(Kind::Gives, proxy, ticket),
+        Trace::Asks(proxy, ticket) => of_ticket(Kind::Asked, proxy, ticket),
+        Trace::Replies(proxy, ticket) => of_ticket(Kind::Reply, proxy, ticket),
+        Trace::Takes(proxy, ticket) => of_ticket(Kind::Taken, proxy, ticket),
+        Trace::Sends(call) => of_number(Kind::Sent, call),
+        Trace::Calls => any(Kind::Sent),
+        Trace::Executes(call) => of_number(Kind::Executed, call),
+        Trace::Settles(call) => of_number(Kind::Settles, call),
+        Trace::Opens(stream) => of_number(Kind::Opened, stream),
+        Trace::Streams => any(Kind::Opened),
+        Trace::Pushes(stream) => of_number(Kind::Pushed, stream),
+        Trace::Cancels(stream) => of_number(Kind::Cancels, stream),
+        Trace::Ends(stream) => of_number(Kind::Ends, stream),
+        Trace::Grants(lease) => of_lease(Kind::Grants, lease),
+        Trace::Keeps(lease) => of_lease(Kind::Keeps, lease),
+        Trace::Expires(lease) => of_number(Kind::Expired, lease),
+        Trace::Applies(member) => of_number(Kind::Applied, member),
     }
+}
+
+fn fits(wanted: Option<u64>, number: u64) -> bool {
+    match wanted {
+        Some(wanted) => wanted == number,
+        None => true,
+    }
+}
+
+fn is_told(sought: Sought, mark: Mark) -> bool {
+    (mark.kind == sought.kind || mark.role == sought.kind)
+        && fits(sought.proxy, mark.proxy)
+        && fits(sought.number, mark.number)
+        && fits(sought.lease, mark.lease)
 }
 
 /// The place, from 0, of the last item that tells this.
 pub fn last(trace: Trace, items: &[Item]) -> Option<usize> {
+    let sought = sought_by(trace);
     let mut found = None;
     for (place, item) in items.iter().enumerate() {
-        if is_told(trace, item) {
+        if is_told(sought, mark_of(item)) {
             found = Some(place);
         }
     }
@@ -238,9 +149,21 @@ pub fn last_in_life(trace: Trace, proxy: u64, items: &[Item]) -> Option<usize> {
 
 /// The place of the first item that tells this in the life that the proxy has now.
 pub fn first_in_life(trace: Trace, proxy: u64, items: &[Item]) -> Option<usize> {
+    let sought = sought_by(trace);
     let start = last(Trace::Begins(proxy), items)?;
     for (place, item) in items.iter().enumerate() {
-        if start <= place && is_told(trace, item) {
+        if start <= place && is_told(sought, mark_of(item)) {
+            return Some(place);
+        }
+    }
+    None
+}
+
+/// The place of the first pushed message that ends its watch with this compaction revision.
+pub fn cancelled_at(items: &[Item], compaction: u64) -> Option<usize> {
+    for (place, item) in items.iter().enumerate() {
+        let mark = mark_of(item);
+        if mark.role == Kind::Cancels && mark.value == compaction {
             return Some(place);
         }
     }
@@ -255,6 +178,14 @@ pub fn item_at(items: &[Item], place: Option<usize>) -> Option<&Item> {
     }
 }
 
+/// What the item at the place is of, where there is one.
+pub fn mark_at(items: &[Item], place: Option<usize>) -> Option<Mark> {
+    match item_at(items, place) {
+        Some(item) => Some(mark_of(item)),
+        None => None,
+    }
+}
+
 /// What was asked at the place.
 pub fn asked_at(items: &[Item], place: Option<usize>) -> Option<&Request> {
     match item_at(items, place) {
@@ -265,9 +196,8 @@ pub fn asked_at(items: &[Item], place: Option<usize>) -> Option<&Request> {
 
 /// The proxy that sends a call or opens a stream at the place.
 pub fn proxy_at(items: &[Item], place: Option<usize>) -> Option<u64> {
-    match item_at(items, place) {
-        Some(Item::Sent { proxy, .. }) => Some(*proxy),
-        Some(Item::Opened { proxy, .. }) => Some(*proxy),
-        _ => None,
+    match mark_at(items, place) {
+        Some(mark) => Some(mark.proxy),
+        None => None,
     }
 }

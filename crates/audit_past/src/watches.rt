@@ -120,7 +120,7 @@ pub fn next_of(items: &[Item], watch: Watch, start: u64) -> u64 {
 }
 
 /// The watch as it looks at the store: an empty key is read as one zero byte, and records before changes are asked for.
-pub fn stored_watch(
+pub(crate) fn stored_watch(
     alloc: Global,
     namespace: &Bytes,
     ask: &WatchAsk,
@@ -137,7 +137,7 @@ pub fn stored_watch(
 }
 
 /// The bytes of the world's namespace.
-pub fn prefix_of(alloc: Global, items: &[Item]) -> Result<Bytes, NoMemory> {
+pub(crate) fn prefix_of(alloc: Global, items: &[Item]) -> Result<Bytes, NoMemory> {
     match items.first() {
         Some(Item::World { namespace, .. }) => namespace.copy(alloc),
         _ => Ok(Bytes::new(alloc)),

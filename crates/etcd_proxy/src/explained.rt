@@ -73,7 +73,7 @@ fn explain_kept<S: Source, K: Sink, E: Sink>(
     }
 }
 
-/// The line of the fault, and behind it what is said of it. Where memory was wanting to make that, it is the line alone.
+/// The line of the fault, and behind it what is said of it. Where memory was wanting for that, it is the line alone.
 fn explained_text(
     alloc: Global,
     number: u64,
@@ -85,8 +85,17 @@ fn explained_text(
     let mut text = refused_text(alloc, number, refusal)?;
     if let Some(read) = read {
         if let Ok(more) = explanation(alloc, read.as_slice(), number, refusal) {
-            text.extend_from_slice(more.as_slice())?;
+            push_explanation(&mut text, more.as_slice());
         }
     }
     Ok(text)
+}
+
+/// Puts what is said of it behind the fault's line, where there is memory for that.
+fn push_explanation(text: &mut Vec<u8>, explanation: &[u8])
+    ensures { BeginsWith text.new.items text.old.items }
+{
+    match text.extend_from_slice(explanation) {
+        Ok(()) | Err(_) => {}
+    }
 }
