@@ -14,6 +14,3 @@ pub use place::StorePlace;
 pub use serve::serve_store;
 pub use shop_dialog::StoreEnd;
 pub use store_machine::{StoreEvent, StoreMachine, StoreOutcome, StoreStepFault};
-
-#[cfg(test)]
-mod tests;
