@@ -246,7 +246,7 @@ class Build:
         memory = self.memory - sum(it.memory() for it in self.running)
         while ready and free > 0 and (ready[0].memory <= memory or not self.running):
             serves = 1 + max(int((memory - ready[0].memory) // MEMORY_EACH), 0)
-            jobs = max(min(free // len(ready), serves, MOST_JOBS), 1)
+            jobs = min(math.ceil(free / len(ready)), serves, MOST_JOBS)
             self.start(ready.pop(0), jobs)
             free -= jobs
             memory -= self.running[-1].memory()
