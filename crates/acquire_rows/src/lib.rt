@@ -3,7 +3,5 @@
 
 mod acquires;
 mod dues;
-#[cfg(test)]
-mod tests;
 
 pub use acquires::{Acquires, DueAcquire};

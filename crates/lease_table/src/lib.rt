@@ -323,6 +323,3 @@ fn is_zero(bytes: &[u8]) -> bool
         _ => false,
     }
 }
-
-#[cfg(test)]
-mod tests;

@@ -44,6 +44,3 @@ pub use source::{Failed, Source};
 pub use streams::{Reading, Writing};
 pub use system_clock::SystemClock;
 pub use system_draw::SystemDraw;
-
-#[cfg(test)]
-mod tests;

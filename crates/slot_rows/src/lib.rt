@@ -97,8 +97,8 @@ impl<V> SlotRows<V> {
         }
     }
 
-    /// What is kept at the key, where a hint tells its slot.
-    fn hinted(&self, key: &Bytes) -> Option<&V>
+    /// What is kept at the key, where a hint tells its slot: most keys have one.
+    pub fn hinted(&self, key: &Bytes) -> Option<&V>
         ensures { IfSome result (λ value. Some value.now ≡ at self.now.rows key.now) }
     {
         let number = key_number(key);
@@ -196,6 +196,3 @@ impl<V: Drop> SlotRows<V> {
         Ok(())
     }
 }
-
-#[cfg(test)]
-mod tests;

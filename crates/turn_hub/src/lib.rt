@@ -30,6 +30,3 @@ pub use hub::{Hub, HubOf};
 pub use pass::{Pass, PassOf};
 pub use view::Opening;
 pub use waiting::LONGEST_REST_SECONDS;
-
-#[cfg(test)]
-mod tests;

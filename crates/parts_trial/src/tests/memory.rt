@@ -1,5 +1,9 @@
-use super::*;
 use etcd_types::{Bytes, List, Request};
+use outside::{
+    AnswerEnd, CallKind, Clock, Draw, Failed, Host, Link, LinkFault, MemClock, MemDraw, MemHost,
+    MemLink, MemSink, MemSource, MemSpawner, Part, ReadMark, Reading, RequestKind, Sink, Source,
+    Spawner, TicketRange, Writing, write_whole,
+};
 use std::alloc::Global;
 use std::io;
 use std::test::Fail;

@@ -2,7 +2,9 @@ ghost use Rattle.std.specs.Prelude.{◌≡◌};
 ghost use Rattle.proxy_model.specs.Keyed.{at};
 ghost use Rattle.proxy_model.specs.LeaseTable.{is_held, is_writing};
 
-use super::*;
+use etcd_types::{Bytes, KeyRange, Kv};
+use lease_table::{Entry, LeaseTable, Phase};
+use std::alloc::Global;
 use std::test::Fail;
 
 fn holds(table: &LeaseTable, key: &Bytes) -> bool

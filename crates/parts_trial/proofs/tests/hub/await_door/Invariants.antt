@@ -1,5 +1,5 @@
 use Rattle.std.proofs.Common.{◌≡◌}
-use Rattle.turn_hub.proofs.tests.await_door.Given as goal
+use Rattle.parts_trial.proofs.tests.hub.await_door.Given as goal
 
 abbrev pub invariant-loop : goal.invariant-loop
 invariant-loop g l =

@@ -1,4 +1,4 @@
-use crate::Acquires;
+use acquire_rows::Acquires;
 use etcd_types::Bytes;
 use std::alloc::Global;
 use std::test::Fail;

@@ -1,7 +1,6 @@
 ghost use Rattle.std.specs.Prelude.{◌≡◌};
 ghost use Rattle.std.specs.Arc.{arc_value};
 
-use crate::{Hub, HubFault, LONGEST_REST_SECONDS, Pass};
 use outside::{Clock, Machine, MemClock, Roused};
 use std::alloc::Global;
 use std::rt::Clock as Times;
@@ -11,6 +10,7 @@ use std::sync::{Arc, Wait};
 use std::test::Fail;
 use std::thread;
 use std::time::{Duration, Instant};
+use turn_hub::{Hub, HubFault, LONGEST_REST_SECONDS, Pass};
 
 // Answers how many steps it has made, and refuses each event that is true, which counts as a step too.
 #[derive(Drop)]

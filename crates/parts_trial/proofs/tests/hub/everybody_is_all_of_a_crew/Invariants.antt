@@ -1,5 +1,5 @@
 use Rattle.std.proofs.Common.{◌≡◌}
-use Rattle.turn_hub.proofs.tests.everybody_is_all_of_a_crew.Given as goal
+use Rattle.parts_trial.proofs.tests.hub.everybody_is_all_of_a_crew.Given as goal
 
 abbrev pub invariant-loop : goal.invariant-loop
 invariant-loop g l = l.first.hub ≡ l.hub.value

@@ -1,0 +1,7 @@
+mod acquires;
+mod clocks;
+mod draws;
+mod hub;
+mod leases;
+mod memory;
+mod rows;
