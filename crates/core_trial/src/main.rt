@@ -56,41 +56,74 @@ mod watches;
 mod writes;
 
 use crate::tables::{Table, Tables};
+use std::alloc::Global;
 use table_rows::Wrong;
 
-fn main(rt: HostRuntime) -> Result<(), Wrong> {
-    let alloc = rt.alloc();
-    let mut tables = Tables::new(alloc)?;
-    let mut table: Option<Table> = None;
-    let mut outcomes = 0u64;
-    let mut differing = 0u64;
-    for line in rt.lines(alloc) {
-        let line = line?;
-        let line = line.as_str();
-        if let Some(name) = line.strip_prefix("table ") {
-            if let Some(last) = table {
-                println!(rt; "{}: {outcomes} outcomes, {differing} differ", last.name())?;
-            }
-            table = Some(Table::named(name)?);
-            outcomes = 0;
-            differing = 0;
-        } else if !line.is_empty() && !line.starts_with("#") {
-            let table = table.ok_or(Wrong::Word)?;
-            match line.strip_prefix("= ") {
-                None => tables.step(table, line)?,
-                Some(wanted) => {
-                    outcomes = outcomes.saturating_add(1);
-                    let came = tables.told(table);
-                    if came != wanted {
-                        differing = differing.saturating_add(1);
-                        println!(rt; "wanted {wanted}\ncame   {came}")?;
-                    }
-                }
-            }
+/// The table that is being tried, and how many of its outcomes there were and differed.
+#[derive(Clone, Copy, Debug)]
+struct Tried {
+    table: Option<Table>,
+    outcomes: u64,
+    differing: u64,
+}
+
+impl Tried {
+    fn new(table: Option<Table>) -> Tried {
+        Tried {
+            table,
+            outcomes: 0,
+            differing: 0,
         }
     }
-    if let Some(last) = table {
-        println!(rt; "{}: {outcomes} outcomes, {differing} differ", last.name())?;
+
+    /// Takes a line: the name of the next table, a step, or what is to have come of the last one.
+    fn take<R: Print>(&mut self, rt: &R, tables: &mut Tables, line: &str) -> Result<(), Wrong> {
+        if let Some(name) = line.strip_prefix("table ") {
+            self.show(rt)?;
+            *self = Tried::new(Some(Table::named(name)?));
+        } else if !line.is_empty() && !line.starts_with("#") {
+            let table = self.table.ok_or(Wrong::Word)?;
+            match line.strip_prefix("= ") {
+                None => tables.step(table, line)?,
+                Some(wanted) => self.compare(rt, tables.told(table), wanted)?,
+            }
+        }
+        Ok(())
     }
-    Ok(())
+
+    fn compare<R: Print>(&mut self, rt: &R, came: &str, wanted: &str) -> Result<(), Wrong> {
+        self.outcomes = self.outcomes.saturating_add(1);
+        if came != wanted {
+            self.differing = self.differing.saturating_add(1);
+            println!(rt; "wanted {wanted}\ncame   {came}")?;
+        }
+        Ok(())
+    }
+
+    /// Shows the counts of the table, where there is one.
+    fn show<R: Print>(&self, rt: &R) -> Result<(), Wrong> {
+        if let Some(table) = self.table {
+            let (outcomes, differing) = (self.outcomes, self.differing);
+            println!(rt; "{}: {outcomes} outcomes, {differing} differ", table.name())?;
+        }
+        Ok(())
+    }
+}
+
+/// Tries all tables of the input.
+fn try_tables<R: Input + Print>(rt: &R, alloc: Global, tables: &mut Tables) -> Result<(), Wrong> {
+    let mut tried = Tried::new(None);
+    for line in rt.lines(alloc) {
+        let line = line?;
+        tried.take(rt, tables, line.as_str())?;
+    }
+    tried.show(rt)
+}
+
+fn main(rt: HostRuntime) -> Result<(), Wrong> {
+    // What the steps are taken on is large, and each way out of who owns it is dear to prove: others borrow it.
+    let mut tables = Tables::new(rt.alloc())?;
+    let told = try_tables(&rt, rt.alloc(), &mut tables);
+    drop(tables);
+    told
 }

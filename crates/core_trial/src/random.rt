@@ -58,8 +58,16 @@ impl Random {
         header_at(self.newest)
     }
 
+    /// So many steps, behind which all that is due is sent, pushed and taken.
+    pub fn run(&mut self, steps: u64) -> Result<(), Wrong> {
+        for _ in 0..steps {
+            self.step()?;
+        }
+        self.settle()
+    }
+
     /// One call, or a change of the store.
-    pub fn step(&mut self) -> Result<(), Wrong> {
+    fn step(&mut self) -> Result<(), Wrong> {
         match self.draw.below(16) {
             0..3 => {
                 let more = self.draw.below(4);
@@ -290,7 +298,7 @@ impl Random {
     }
 
     /// All that is due is sent, pushed and taken, until nothing is left.
-    pub fn settle(&mut self) -> Result<(), Wrong> {
+    fn settle(&mut self) -> Result<(), Wrong> {
         for _ in 0..200 {
             for _ in 0..self.takers.len().saturating_mul(2) {
                 self.send()?;

@@ -138,17 +138,12 @@ impl Watches {
 
     fn run_random(&mut self, seed: u64, steps: u64) -> Result<(), Wrong> {
         let mut random = Random::new(self.alloc, seed);
-        for _ in 0..steps {
-            random.step()?;
-        }
-        random.settle()?;
-        let behind = random.behind();
+        let done = random.run(steps);
+        let (wrong, behind) = (random.wrong, random.behind());
         let many = random.items >= steps / 10;
-        write!(
-            self.told,
-            "{} wrong, {behind} behind, many: {many}",
-            random.wrong
-        )?;
+        drop(random);
+        done?;
+        write!(self.told, "{wrong} wrong, {behind} behind, many: {many}")?;
         Ok(())
     }
 

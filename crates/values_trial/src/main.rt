@@ -78,41 +78,83 @@ mod tables;
 mod values;
 
 use crate::tables::{Table, Tables};
+use std::alloc::Global;
 use table_rows::Wrong;
 
-fn main(rt: HostRuntime) -> Result<(), Wrong> {
-    let alloc = rt.alloc();
-    let mut tables = Tables::new(alloc)?;
-    let mut table: Option<Table> = None;
-    let mut rows = 0u64;
-    let mut differing = 0u64;
-    for line in rt.lines(alloc) {
-        let line = line?;
-        let line = line.as_str();
+/// The table that is being tried, and how many of its rows there were and differed.
+#[derive(Clone, Copy, Debug)]
+struct Tried {
+    table: Option<Table>,
+    rows: u64,
+    differing: u64,
+}
+
+impl Tried {
+    fn new(table: Option<Table>) -> Tried {
+        Tried {
+            table,
+            rows: 0,
+            differing: 0,
+        }
+    }
+
+    /// Takes a line: the name of the next table, a row, or what is prepared for rows.
+    fn take<R: Print>(&mut self, rt: &R, tables: &mut Tables, line: &str) -> Result<(), Wrong> {
         if let Some(name) = line.strip_prefix("table ") {
-            if let Some(last) = table {
-                println!(rt; "{}: {rows} rows, {differing} differ", last.name())?;
-            }
-            table = Some(Table::named(name)?);
-            rows = 0;
-            differing = 0;
+            self.show(rt)?;
+            *self = Tried::new(Some(Table::named(name)?));
         } else if !line.is_empty() && !line.starts_with("#") {
-            let table = table.ok_or(Wrong::Word)?;
+            let table = self.table.ok_or(Wrong::Word)?;
             match line.split_once(" -> ") {
                 None => tables.prepare(line)?,
                 Some((case, wanted)) => {
-                    rows = rows.saturating_add(1);
                     let came = tables.came_of(table, case)?;
-                    if came.as_str() != wanted {
-                        differing = differing.saturating_add(1);
-                        println!(rt; "{line}\ncame {came}")?;
-                    }
+                    self.compare(rt, line, came.as_str(), wanted)?;
                 }
             }
         }
+        Ok(())
     }
-    if let Some(last) = table {
-        println!(rt; "{}: {rows} rows, {differing} differ", last.name())?;
+
+    fn compare<R: Print>(
+        &mut self,
+        rt: &R,
+        line: &str,
+        came: &str,
+        wanted: &str,
+    ) -> Result<(), Wrong> {
+        self.rows = self.rows.saturating_add(1);
+        if came != wanted {
+            self.differing = self.differing.saturating_add(1);
+            println!(rt; "{line}\ncame {came}")?;
+        }
+        Ok(())
     }
-    Ok(())
+
+    /// Shows the counts of the table, where there is one.
+    fn show<R: Print>(&self, rt: &R) -> Result<(), Wrong> {
+        if let Some(table) = self.table {
+            let (rows, differing) = (self.rows, self.differing);
+            println!(rt; "{}: {rows} rows, {differing} differ", table.name())?;
+        }
+        Ok(())
+    }
+}
+
+/// Tries all tables of the input.
+fn try_tables<R: Input + Print>(rt: &R, alloc: Global, tables: &mut Tables) -> Result<(), Wrong> {
+    let mut tried = Tried::new(None);
+    for line in rt.lines(alloc) {
+        let line = line?;
+        tried.take(rt, tables, line.as_str())?;
+    }
+    tried.show(rt)
+}
+
+fn main(rt: HostRuntime) -> Result<(), Wrong> {
+    // What the rows are tried on is large, and each way out of who owns it is dear to prove: others borrow it.
+    let mut tables = Tables::new(rt.alloc())?;
+    let told = try_tables(&rt, rt.alloc(), &mut tables);
+    drop(tables);
+    told
 }
