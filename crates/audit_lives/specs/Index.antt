@@ -1,5 +1,5 @@
 -- What an index of items tells: for each look-up the first place that tells it, and counts; and what is reported of them.
-use Rattle.std.specs.Prelude.{◌≡◌, ◌≤◌, ◌-◌, ℕ, false, List, length, drop, count_by, nat_lt}
+use Rattle.std.specs.Prelude.{◌≡◌, ◌≤◌, ◌-◌, ℕ, false, List, [], ◌∷◌, ◌++◌, length, drop, count_by, nat_lt}
 use Rattle.first_places.specs.Firsts.{Firsts}
 use Rattle.first_places.specs.Places.{is_number, value_at}
 use Rattle.script_text.specs.declared.item.Item.{Item}
@@ -69,3 +69,12 @@ pub record TellsAll (index : Index) (items : List Item) : Type 0 where
   pub calls : TellsCalls index.calls items
   pub streams : TellsStreams index.streams items
   pub sums : TellsSums index.sums (value_at index.lives.starts) items
+
+-- what it tells where all but what it keeps of the items has gone on by this item
+pub record TellsNext (index : Index) (items : List Item) (item : Item) : Type 0 where
+  pub count : index.count ≡ length items
+  pub kept : index.kept ≡ keeps items
+  pub lives : TellsLives index.lives (items ++ item ∷ [])
+  pub calls : TellsCalls index.calls (items ++ item ∷ [])
+  pub streams : TellsStreams index.streams (items ++ item ∷ [])
+  pub sums : TellsSums index.sums (value_at index.lives.starts) (items ++ item ∷ [])

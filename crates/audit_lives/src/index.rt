@@ -1,11 +1,11 @@
-ghost use Rattle.std.specs.Prelude.{◌≡◌, ℕ, true, ◌++◌, ◌∷◌, [], List as Values, length, IfOk, OnOk};
+ghost use Rattle.std.specs.Prelude.{◌≡◌, ◌<◌, ℕ, true, ◌++◌, ◌∷◌, [], List as Values, length, IfOk, OnOk};
 ghost use Rattle.audit_model.specs.Calls.{sender_of as first_sender};
 ghost use Rattle.audit_model.specs.Streams.{opener_of as first_opener};
 ghost use Rattle.std.specs.List.{list_any};
 ghost use Rattle.audit_model.specs.Takes.{pushes_cancellation};
 ghost use Rattle.audit_model.specs.Summaries.{summary as summary_of};
 ghost use Rattle.first_places.specs.Places.{is_number};
-ghost use Rattle.audit_lives.specs.Index.{TellsAll, life_start as start_of_life};
+ghost use Rattle.audit_lives.specs.Index.{TellsAll, TellsNext, life_start as start_of_life};
 ghost use Rattle.std.specs.Option.{option_copied, option_map};
 ghost use Rattle.audit_lives.specs.Given.{message_revision, reply_revision};
 ghost use Rattle.audit_model.specs.Order.{is_member as is_of_members};
@@ -176,17 +176,27 @@ impl Index {
     pub fn take(&mut self, item: Item) -> Result<(), NoMemory>
         ensures { OnOk result ((items : Values Told) → TellsAll self.old items → TellsAll self.new (items ++ item ∷ [])) }
     {
+        // What owns an item is dear to prove over each way out: others borrow it.
+        self.note(&item)?;
+        let kept = keep(self.alloc, item)?;
+        self.kept.push(kept)?;
+        self.count += 1;
+        Ok(())
+    }
+
+    /// Notes what the next item tells, but for itself.
+    fn note(&mut self, item: &Item) -> Result<(), NoMemory>
+        ensures told { OnOk result ((items : Values Told) → TellsAll self.old items → TellsNext self.new items item.now) }
+        ensures few { OnOk result (self.new.count < MOST_ITEMS) }
+    {
         if self.count >= MOST_ITEMS {
             return Err(NoMemory);
         }
         self.sums
-            .follow(&self.lives, self.kept.as_slice(), &item, self.count)?;
-        self.lives.take(&item, self.count)?;
-        self.calls.take(&item, self.count)?;
-        self.streams.take(&item, self.count)?;
-        let kept = keep(self.alloc, item)?;
-        self.kept.push(kept)?;
-        self.count += 1;
+            .follow(&self.lives, self.kept.as_slice(), item, self.count)?;
+        self.lives.take(item, self.count)?;
+        self.calls.take(item, self.count)?;
+        self.streams.take(item, self.count)?;
         Ok(())
     }
 }
