@@ -1,5 +1,5 @@
 -- What is kept of what proxies and sessions were given, in place of the items that tell it, and where the items tell what is looked up.
-use Rattle.std.specs.Prelude.{◌≡◌, ℕ, Bool, false, ◌==◌, max, if◌then◌else◌, List, [], ◌∷◌, Option, None, Some}
+use Rattle.std.specs.Prelude.{◌≡◌, ℕ, Bool, false, ◌==◌, max, if◌then◌else◌, List, [], ◌∷◌, ◌++◌, Option, None, Some}
 use Rattle.script_text.specs.declared.item.Item.{Item}
 use Rattle.world_model.specs.Places.{kept_at}
 use Rattle.world_model.specs.Reads.{given}
@@ -43,3 +43,11 @@ pub record Gave (g : Given) (items : List Item) : Type 0 where
   pub newest : KeepsNewest g.newest items
   pub index : TellsAll g.index items
   pub takings : Follows g.takings items
+
+-- the same where all but the index has gone on by this item
+pub record GaveNext (g : Given) (items : List Item) (item : Item) : Type 0 where
+  pub floors : g.floors ≡ reported_floors (items ++ item ∷ [])
+  pub leases : KeepsLeases g.leases (items ++ item ∷ [])
+  pub newest : KeepsNewest g.newest (items ++ item ∷ [])
+  pub index : TellsAll g.index items
+  pub takings : Follows g.takings (items ++ item ∷ [])

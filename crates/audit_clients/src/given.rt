@@ -1,6 +1,6 @@
 ghost use Rattle.std.specs.Prelude.{◌≡◌, ◌++◌, ◌∷◌, ◌==◌, [], nat_le, true, List as Values, IfOk, OnOk};
 ghost use Rattle.std.specs.List.{list_all};
-ghost use Rattle.audit_clients.specs.Given.{Forgets, Gave, KeepsNewest, Raises, is_one, newest_at};
+ghost use Rattle.audit_clients.specs.Given.{Forgets, Gave, GaveNext, KeepsNewest, Raises, is_one, newest_at};
 ghost use Rattle.audit_clients.specs.Takings.{TicketOk};
 ghost use Rattle.audit_lives.specs.Index.{TellsAll};
 ghost use Rattle.audit_model.specs.Order.{in_order};
@@ -85,11 +85,20 @@ impl Given {
     pub fn take(&mut self, item: Item) -> Result<(), NoMemory>
         ensures { OnOk result ((items : Values Told) → in_order items item ≡ true → takes_so items item ≡ true → Gave self.old items → Gave self.new (items ++ item ∷ [])) }
     {
-        raise_by(&mut self.floors, &self.leases, &item)?;
-        note_call(&mut self.leases, &self.index, &item)?;
-        renew(&mut self.newest, &self.index, &item)?;
-        self.takings.follow(&self.index, &item)?;
+        // What owns an item is dear to prove over each way out: others borrow it.
+        self.note(&item)?;
         self.index.take(item)?;
+        Ok(())
+    }
+
+    /// Notes what is given by the next item, but where it tells it.
+    fn note(&mut self, item: &Item) -> Result<(), NoMemory>
+        ensures { OnOk result ((items : Values Told) → in_order items item.now ≡ true → takes_so items item.now ≡ true → Gave self.old items → GaveNext self.new items item.now) }
+    {
+        raise_by(&mut self.floors, &self.leases, item)?;
+        note_call(&mut self.leases, &self.index, item)?;
+        renew(&mut self.newest, &self.index, item)?;
+        self.takings.follow(&self.index, item)?;
         Ok(())
     }
 }

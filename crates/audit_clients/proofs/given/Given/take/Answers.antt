@@ -1,14 +1,11 @@
--- Floors and revisions go on by one item.
-use Rattle.std.proofs.Common.{◌∙◌, ap, sym}
-use Rattle.audit_model.specs.Floors.{floors_by}
-use Rattle.audit_clients.proofs.Sent.{floors_next}
+-- The index goes on too.
 use Rattle.audit_clients.proofs.given.Given.take.Goals as goal
 
 pub returns : goal.returns
 returns c = λ items ordered takes g. record {
-  floors = c.in_ok-raise_by.ensures items g.leases ∙ ap (floors_by items c.args.item) g.floors ∙ sym (floors_next items c.args.item);
-  leases = c.in_ok-note_call.ensures items g.index g.leases;
-  newest = c.in_ok-renew.ensures items g.index g.newest;
-  index = c.in_ok-take.ensures items g.index;
-  takings = c.in_ok-follow.ensures items g.index ordered takes g.takings;
+  floors = (c.in_ok-note.ensures items ordered takes g).floors;
+  leases = (c.in_ok-note.ensures items ordered takes g).leases;
+  newest = (c.in_ok-note.ensures items ordered takes g).newest;
+  index = c.in_ok-take.ensures items (c.in_ok-note.ensures items ordered takes g).index;
+  takings = (c.in_ok-note.ensures items ordered takes g).takings;
 }
