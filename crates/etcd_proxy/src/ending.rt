@@ -1,3 +1,4 @@
+// What words do that serve nobody. An unproved build that serves alone has a shorter text in its place (tools/one_crate.py).
 ghost use Rattle.std.specs.Prelude.{◌≡◌, ◌≢◌, ◌≤◌, ◌↔◌, ℕ, Some, None, Err, IfOk, codes};
 ghost use Rattle.std.specs.Io.KnownBytes.{Appends};
 ghost use Rattle.outside.specs.Faults.{Rose};
